@@ -1,0 +1,50 @@
+-- A check is a list of rows, a test and its answer, in the order of the table; the first row whose test holds answers, and where none does the
+-- check's own answer stands. "The first of them in its order" is how a check is written, and nothing to prove.
+-- Assumes nothing.
+use mathlib.Core.Path.{_≡_, refl, sym, ap, _∙_}
+use mathlib.Core.Bool.{Bool, true, false, not}
+use mathlib.Core.List.{List, [], _∷_}
+use Prim.Native.Nat.{ℕ}
+use native.Mathlib.Omega.{arith}
+
+-- where the test holds the first, else the second
+abbrev pub pick {ℓ} : {A : Type ℓ} → Bool → A → A → A
+pick true a b = a
+pick false a b = b
+
+abbrev pub Rows : Type 0 → Type 0
+Rows A = List (Bool × A)
+
+module _ {A : Type 0} where
+  abbrev pub first : Rows A → A → A
+  first [] a = a
+  first (r ∷ rs) a = pick (r .0) (r .1) (first rs a)
+
+  -- no row's test holds
+  abbrev pub Clear : Rows A → Type 0
+  Clear [] = Unit {0}
+  Clear (r ∷ rs) = (r .0 ≡ false) × Clear rs
+
+  -- then the check's own answer stands
+  pub through : (rs : Rows A) (a : A) → Clear rs → first rs a ≡ a
+  through [] a h = refl
+  through (r ∷ rs) a h = rw (h .0) (through rs a (h .1))
+
+  -- no row's answer is one that p tells
+  abbrev pub without : (A → Bool) → Rows A → Bool
+  without p [] = true
+  without p (r ∷ rs) = pick (p (r .1)) false (without p rs)
+
+  -- and back: an answer that no row gives is the check's own, and no row's test held
+  pub clear : (p : A → Bool) (y : A) → p y ≡ true → (rs : Rows A) (a : A) → without p rs ≡ true → first rs a ≡ y → Clear rs × (a ≡ y)
+  clear p y t [] a w e = (tt, e)
+  clear p y t ((true, b) ∷ rs) a w e = absurd (told (p b) refl w)
+    where
+      told : (q : Bool) → p b ≡ q → pick q false (without p rs) ≡ true → ⊥
+      told true s v = let z : _≡_ {A = Bool} false true = v in let n : _≡_ {A = ℕ} 0 1 = cc in omega arith
+      told false s v = let z : _≡_ {A = Bool} true false = sym t ∙ ap p (sym e) ∙ s in let n : _≡_ {A = ℕ} 0 1 = cc in omega arith
+  clear p y t ((false, b) ∷ rs) a w e = let c = clear p y t rs a (later (p b) w) e in ((refl, c .0), c .1)
+    where
+      later : (q : Bool) → pick q false (without p rs) ≡ true → without p rs ≡ true
+      later true v = let n : _≡_ {A = ℕ} 0 1 = cc in absurd (omega arith)
+      later false v = v

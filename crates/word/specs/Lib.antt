@@ -1,0 +1,6 @@
+pub mod Part
+pub mod Bytes
+pub mod Put
+pub mod Word
+pub mod WordLaws
+pub mod Round

@@ -1,0 +1,248 @@
+//! The check of a whole file: document 01, "The file block", "The trace block"
+//! and rows 1 to 17 of its table, in the table's order.
+
+use crate::refusal::{refuse_if, Refusal, FILE_PART};
+use crate::samples::needed_bytes;
+use crate::strings::{Area, StringPlace, Terminators};
+use crate::words::{u16_at, u32_at, Order};
+
+/// "A file is at most 67,108,864 bytes"
+pub const MAXIMUM_LENGTH: usize = 67_108_864;
+
+/// The size of the fixed part of either block.
+const FIXED_PART: usize = 32;
+
+/// A checked file. The strings keep places in the file, not copies.
+#[derive(Clone, Debug, PartialEq, Eq)]
+pub struct File {
+    pub order: Order,
+    /// Size of the pointer room in bytes.
+    pub m: u16,
+    /// Number of traces.
+    pub n: u16,
+    pub string_terminator: Vec<u8>,
+    pub line_terminator: Vec<u8>,
+    /// The file's own strings.
+    pub strings: Vec<StringPlace>,
+    pub traces: Vec<Trace>,
+}
+
+/// A checked trace: its block at `p`, `b` bytes long, then `d` bytes of data.
+#[derive(Clone, Debug, PartialEq, Eq)]
+pub struct Trace {
+    /// Where the block starts.
+    pub p: u32,
+    /// Size of the block.
+    pub b: u16,
+    /// Size of the data.
+    pub d: u32,
+    /// Number of samples.
+    pub s: u32,
+    /// Format code, 1 to 5.
+    pub code: u8,
+    pub strings: Vec<StringPlace>,
+}
+
+impl Trace {
+    /// Where the data starts: p+B.
+    pub fn data_start(&self) -> u64 {
+        u64::from(self.p) + u64::from(self.b)
+    }
+
+    /// Where the data ends: p+B+D, exact, never modulo 2^32.
+    pub fn end(&self) -> u64 {
+        self.data_start() + u64::from(self.d)
+    }
+}
+
+/// Rows 1 to 17 on the first `length` bytes of the buffer.
+pub fn check(buffer: &[u8], length: usize) -> Result<File, Refusal> {
+    check_as(buffer, length, Purpose::Reading)
+}
+
+/// The same check for an addition, which also accepts an image with N=0
+/// ("What we write"). "With N=0 the file's strings run to the image's end."
+pub fn check_for_addition(buffer: &[u8], length: usize) -> Result<File, Refusal> {
+    check_as(buffer, length, Purpose::Addition)
+}
+
+#[derive(Clone, Copy, PartialEq, Eq)]
+enum Purpose {
+    Reading,
+    Addition,
+}
+
+/// "1 to 7 first, then the first pointer, then the file's strings, then each
+/// trace 8 to 17."
+fn check_as(buffer: &[u8], length: usize, purpose: Purpose) -> Result<File, Refusal> {
+    let image = image(buffer, length)?;
+    let head = Head::check(image, purpose)?;
+    let room_end = FIXED_PART + usize::from(head.m);
+    let strings_end = match head.n {
+        0 => image.len(),
+        _ => head.pointer(0, room_end as u64)? as usize,
+    };
+    let strings = head.strings(FILE_PART, room_end, strings_end)?;
+    let traces = head.traces(room_end as u64)?;
+    Ok(File {
+        order: head.order,
+        m: head.m,
+        n: head.n,
+        string_terminator: head.terminators.string,
+        line_terminator: head.terminators.line,
+        strings,
+        traces,
+    })
+}
+
+/// Row 1: the image is the first `length` bytes of the lent buffer.
+fn image(buffer: &[u8], length: usize) -> Result<&[u8], Refusal> {
+    refuse_if(length < FIXED_PART, Refusal::file(1, 0))?;
+    refuse_if(length > MAXIMUM_LENGTH, Refusal::file(1, 0))?;
+    buffer.get(..length).ok_or(Refusal::file(1, 0))
+}
+
+/// The fixed part of the file block, checked.
+struct Head<'a> {
+    image: &'a [u8],
+    order: Order,
+    m: u16,
+    n: u16,
+    terminators: Terminators,
+}
+
+impl<'a> Head<'a> {
+    /// Rows 2 to 7.
+    fn check(image: &'a [u8], purpose: Purpose) -> Result<Head<'a>, Refusal> {
+        let order = byte_order(image)?;
+        let revision = u16_at(image, 2, order);
+        let m = u16_at(image, 4, order);
+        let n = u16_at(image, 6, order);
+        refuse_if(revision != 1, Refusal::file(3, 2))?;
+        refuse_if(m < 4 || m % 4 != 0, Refusal::file(4, 4))?;
+        refuse_if(n == 0 && purpose == Purpose::Reading, Refusal::file(5, 6))?;
+        refuse_if(n > m / 4, Refusal::file(5, 6))?;
+        let terminators = terminators(image)?;
+        refuse_if(
+            FIXED_PART + usize::from(m) > image.len(),
+            Refusal::file(7, 4),
+        )?;
+        Ok(Head {
+            image,
+            order,
+            m,
+            n,
+            terminators,
+        })
+    }
+
+    /// Row 8 for trace k, whose block may not start before `previous_end` (for
+    /// the first trace the pointer room's end, 32+M).
+    fn pointer(&self, k: u16, previous_end: u64) -> Result<u32, Refusal> {
+        let slot = FIXED_PART + 4 * usize::from(k);
+        let p = u32_at(self.image, slot, self.order);
+        let refusal = Refusal::new(8, i64::from(k), slot);
+        refuse_if(p % 4 != 0, refusal)?;
+        refuse_if(u64::from(p) < previous_end, refusal)?;
+        refuse_if(self.past_the_end(u64::from(p) + FIXED_PART as u64), refusal)?;
+        Ok(p)
+    }
+
+    /// Each trace's rows 8 to 17, one trace after the other.
+    fn traces(&self, room_end: u64) -> Result<Vec<Trace>, Refusal> {
+        let mut traces = Vec::new();
+        let mut previous_end = room_end;
+        for k in 0..self.n {
+            let trace = self.trace(k, previous_end)?;
+            previous_end = trace.end();
+            traces.push(trace);
+        }
+        Ok(traces)
+    }
+
+    /// Rows 8 to 17 for trace k.
+    fn trace(&self, k: u16, previous_end: u64) -> Result<Trace, Refusal> {
+        let part = i64::from(k);
+        let p = self.pointer(k, previous_end)?;
+        let mut trace = self.trace_block(part, p)?;
+        let start = p as usize + FIXED_PART;
+        trace.strings = self.strings(part, start, trace.data_start() as usize)?;
+        Ok(trace)
+    }
+
+    /// Rows 9 to 13: the fixed part of the trace block at p. Row 8 has shown
+    /// that its 32 bytes lie in the image.
+    fn trace_block(&self, part: i64, p: u32) -> Result<Trace, Refusal> {
+        let at = p as usize;
+        let trace = Trace {
+            p,
+            b: u16_at(self.image, at + 2, self.order),
+            d: u32_at(self.image, at + 4, self.order),
+            s: u32_at(self.image, at + 8, self.order),
+            code: self.image[at + 12],
+            strings: Vec::new(),
+        };
+        let identifier = u16_at(self.image, at, self.order);
+        refuse_if(identifier != 0x4422, Refusal::new(9, part, at))?;
+        let bad_size = trace.b < 32 || trace.b % 4 != 0 || self.past_the_end(trace.data_start());
+        refuse_if(bad_size, Refusal::new(10, part, at + 2))?;
+        let bad_data = trace.d % 4 != 0 || self.past_the_end(trace.end());
+        refuse_if(bad_data, Refusal::new(11, part, at + 4))?;
+        let Some(needed) = needed_bytes(trace.code, u64::from(trace.s)) else {
+            return Err(Refusal::new(12, part, at + 12));
+        };
+        let bad_count = trace.code == 3 && trace.s % 4 != 0 || needed > u64::from(trace.d);
+        refuse_if(bad_count, Refusal::new(13, part, at + 8))?;
+        Ok(trace)
+    }
+
+    /// Rows 14 to 17 for the strings between two places.
+    fn strings(&self, part: i64, start: usize, end: usize) -> Result<Vec<StringPlace>, Refusal> {
+        Area {
+            image: self.image,
+            order: self.order,
+            terminators: &self.terminators,
+            part,
+            range: start..end,
+        }
+        .strings()
+    }
+
+    /// Beyond the image's length; equal passes.
+    fn past_the_end(&self, place: u64) -> bool {
+        place > self.image.len() as u64
+    }
+}
+
+/// Row 2: "55 3A is low byte first, 3A 55 high byte first".
+fn byte_order(image: &[u8]) -> Result<Order, Refusal> {
+    match image {
+        [0x55, 0x3A, ..] => Ok(Order::Low),
+        [0x3A, 0x55, ..] => Ok(Order::High),
+        _ => Err(Refusal::file(2, 0)),
+    }
+}
+
+/// Row 6: the string terminator is judged first (place 8), then the line
+/// terminator, then sharing (place 11).
+fn terminators(image: &[u8]) -> Result<Terminators, Refusal> {
+    let string = terminator(image, 8).ok_or(Refusal::file(6, 8))?;
+    let line = terminator(image, 11).ok_or(Refusal::file(6, 11))?;
+    let sharing = line.iter().any(|c| string.contains(c));
+    refuse_if(sharing, Refusal::file(6, 11))?;
+    Ok(Terminators { string, line })
+}
+
+/// "each terminator's length is 1 or 2 (any other is bad), the used terminator
+/// characters are 0 to 31, neither terminator uses tab (9)". The unused second
+/// byte of a one-byte terminator is ignored.
+fn terminator(image: &[u8], place: usize) -> Option<Vec<u8>> {
+    let length = match image[place] {
+        1 => 1,
+        2 => 2,
+        _ => return None,
+    };
+    let used = image[place + 1..place + 1 + length].to_vec();
+    let allowed = used.iter().all(|&c| c <= 31 && c != b'\t');
+    allowed.then_some(used)
+}

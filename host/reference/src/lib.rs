@@ -1,0 +1,35 @@
+//! An independent SEG-2 reader and writer.
+//!
+//! It is written from the documents alone: document 01 ("What is required and
+//! the exact rules") decides, the 1990 paper (document 001) stands behind it.
+//! It is a yardstick: right and readable first, fast never. Comments name the
+//! section of document 01, or the row of its refusal table, that they carry out.
+//!
+//! Every public function is total. It answers for any buffer, any length beside
+//! it, any part, index, code or text, and never panics. After a refusal all
+//! memory that the caller lent is as it was.
+#![forbid(unsafe_code)]
+
+pub mod check;
+pub mod generate;
+pub mod listing;
+pub mod number;
+pub mod questions;
+pub mod refusal;
+pub mod samples;
+pub mod sheet;
+pub mod strings;
+pub mod words;
+pub mod write;
+
+pub use check::{check, check_for_addition, File, Trace, MAXIMUM_LENGTH};
+pub use listing::{listing, LISTING_MAXIMUM};
+pub use number::{double, location, number, Location, Number};
+pub use questions::{
+    file_block, keyword, keyword_value, note_lines, samples_as_bits, samples_as_integers, string,
+    string_count, trace_block, FileBlock,
+};
+pub use refusal::{Refusal, ALL};
+pub use strings::StringPlace;
+pub use words::Order;
+pub use write::{add_bits, add_integers, file_of, start, Row, TraceGiven};
