@@ -5,9 +5,9 @@
 //! It is a yardstick: right and readable first, fast never. Comments name the
 //! section of document 01, or the row of its refusal table, that they carry out.
 //!
-//! Every public function is total. It answers for any buffer, any length beside
-//! it, any part, index, code or text, and never panics. After a refusal all
-//! memory that the caller lent is as it was.
+//! Every function of the reader and the writer is total. It answers for any
+//! buffer, any length beside it, any part, index, code or text, and never panics.
+//! After a refusal all memory that the caller lent is as it was.
 #![forbid(unsafe_code)]
 
 pub mod check;

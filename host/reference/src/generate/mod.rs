@@ -1,1 +1,29 @@
-//! placeholder
+//! Seeded inputs with known answers.
+//!
+//! Nothing here uses the reader's or the writer's code: files are laid out byte by
+//! byte from a model ([`model`], [`lay`]), which has all the freedoms that
+//! document 01 allows and the writer never uses. A damage ([`damage`], [`ways`])
+//! breaks one rule of such a file in one named way and knows the refusal it must
+//! give. The inputs of rows 18 to 33 are in [`asking`], [`numbers`], [`sheets`] and
+//! [`writing`]. The same seed gives the same cases on every machine.
+
+pub mod asking;
+pub mod damage;
+mod expected;
+pub mod lay;
+pub mod model;
+pub mod numbers;
+pub mod rng;
+pub mod sheets;
+pub mod ways;
+pub mod writing;
+
+pub use asking::{mutated, sample_case, too_long_for_listing, SampleCase, SampleQuestion};
+pub use damage::{damaged, damaged_image, damaged_in, several_damages, Damaged, Scope, Way};
+pub use lay::Laid;
+pub use model::Model;
+pub use numbers::{location_case, number_case, LocationCase, NumberCase};
+pub use rng::Rng;
+pub use sheets::{good_sheet, sheet_case, SheetCase};
+pub use ways::WAYS;
+pub use writing::{addition_case, start_case, AdditionCase, StartCase};

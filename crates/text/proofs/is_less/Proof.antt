@@ -1,0 +1,34 @@
+-- `text::is_less` meets its contract. The invariant: what is left compares as the whole does. Assumes nothing.
+use mathlib.Core.Path.{_≡_, refl, sym, _∙_}
+use Prim.Native.Nat.{_≤_, _-_}
+use lib.ListN.{length, drop}
+use Rattle.text.specs.Order.{less, less-short, less-below, less-above, less-next, less-longer, less-ended}
+use borrow.Author.Needs.{needs}
+use Rattle.text.proofs.is_less.Statement.{statement}
+use Rattle.text.proofs.is_less.Tie as tie
+
+abbrev Inv-loop : tie.InvT-loop
+Inv-loop p k i₀ i = (i ≤ length p) × (less (drop i p) (drop i k) ≡ less p k)
+
+abbrev μ-loop : tie.MeasureT-loop
+μ-loop p k i₀ i = length p - i
+
+pub is-less-spec : {M : Type 1} → statement M
+is-less-spec =
+    tie.close
+    (tie.spec
+    Inv-loop
+    μ-loop
+    (λ c. (search needs, refl))
+    (λ c. less-short _ _ _ (c .before .loop-test .taken) (c .if1 .taken) ∙ c .before .before .loop .inv .1)
+    (λ c. search needs)
+    (λ c. search needs)
+    (λ c. less-below _ _ _ (c .before .before .before .before .loop-test .taken) (c .before .before .before .if1 .left) (c .if2 .taken) ∙ c .before .before .before .before .before .loop .inv .1)
+    (λ c. search needs)
+    (λ c. search needs)
+    (λ c. less-above _ _ _ (c .before .before .before .before .before .before .before .loop-test .taken) (c .before .before .before .before .before .before .if1 .left) (c .if3 .taken) ∙ c .before .before .before .before .before .before .before .before .loop .inv .1)
+    (λ c. search needs)
+    (λ c. search needs)
+    (λ c. (search needs, less-next _ _ _ (c .before .before .before .before .before .before .before .loop-test .taken) (c .before .before .before .before .before .before .if1 .left) (c .before .before .before .if2 .left) (c .if3 .left) ∙ c .before .before .before .before .before .before .before .before .loop .inv .1))
+    (λ c. less-longer _ _ _ (c .before .loop-test .left) (c .if4 .taken) ∙ c .before .before .loop .inv .1)
+    (λ c. less-ended _ _ _ (c .before .loop-test .left) (c .if4 .left) ∙ c .before .before .loop .inv .1))

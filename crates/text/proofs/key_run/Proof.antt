@@ -1,0 +1,31 @@
+-- `text::key_run` meets its contract. The invariant: the run from here and the bytes passed make the run from the start. Assumes nothing.
+use mathlib.Core.Path.{_≡_, refl, sym, _∙_}
+use Prim.Native.Nat.{_≤_, _+_, _-_}
+use lib.ListN.{length, drop}
+use Rattle.text.specs.Chars.{keyChar}
+use Rattle.text.specs.Runs.{run, run-le, run-more, run-end, run-none}
+use borrow.Author.Needs.{needs}
+use native.Mathlib.Omega.{arith}
+use Rattle.text.proofs.key_run.Statement.{statement}
+use Rattle.text.proofs.key_run.Tie as tie
+
+abbrev Inv-loop : tie.InvT-loop
+Inv-loop s i₀ i = (i ≤ length s) × (i + run keyChar (drop i s) ≡ run keyChar s)
+
+abbrev μ-loop : tie.MeasureT-loop
+μ-loop s i₀ i = length s - i
+
+pub key-run-spec : {M : Type 1} → statement M
+key-run-spec =
+    tie.close
+    (tie.spec
+    Inv-loop
+    μ-loop
+    (λ c. (search needs, omega arith))
+    (λ c. search needs)
+    (λ c κs. search needs)
+    (λ c. search needs)
+    (λ c. search needs)
+    (λ c. (search needs, sym (run-more keyChar _ _ (c .before .before .before .loop-test .taken) (sym (c .before .key-char .ensures) ∙ c .if1 .taken)) ∙ c .before .before .before .before .loop .inv .1))
+    (λ c. (run-end keyChar _ _ (c .before .before .before .loop-test .taken) (sym (c .before .key-char .ensures) ∙ c .if1 .left) ∙ c .before .before .before .before .loop .inv .1, search needs))
+    (λ c. (run-none keyChar _ _ (c .loop-test .left) ∙ c .before .loop .inv .1, search needs)))

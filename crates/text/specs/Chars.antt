@@ -1,0 +1,55 @@
+-- Which bytes may stand where (document 01, "Strings").
+-- Assumes nothing.
+use mathlib.Core.Path.{_≡_, refl, sym, ap, _∙_}
+use mathlib.Core.Bool.{Bool, true, false, not, _&&_, _||_}
+use mathlib.Core.List.{List, [], _∷_}
+use Prim.Native.Nat.{ℕ, _≤_, _<_}
+use native.Mathlib.Omega.{arith}
+use lib.Dec.{leb, eqb}
+use borrow.Author.Tests.{leb-true, leb-false, eqb-true, ne-eqb, le-leb, lt-leb}
+
+-- "spaces or tabs"
+abbrev pub blank : ℕ → Bool
+blank b = eqb b 32 || eqb b 9
+
+abbrev pub solid : ℕ → Bool
+solid b = not (blank b)
+
+-- a keyword "uses codes 33 to 126 except 97 to 122"
+abbrev pub keyChar : ℕ → Bool
+keyChar b = (leb 33 b && leb b 96) || (leb 123 b && leb b 126)
+
+-- a value "uses 32 to 126 and tab"
+abbrev pub valueChar : ℕ → Bool
+valueChar b = (leb 32 b && leb b 126) || eqb b 9
+
+-- NOTE
+abbrev pub note : List ℕ
+note = 78 ∷ 79 ∷ 84 ∷ 69 ∷ []
+
+-- a keyword's character is no blank, and a blank may stand in a value
+pub key-solid : (b : ℕ) → keyChar b ≡ true → solid b ≡ true
+key-solid b h = go (leb 33 b) refl h
+  where
+    go : (w : Bool) → leb 33 b ≡ w → ((w && leb b 96) || (leb 123 b && leb b 126)) ≡ true → solid b ≡ true
+    go true e k = let low = leb-true 33 b e in rw (ne-eqb b 32 (omega arith), ne-eqb b 9 (omega arith))
+    go false e k =
+        let low = leb-false 33 b e in
+        let z : leb 123 b ≡ false = lt-leb 123 b (omega arith) in
+        let s : false ≡ true = rw z at k in
+        let y : _≡_ {A = ℕ} 0 1 = cc in
+        absurd (omega arith)
+
+pub blank-value : (b : ℕ) → blank b ≡ true → valueChar b ≡ true
+blank-value b h = go (eqb b 32) refl h
+  where
+    go : (w : Bool) → eqb b 32 ≡ w → (w || eqb b 9) ≡ true → valueChar b ≡ true
+    go true e k = let q : b ≡ 32 = eqb-true b 32 e in rw q
+    go false e k = let q : b ≡ 9 = eqb-true b 9 k in rw q
+
+pub solid-not-blank : (b : ℕ) → solid b ≡ false → blank b ≡ true
+solid-not-blank b h = go (blank b) h
+  where
+    go : (w : Bool) → not w ≡ false → w ≡ true
+    go true k = refl
+    go false k = let z : _≡_ {A = ℕ} 0 1 = cc in absurd (omega arith)

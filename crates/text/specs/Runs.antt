@@ -1,0 +1,144 @@
+-- Bytes at the front of a list that pass a test, and lists that are the same.
+-- Assumes nothing.
+use mathlib.Core.Path.{_≡_, refl, sym, ap, ap₂, _∙_}
+use mathlib.Core.Bool.{Bool, true, false, not, _&&_}
+use mathlib.Core.List.{List, [], _∷_, _++_}
+use Prim.Native.Nat.{ℕ, zero, suc, _+_, _-_, _≤_, _<_}
+use native.Mathlib.Numerals.{add-one}
+use native.Mathlib.Omega.{arith}
+use lib.ListN.{length, getD, take, drop, length-append, drop-of-length-le}
+use lib.Seq.{drop-cons}
+use lib.Dec.{eqb}
+use borrow.Author.Tests.{eqb-true, eq-eqb}
+use Rattle.refusal.specs.Rows.{pick}
+
+-- both of two tests
+pub both : (b w : Bool) → (b && w) ≡ true → (b ≡ true) × (w ≡ true)
+both true w h = (refl, h)
+both false w h = let z : _≡_ {A = ℕ} 0 1 = cc in absurd (omega arith)
+
+-- what is left of a list that is walked by an index, one element at a time
+pub more : (s : List ℕ) (i : ℕ) → i < length s → drop i s ≡ getD s i 0 ∷ drop (i + 1) s
+more s i h = rw (add-one, drop-cons s i 0)
+
+pub none : (s : List ℕ) (i : ℕ) → length s ≤ i → drop i s ≡ []
+none s i h = drop-of-length-le s h
+
+-- every byte passes
+unfoldable pub all : (ℕ → Bool) → List ℕ → Bool
+all p [] = true
+all p (b ∷ bs) = p b && all p bs
+
+-- how many bytes at the front pass
+unfoldable pub run : (ℕ → Bool) → List ℕ → ℕ
+run p [] = 0
+run p (b ∷ bs) = pick (p b) (suc (run p bs)) 0
+
+-- the first byte, if there is one, does not pass
+abbrev pub Stops : (ℕ → Bool) → List ℕ → Type 0
+Stops p [] = Unit {0}
+Stops p (b ∷ bs) = p b ≡ false
+
+-- two lists are the same
+unfoldable pub same : List ℕ → List ℕ → Bool
+same [] [] = true
+same [] (y ∷ ys) = false
+same (x ∷ xs) [] = false
+same (x ∷ xs) (y ∷ ys) = eqb x y && same xs ys
+
+module _ (p : ℕ → Bool) where
+  pub all-none : all p [] ≡ true
+  unfolding all
+  all-none = refl
+
+  pub all-append : (xs ys : List ℕ) → all p xs ≡ true → all p ys ≡ true → all p (xs ++ ys) ≡ true
+  unfolding all
+  all-append [] ys h k = k
+  all-append (x ∷ xs) ys h k =
+      let a = both (p x) (all p xs) h in
+      rw (a .0) (all-append xs ys (a .1) k)
+
+  pub run-le : (s : List ℕ) → run p s ≤ length s
+  unfolding run
+  run-le [] = omega arith
+  run-le (b ∷ bs) = go (p b) (run-le bs)
+    where
+      go : (w : Bool) → run p bs ≤ length bs → pick w (suc (run p bs)) 0 ≤ suc (length bs)
+      go true h = omega arith
+      go false h = omega arith
+
+  pub run-all : (s : List ℕ) → all p (take (run p s) s) ≡ true
+  unfolding run all
+  run-all [] = refl
+  run-all (b ∷ bs) = go (p b) refl (run-all bs)
+    where
+      go : (w : Bool) → p b ≡ w → all p (take (run p bs) bs) ≡ true → all p (take (pick w (suc (run p bs)) 0) (b ∷ bs)) ≡ true
+      go true e h = rw e h
+      go false e h = refl
+
+  pub run-stops : (s : List ℕ) → Stops p (drop (run p s) s)
+  unfolding run
+  run-stops [] = tt
+  run-stops (b ∷ bs) = go (p b) refl (run-stops bs)
+    where
+      go : (w : Bool) → p b ≡ w → Stops p (drop (run p bs) bs) → Stops p (drop (pick w (suc (run p bs)) 0) (b ∷ bs))
+      go true e h = h
+      go false e h = e
+
+  -- a front that passes, and behind it a byte that does not
+  pub run-append : (xs ys : List ℕ) → all p xs ≡ true → Stops p ys → run p (xs ++ ys) ≡ length xs
+  unfolding run all
+  run-append [] [] h s = refl
+  run-append [] (y ∷ ys) h s = rw s
+  run-append (x ∷ xs) ys h s =
+      let a = both (p x) (all p xs) h in
+      rw (a .0) (ap suc (run-append xs ys (a .1) s))
+
+  -- a turn of a loop that counts them, and of one that tests all
+  pub run-more : (s : List ℕ) (i : ℕ) → i < length s → p (getD s i 0) ≡ true → i + run p (drop i s) ≡ i + 1 + run p (drop (i + 1) s)
+  unfolding run
+  run-more s i h e = rw (more s i h, e) (omega arith)
+
+  pub run-end : (s : List ℕ) (i : ℕ) → i < length s → p (getD s i 0) ≡ false → i ≡ i + run p (drop i s)
+  unfolding run
+  run-end s i h e = rw (more s i h, e) (omega arith)
+
+  pub run-none : (s : List ℕ) (i : ℕ) → length s ≤ i → i ≡ i + run p (drop i s)
+  unfolding run
+  run-none s i h = rw (none s i h) (omega arith)
+
+  pub all-more : (s : List ℕ) (i : ℕ) → i < length s → p (getD s i 0) ≡ true → all p (drop (i + 1) s) ≡ all p (drop i s)
+  unfolding all
+  all-more s i h e = rw (more s i h, e)
+
+  pub all-end : (s : List ℕ) (i : ℕ) → i < length s → p (getD s i 0) ≡ false → false ≡ all p (drop i s)
+  unfolding all
+  all-end s i h e = rw (more s i h, e)
+
+  pub all-over : (s : List ℕ) (i : ℕ) → length s ≤ i → true ≡ all p (drop i s)
+  unfolding all
+  all-over s i h = rw (none s i h)
+
+-- a test that is weaker
+pub all-weaker : (p q : ℕ → Bool) → ((b : ℕ) → p b ≡ true → q b ≡ true) → (s : List ℕ) → all p s ≡ true → all q s ≡ true
+unfolding all
+all-weaker p q w [] h = refl
+all-weaker p q w (b ∷ bs) h =
+    let a = both (p b) (all p bs) h in
+    rw (w b (a .0)) (all-weaker p q w bs (a .1))
+
+-- ---- the same list
+
+pub same-eq : (xs ys : List ℕ) → same xs ys ≡ true → xs ≡ ys
+unfolding same
+same-eq [] [] h = refl
+same-eq [] (y ∷ ys) h = let z : _≡_ {A = ℕ} 0 1 = cc in absurd (omega arith)
+same-eq (x ∷ xs) [] h = let z : _≡_ {A = ℕ} 0 1 = cc in absurd (omega arith)
+same-eq (x ∷ xs) (y ∷ ys) h =
+    let k = both (eqb x y) (same xs ys) h in
+    ap₂ (λ (z : ℕ) (zs : List ℕ). z ∷ zs) (eqb-true x y (k .0)) (same-eq xs ys (k .1))
+
+pub same-refl : (xs : List ℕ) → same xs xs ≡ true
+unfolding same
+same-refl [] = refl
+same-refl (x ∷ xs) = rw (eq-eqb x x refl) (same-refl xs)
