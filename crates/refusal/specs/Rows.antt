@@ -3,7 +3,8 @@
 -- Assumes nothing.
 use mathlib.Core.Path.{_≡_, refl, sym, ap, _∙_}
 use mathlib.Core.Bool.{Bool, true, false, not}
-use mathlib.Core.List.{List, [], _∷_}
+use mathlib.Core.List.{List, [], _∷_, _++_}
+use mathlib.Core.Logic.{_⊎_, inl, inr, ⊎-elim}
 use Prim.Native.Nat.{ℕ}
 use native.Mathlib.Omega.{arith}
 
@@ -48,3 +49,14 @@ module _ {A : Type 0} where
       later : (q : Bool) → pick q false (without p rs) ≡ true → without p rs ≡ true
       later true v = let n : _≡_ {A = ℕ} 0 1 = cc in absurd (omega arith)
       later false v = v
+
+  -- an answer is the check's own, where no row's test held, or that of a row whose test holds and before which none does
+  pub first-met : (rs : Rows A) (a y : A) → first rs a ≡ y
+      → (Clear rs × (a ≡ y)) ⊎ ((before after : Rows A) × (rs ≡ before ++ ((true, y) ∷ after)) × Clear before)
+  first-met [] a y e = inl (tt, e)
+  first-met ((true , b) ∷ rs) a y e = inr ([], rs, ap (λ (z : A). (true, z) ∷ rs) e, tt)
+  first-met ((false , b) ∷ rs) a y e =
+      ⊎-elim
+      (λ c. inl ((refl, c .0), c .1))
+      (λ m. inr ((false, b) ∷ m .0, m .1, ap (λ (zs : Rows A). (false, b) ∷ zs) (m .2), (refl, m .3)))
+      (first-met rs a y e)
