@@ -2,7 +2,7 @@
 -- check's own answer stands. "The first of them in its order" is how a check is written, and nothing to prove.
 -- Assumes nothing.
 use mathlib.Core.Path.{_≡_, refl, sym, ap, _∙_}
-use mathlib.Core.Bool.{Bool, true, false, not}
+use mathlib.Core.Bool.{Bool, true, false}
 use mathlib.Core.List.{List, [], _∷_, _++_}
 use mathlib.Core.Logic.{_⊎_, inl, inr, ⊎-elim}
 use Prim.Native.Nat.{ℕ}
@@ -54,8 +54,8 @@ module _ {A : Type 0} where
   pub first-met : (rs : Rows A) (a y : A) → first rs a ≡ y
       → (Clear rs × (a ≡ y)) ⊎ ((before after : Rows A) × (rs ≡ before ++ ((true, y) ∷ after)) × Clear before)
   first-met [] a y e = inl (tt, e)
-  first-met ((true , b) ∷ rs) a y e = inr ([], rs, ap (λ (z : A). (true, z) ∷ rs) e, tt)
-  first-met ((false , b) ∷ rs) a y e =
+  first-met ((true, b) ∷ rs) a y e = inr ([], rs, ap (λ (z : A). (true, z) ∷ rs) e, tt)
+  first-met ((false, b) ∷ rs) a y e =
       ⊎-elim
       (λ c. inl ((refl, c .0), c .1))
       (λ m. inr ((false, b) ∷ m .0, m .1, ap (λ (zs : Rows A). (false, b) ∷ zs) (m .2), (refl, m .3)))

@@ -1,25 +1,20 @@
 -- The frame of a string: the laws of rows 14 and 15, one for each answer, and what a frame says of its bytes.
 -- Assumes nothing.
 use mathlib.Core.Path.{_≡_, refl, sym, ap, _∙_}
-use mathlib.Core.Bool.{Bool, true, false, not}
-use mathlib.Core.List.{List, [], _∷_, _++_, append-assoc}
-use Prim.Native.Nat.{ℕ, zero, suc, _+_, _-_, _^_, _≤_, _<_}
+use mathlib.Core.Bool.{Bool, true, false}
+use mathlib.Core.List.{List, [], _++_, append-assoc}
+use Prim.Native.Nat.{ℕ, _+_, _-_, _≤_, _<_}
 use native.Mathlib.Omega.{arith}
-use lib.ListN.{length, take, drop, length-append, length-drop, take-append-drop}
-use lib.Seq.{length-take-le, drop-at, take-at, drop-drop, take-append-seam, drop-append-seam}
-use lib.Dec.{ltb, eqb}
-use borrow.Author.Tests.{lt-ltb, le-ltb, eq-eqb, ne-eqb, ltb-false, eqb-true, eqb-false, not-false}
-use Rattle.word.specs.Part.{part, part-split, part-rest, part-among, length-part}
-use Rattle.word.specs.Bytes.{Bytes, bytes-take}
-use Rattle.word.specs.Word.{wordAt, valueOf, bytesOf}
-use Rattle.word.specs.WordLaws.{length-bytesOf, word-among, word-small, bytesOf-value}
-use Rattle.refusal.specs.Rows.{Rows, first, pick, Clear, clear, through}
-use Rattle.refusal.specs.declared.Rule.{Rule}
+use lib.ListN.{length, drop, length-append}
+use lib.Seq.{drop-at, drop-drop, drop-append-seam}
+use borrow.Author.Tests.{lt-ltb, le-ltb, eq-eqb, ne-eqb}
+use Rattle.word.specs.Part.{part, part-among}
+use Rattle.word.specs.Word.{wordAt, bytesOf}
+use Rattle.word.specs.WordLaws.{length-bytesOf, word-among}
 use Rattle.refusal.specs.declared.Rule.the-variants.{StringOffset, StringEnd}
-use Rattle.text.specs.declared.Frame.{Frame}
 use Rattle.text.specs.declared.Frame.the-variants.{End, Text, Broken}
-use Rattle.text.specs.Runs.{same, same-eq, same-refl}
-use Rattle.text.specs.Strings.{offset, body, frameRows, frameOf}
+use Rattle.text.specs.Runs.{same, same-refl}
+use Rattle.text.specs.Strings.{offset, body, frameOf}
 
 -- ---- which answer it is, from the tests as the code makes them: o is the offset that was read
 module _ (high : Bool) (t l : List ℕ) where

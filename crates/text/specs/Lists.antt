@@ -1,10 +1,10 @@
 -- The i-th of a list of places, and the first with a keyword: a law for each turn of the loops that look for them, and that what is found lies in
 -- the file.
 -- Assumes nothing.
-use mathlib.Core.Path.{_≡_, refl, sym, ap, _∙_}
+use mathlib.Core.Path.{_≡_, refl, sym}
 use mathlib.Core.Bool.{Bool, true, false}
 use mathlib.Core.List.{List, [], _∷_}
-use Prim.Native.Nat.{ℕ, zero, suc, _+_, _-_, _≤_, _<_}
+use Prim.Native.Nat.{ℕ, zero, suc, _+_, _-_, _≤_}
 use native.Mathlib.Omega.{arith}
 use lib.ListN.{length, drop, length-drop}
 use Rattle.word.specs.Part.{part, length-part}
@@ -12,7 +12,6 @@ use Rattle.refusal.specs.Rows.{pick}
 use Rattle.text.specs.declared.Frame.{Frame}
 use Rattle.text.specs.declared.Frame.the-variants.{End, Text, Broken}
 use Rattle.text.specs.declared.Place.{Place}
-use Rattle.text.specs.declared.Found.{Found}
 use Rattle.text.specs.declared.Found.the-variants.{Nothing, Is}
 use Rattle.text.specs.Runs.{same}
 use Rattle.text.specs.Strings.{frameOf, placeOf, onText, placesFrom, placesOf, keyIn, nthOf, findOf}

@@ -1,14 +1,14 @@
 -- The value of a NOTE: "in NOTE also whole line terminators, matched from the left" (document 01, "Strings"). u is the line terminator.
 -- Assumes nothing.
-use mathlib.Core.Path.{_≡_, refl, sym, ap, ap₂, _∙_}
-use mathlib.Core.Bool.{Bool, true, false, not, _&&_}
+use mathlib.Core.Path.{_≡_, refl, sym, ap, _∙_}
+use mathlib.Core.Bool.{Bool, true, false, _&&_}
 use mathlib.Core.List.{List, [], _∷_, _++_}
 use Prim.Native.Nat.{ℕ, zero, suc, _+_, _-_, _≤_, _<_}
 use native.Mathlib.Omega.{arith}
-use lib.ListN.{length, getD, take, drop, length-append, length-drop, take-append-drop}
+use lib.ListN.{length, getD, take, drop, length-append, take-append-drop}
 use lib.Seq.{take-append-seam, drop-drop}
 use lib.Dec.{leb, eqb}
-use borrow.Author.Tests.{leb-false, le-leb, ne-eqb, eq-eqb}
+use borrow.Author.Tests.{leb-false, le-leb, ne-eqb}
 use Rattle.refusal.specs.Rows.{pick}
 use Rattle.text.specs.Chars.{note, valueChar}
 use Rattle.text.specs.Runs.{same, same-eq, same-refl, all, more, none, both}

@@ -1,7 +1,7 @@
 -- The order of keywords: "Keywords strictly rise in byte order, a prefix first; NOTE comes after all others, once at most" (document 01, "Strings").
 -- Everything that asks for the order asks `rises`, by its laws.
 -- Assumes nothing.
-use mathlib.Core.Path.{_≡_, refl, sym, ap, _∙_}
+use mathlib.Core.Path.{_≡_, refl}
 use mathlib.Core.Bool.{Bool, true, false}
 use mathlib.Core.List.{List, [], _∷_}
 use Prim.Native.Nat.{ℕ, _+_, _≤_, _<_}
@@ -11,7 +11,7 @@ use lib.Dec.{ltb, eqb}
 use borrow.Author.Tests.{ltb-true, ltb-false, lt-ltb, le-ltb}
 use Rattle.refusal.specs.Rows.{pick}
 use Rattle.text.specs.Chars.{note}
-use Rattle.text.specs.Runs.{same, same-eq, same-refl, more, none}
+use Rattle.text.specs.Runs.{same, same-refl, more, none}
 
 -- byte order, a prefix first
 unfoldable pub less : List ℕ → List ℕ → Bool

@@ -4,24 +4,21 @@ use mathlib.Core.Path.{_≡_, refl, sym, ap, ap₂, _∙_}
 use mathlib.Core.Bool.{Bool, true, false, not}
 use mathlib.Core.List.{List, [], _∷_, _++_, append-assoc, append-nil}
 use mathlib.Core.Logic.{_⊎_, inl, inr, ⊎-elim}
-use Prim.Native.Nat.{ℕ, zero, suc, _+_, _-_, _^_, _≤_, _<_}
+use Prim.Native.Nat.{ℕ, zero, suc, _+_, _-_, _≤_, _<_}
 use native.Mathlib.Nat.{le-of-eq, le-refl}
 use native.Mathlib.Omega.{arith}
-use lib.ListN.{length, take, drop, length-append, length-drop, take-append-drop}
-use lib.Seq.{length-take-le, take-append-seam, drop-append-seam, drop-at, take-take}
+use lib.ListN.{length, take, drop, length-append, take-append-drop}
+use lib.Seq.{length-take-le, take-append-seam, drop-append-seam, take-take}
 use lib.Dec.{ltb, eqb}
-use borrow.Author.Tests.{lt-ltb, le-ltb, eq-eqb, ne-eqb, ltb-false, eqb-true, eqb-false, not-false}
-use Rattle.word.specs.Part.{part, length-part, part-rest, part-split, part-part, part-drop, part-among, part-front}
+use borrow.Author.Tests.{ne-eqb, ltb-false, eqb-true, eqb-false, not-false}
+use Rattle.word.specs.Part.{part, length-part, part-rest, part-split, part-part, part-drop, part-among}
 use Rattle.word.specs.Bytes.{Bytes, bytes-take, bytes-drop}
 use Rattle.word.specs.Word.{wordAt, bytesOf}
 use Rattle.word.specs.WordLaws.{length-bytesOf, word-among, word-small, bytesOf-value}
-use Rattle.refusal.specs.Rows.{pick, first, Rows, Clear, clear, through}
+use Rattle.refusal.specs.Rows.{pick, first, Rows, clear, through}
 use Rattle.refusal.specs.declared.Part.{Part}
-use Rattle.refusal.specs.declared.Refusal.{Refusal}
-use Rattle.refusal.specs.declared.Rule.{Rule}
-use Rattle.refusal.specs.declared.Rule.the-variants.{StringOffset, StringEnd}
-use Rattle.refusal.specs.declared.Verdict.{Verdict}
-use Rattle.refusal.specs.declared.Verdict.the-variants.{Accepted, Refused}
+use Rattle.refusal.specs.declared.Rule.the-variants.{StringOffset}
+use Rattle.refusal.specs.declared.Verdict.the-variants.{Accepted}
 use Rattle.text.specs.declared.Frame.{Frame}
 use Rattle.text.specs.declared.Frame.the-variants.{End, Text, Broken}
 use Rattle.text.specs.declared.Judged.{Judged}
@@ -32,13 +29,12 @@ use Rattle.text.specs.declared.Place.{Place}
 use Rattle.text.specs.declared.Found.{Found}
 use Rattle.text.specs.declared.Found.the-variants.{Nothing, Is}
 use Rattle.text.specs.Chars.{blank, solid, keyChar, key-solid, solid-not-blank}
-use Rattle.text.specs.Runs.{run, all, same, same-eq, same-refl, both, Stops, all-weaker, run-le, run-all, run-stops, run-append}
+use Rattle.text.specs.Runs.{run, all, same, same-eq, same-refl, both, Stops, all-weaker, run-all, run-stops, run-append}
 use Rattle.text.specs.Order.{rises, rises-strict, rises-transitive}
-use Rattle.text.specs.Note.{valueOk}
 use Rattle.text.specs.Strings.{offset, body, keyLen, keyOf, afterKey, gapLen, gapOf, valueOf, frameRows, frameOf, textRows, judgedOf, onFrame, onJudged, stepOf, onStep, stringsFrom, stringsOf, placeOf, onText, placesFrom, placesOf, keyIn, valueIn, nthOf, findOf, keyFound, valueFound}
 use Rattle.text.specs.Frames.{frame-end, Framed, framed}
 use Rattle.text.specs.Walks.{InFrame, in-frame, next-fits, judged-clear, keyLen-le, length-body}
-use Rattle.text.specs.Spelled.{Str, Good, Rising, textOf, sizeOf, written, Spells, Spells.empty, Spells.full, nothing, nthStr, valueOfKey, hasKey, strIn, strsIn}
+use Rattle.text.specs.Spelled.{Str, Good, Rising, textOf, sizeOf, written, Spells, Spells.empty, Spells.full, nthStr, valueOfKey, hasKey, strIn, strsIn}
 
 -- ---- the text of a good string is taken apart into it
 

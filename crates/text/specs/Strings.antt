@@ -1,17 +1,15 @@
 -- The strings of an area as the check reads them (document 01, "Strings" and rows 14 to 17). Every definition is on the bytes that are left of
 -- the area; a place is carried along only for refusals and answers. `high` is the byte order, t the string terminator, u the line terminator.
 -- Assumes nothing.
-use mathlib.Core.Bool.{Bool, true, false, not}
+use mathlib.Core.Bool.{Bool, not}
 use mathlib.Core.List.{List, [], _∷_}
 use Prim.Native.Nat.{ℕ, zero, suc, _+_, _-_}
 use lib.ListN.{length, take, drop}
 use lib.Dec.{ltb, eqb}
 use Rattle.word.specs.Part.{part}
 use Rattle.word.specs.Word.{wordAt}
-use Rattle.refusal.specs.declared.Rule.{Rule}
 use Rattle.refusal.specs.declared.Rule.the-variants.{StringOffset, StringEnd, Character, KeywordOrder}
 use Rattle.refusal.specs.declared.Part.{Part}
-use Rattle.refusal.specs.declared.Refusal.{Refusal}
 use Rattle.refusal.specs.declared.Verdict.{Verdict}
 use Rattle.refusal.specs.declared.Verdict.the-variants.{Accepted, Refused}
 use Rattle.refusal.specs.Table.{refusal}

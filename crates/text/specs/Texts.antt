@@ -2,22 +2,21 @@
 -- Assumes nothing.
 use mathlib.Core.Path.{_≡_, refl, sym, ap, _∙_}
 use mathlib.Core.Bool.{Bool, true, false, not, _&&_}
-use mathlib.Core.List.{List, [], _∷_, _++_}
-use Prim.Native.Nat.{ℕ, zero, suc, _+_, _-_, _≤_, _<_}
+use mathlib.Core.List.{List, [], _∷_}
+use Prim.Native.Nat.{ℕ, suc, _-_, _<_}
 use native.Mathlib.Omega.{arith}
-use lib.ListN.{length, take, drop, take-append-drop, length-append}
+use lib.ListN.{length, take, drop, take-append-drop}
 use lib.Seq.{length-take-le}
 use lib.Dec.{ltb, eqb}
 use borrow.Author.Tests.{eq-eqb, ne-eqb, lt-ltb}
 use Rattle.refusal.specs.Rows.{pick, first}
 use Rattle.refusal.specs.declared.Rule.the-variants.{Character, KeywordOrder}
-use Rattle.text.specs.declared.Judged.{Judged}
 use Rattle.text.specs.declared.Judged.the-variants.{Keyword, Wrong}
-use Rattle.text.specs.Chars.{blank, solid, keyChar, key-solid, solid-not-blank}
-use Rattle.text.specs.Runs.{run, all, Stops, both, run-le, run-all, run-append, all-weaker}
+use Rattle.text.specs.Chars.{blank, solid, keyChar, key-solid}
+use Rattle.text.specs.Runs.{run, all, Stops, run-le, run-all, run-append, all-weaker}
 use Rattle.text.specs.Order.{rises}
 use Rattle.text.specs.Note.{valueOk}
-use Rattle.text.specs.Strings.{keyLen, keyOf, afterKey, gapLen, valueOf, textRows, judgedOf}
+use Rattle.text.specs.Strings.{keyLen, keyOf, gapLen, valueOf, judgedOf}
 
 -- the first byte is there and is no separator
 abbrev Solid : List ℕ → Type 0

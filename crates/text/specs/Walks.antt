@@ -1,21 +1,17 @@
 -- The walks over an area, string by string: a law for each turn of the loops that follow them. f is the file, the area its part from a place up to e.
 -- Assumes nothing.
 use mathlib.Core.Path.{_≡_, refl, sym, ap, _∙_}
-use mathlib.Core.Bool.{Bool, true, false, not}
+use mathlib.Core.Bool.{Bool, true, false}
 use mathlib.Core.List.{List, [], _∷_}
 use Prim.Native.Nat.{ℕ, zero, suc, _+_, _-_, _≤_, _<_}
-use native.Mathlib.Nat.{le-of-eq}
 use native.Mathlib.Omega.{arith}
 use lib.ListN.{length, take, drop, length-drop}
-use lib.Seq.{length-take-le}
-use lib.Dec.{ltb, eqb}
 use borrow.Author.Tests.{ltb-false, ne-eqb, not-false}
 use Rattle.word.specs.Part.{part, length-part, part-drop, part-part, part-none}
-use Rattle.refusal.specs.Rows.{pick, first, Clear, clear}
+use Rattle.refusal.specs.Rows.{Clear, clear}
 use Rattle.refusal.specs.Table.{refusal}
 use Rattle.refusal.specs.declared.Part.{Part}
 use Rattle.refusal.specs.declared.Refusal.{Refusal}
-use Rattle.refusal.specs.declared.Rule.{Rule}
 use Rattle.refusal.specs.declared.Rule.the-variants.{StringOffset}
 use Rattle.refusal.specs.declared.Verdict.{Verdict}
 use Rattle.refusal.specs.declared.Verdict.the-variants.{Accepted, Refused}
@@ -26,12 +22,11 @@ use Rattle.text.specs.declared.Judged.the-variants.{Keyword, Wrong}
 use Rattle.text.specs.declared.Step.{Step}
 use Rattle.text.specs.declared.Step.the-variants.{Next, Done, Bad}
 use Rattle.text.specs.declared.Place.{Place}
-use Rattle.text.specs.declared.Entry.{Entry}
 use Rattle.text.specs.declared.Entry.the-variants.{Stop, At}
 use Rattle.text.specs.Chars.{blank, solid}
-use Rattle.text.specs.Runs.{run, run-le, same, same-eq}
+use Rattle.text.specs.Runs.{run-le, same-eq}
 use Rattle.text.specs.Frames.{frame-short}
-use Rattle.text.specs.Strings.{offset, body, keyLen, keyOf, afterKey, gapLen, frameRows, frameOf, textRows, judgedOf, onJudged, onFrame, stepOf, onStep, stringsFrom, stringsOf, placeOf, onText, entryOf, placesFrom, placesOf}
+use Rattle.text.specs.Strings.{offset, body, keyLen, afterKey, gapLen, frameRows, frameOf, textRows, judgedOf, onJudged, onFrame, stepOf, onStep, stringsFrom, stringsOf, placeOf, onText, entryOf, placesFrom}
 
 -- ---- what a frame with a text has shown
 

@@ -1,12 +1,12 @@
 -- A part of a list: what `&f[a..e]` is of the slice f. Its laws hold for elements of any type.
 -- Assumes nothing.
-use mathlib.Core.Path.{_≡_, refl, sym, ap, _∙_}
+use mathlib.Core.Path.{_≡_, _∙_}
 use mathlib.Core.List.{List, [], _∷_, _++_}
 use Prim.Native.Nat.{ℕ, zero, suc, _+_, _-_, _≤_, _<_}
 use native.Mathlib.Numerals.{add-one}
 use native.Mathlib.Omega.{arith}
-use lib.ListN.{length, getD, take, drop, length-drop, drop-of-length-le}
-use lib.Seq.{length-take-le, take-all, take-nil, drop-nil, take-take, take-add, take-at, drop-at, drop-cons, drop-drop, getD-take, getD-drop}
+use lib.ListN.{length, getD, take, drop, length-drop}
+use lib.Seq.{length-take-le, take-all, take-nil, take-take, take-add, take-at, drop-at, drop-cons, drop-drop, getD-take, getD-drop}
 
 module _ {A : Type 0} where
   -- the elements of f from place a up to place e

@@ -4,12 +4,12 @@
 use mathlib.Core.Path.{_≡_, refl, sym, ap, _∙_}
 use mathlib.Core.List.{List, [], _∷_, _++_, append-nil, append-assoc}
 use Prim.Native.Nat.{ℕ, zero, suc, _+_, _-_, _≤_, _<_}
-use native.Mathlib.Nat.{lt-of-not-le, add-zero, le-refl}
+use native.Mathlib.Nat.{lt-of-not-le}
 use native.Mathlib.Decide.{decLe}
 use native.Mathlib.Numerals.{add-one}
 use native.Mathlib.Omega.{arith}
-use lib.ListN.{length, getD, take, drop, set, replicate, length-set, length-drop, length-take, take-append-drop, drop-of-length-le}
-use lib.Seq.{take-set-le, drop-set-lt, take-all, length-take-le, take-add, take-at, drop-cons, set-out, take-nil, drop-nil, drop-drop}
+use lib.ListN.{length, getD, take, drop, set, replicate, length-set, length-drop, take-append-drop, drop-of-length-le}
+use lib.Seq.{take-set-le, drop-set-lt, take-all, length-take-le, take-at, drop-cons, set-out, take-nil, drop-nil, drop-drop}
 use Rattle.word.specs.Part.{part, drop-take}
 
 module _ {A : Type 0} where

@@ -8,7 +8,7 @@ use native.Mathlib.Nat.{mul-assoc, lt-of-lt-of-le, pow-le-pow-right, pow-suc, su
 use native.Mathlib.Omega.{arith}
 use lib.ListN.{length, getD, take, drop, length-drop, length-take, length-reverse}
 use lib.Seq.{length-take-le, take-take, take-add, take-at, drop-at, drop-drop, drop-cons}
-use Rattle.word.specs.Part.{part, drop-take, part-drop}
+use Rattle.word.specs.Part.{part, drop-take}
 use Rattle.word.specs.Bytes.{Bytes, bytes-take, bytes-drop, bytes-reverse}
 use Rattle.word.specs.Put.{put, put-append, part-put, part-put-before, part-put-after}
 use Rattle.word.specs.Word.{lowFirst, valueOf, wordAt, lowBytes, bytesOf, joined}

@@ -1,6 +1,6 @@
 -- `text::all_lines` meets its contract. The invariant: the walk from here answers as the walk from the start. Assumes nothing.
 use mathlib.Core.Path.{_≡_, refl, sym, _∙_}
-use Prim.Native.Nat.{_≤_, _+_, _-_}
+use Prim.Native.Nat.{_≤_, _-_}
 use lib.ListN.{length, drop}
 use borrow.Author.Tests.{not-true, not-false}
 use Rattle.word.specs.Part.{part-rest}

@@ -1,6 +1,6 @@
 -- `text::count` meets its contract. The invariant: the strings passed and those that are left are all. Assumes nothing.
-use mathlib.Core.Path.{_≡_, refl, sym, ap, _∙_}
-use Prim.Native.Nat.{ℕ, _≤_, _<_, _+_, _-_}
+use mathlib.Core.Path.{_≡_, sym, ap, _∙_}
+use Prim.Native.Nat.{ℕ, _≤_, _+_, _-_}
 use native.Mathlib.Nat.{le-of-eq}
 use lib.ListN.{length}
 use Rattle.word.specs.Part.{part, length-part}

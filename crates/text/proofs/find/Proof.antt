@@ -1,10 +1,9 @@
 -- `text::find` meets its contract. The invariant: what is found among those that are left is found among all. Assumes nothing.
-use mathlib.Core.Path.{_≡_, refl, sym, ap, _∙_}
-use Prim.Native.Nat.{ℕ, _≤_, _<_, _+_, _-_}
+use mathlib.Core.Path.{_≡_, refl, sym, _∙_}
+use Prim.Native.Nat.{ℕ, _≤_, _-_}
 use native.Mathlib.Nat.{le-of-eq}
 use lib.ListN.{length}
 use Rattle.word.specs.Part.{part, length-part}
-use borrow.Author.Tests.{not-true}
 use Rattle.text.specs.Strings.{placesFrom, placesOf, findOf}
 use Rattle.text.specs.Walks.{place-next, place-stop, place-bounds, place-over}
 use Rattle.text.specs.Lists.{find-none, find-here, find-later}

@@ -1,5 +1,5 @@
 -- `text::is_less` meets its contract. The invariant: what is left compares as the whole does. Assumes nothing.
-use mathlib.Core.Path.{_≡_, refl, sym, _∙_}
+use mathlib.Core.Path.{_≡_, refl, _∙_}
 use Prim.Native.Nat.{_≤_, _-_}
 use lib.ListN.{length, drop}
 use Rattle.text.specs.Order.{less, less-short, less-below, less-above, less-next, less-longer, less-ended}

@@ -1,6 +1,6 @@
 -- `text::key_len` meets its contract. The invariant: the run from here and the bytes passed make the run from the start. Assumes nothing.
-use mathlib.Core.Path.{_≡_, refl, sym, ap, _∙_}
-use mathlib.Core.Bool.{Bool, not}
+use mathlib.Core.Path.{_≡_, sym, ap, _∙_}
+use mathlib.Core.Bool.{not}
 use Prim.Native.Nat.{_≤_, _+_, _-_}
 use lib.ListN.{length, drop}
 use Rattle.text.specs.Chars.{solid}

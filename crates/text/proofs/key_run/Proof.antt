@@ -1,9 +1,9 @@
 -- `text::key_run` meets its contract. The invariant: the run from here and the bytes passed make the run from the start. Assumes nothing.
-use mathlib.Core.Path.{_≡_, refl, sym, _∙_}
+use mathlib.Core.Path.{_≡_, sym, _∙_}
 use Prim.Native.Nat.{_≤_, _+_, _-_}
 use lib.ListN.{length, drop}
 use Rattle.text.specs.Chars.{keyChar}
-use Rattle.text.specs.Runs.{run, run-le, run-more, run-end, run-none}
+use Rattle.text.specs.Runs.{run, run-more, run-end, run-none}
 use borrow.Author.Needs.{needs}
 use native.Mathlib.Omega.{arith}
 use Rattle.text.proofs.key_run.Statement.{statement}

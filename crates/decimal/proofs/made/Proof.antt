@@ -1,0 +1,31 @@
+-- `decimal::made` meets its contract: at most 18 digits fit 64 bits, and at most 2 stay below a hundred. Assumes nothing.
+use Prim.Native.Nat.{_<_}
+use native.Mathlib.Omega.{arith}
+use borrow.Author.Needs.{needs}
+use Rattle.decimal.specs.Number.{decimalOf, room-none, room-behind, two-digits}
+use Rattle.decimal.proofs.Pattern.{kept}
+use Rattle.decimal.proofs.made.Statement.{statement}
+use Rattle.decimal.proofs.made.Tie as tie
+
+small : (c : tie.After-value3) → c .value3 .result < 100
+small c = rw (c .value3 .ensures) (two-digits _ (omega arith))
+
+pub made-spec : {M : Type 1} → statement M
+unfolding decimalOf
+made-spec =
+    tie.close
+    (tie.spec
+    (λ c κs. room-none _ (omega arith))
+    (λ c κs. rw (c .value .ensures) (room-behind _ _ (omega arith)))
+    (λ c κs. room-none _ (omega arith))
+    (λ c. let v = small c in record { fits = omega arith })
+    (λ c. search needs)
+    (λ c κs. (small c, omega arith))
+    (λ c.
+    rw (
+      kept (c .power .result) (c .power .ok),
+      c .power .ensures,
+      c .before .value3 .ensures,
+      c .before .before .value2 .ensures,
+      c .before .before .before .value .ensures,
+    )))

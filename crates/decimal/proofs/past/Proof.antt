@@ -1,0 +1,15 @@
+-- `decimal::past` meets its contract. Assumes nothing.
+use mathlib.Core.Path.{sym, _∙_}
+use borrow.Author.Needs.{needs}
+use Rattle.decimal.specs.Number.{past-has, past-not}
+use Rattle.decimal.proofs.past.Statement.{statement}
+use Rattle.decimal.proofs.past.Tie as tie
+
+pub past-spec : {M : Type 1} → statement M
+past-spec =
+    tie.close
+    (tie.spec
+    (λ c κs. search needs)
+    (λ c κs. search needs)
+    (λ c. c .behind .ensures ∙ sym (past-has _ _ (sym (c .before .before .has .ensures) ∙ c .before .if1 .taken)))
+    (λ c. sym (past-not _ _ (sym (c .before .has .ensures) ∙ c .if1 .left))))

@@ -1,0 +1,258 @@
+-- Numbers in values, as the number question answers them (document 01, "Numbers in values"): the text is read from the left in the longest runs,
+-- and the answer is the first row that is met. `Grammar` says what a number is without any order of reading, and `Agreed` that the two agree.
+-- Assumes nothing.
+use mathlib.Core.Path.{_≡_, refl, sym, ap, _∙_}
+use mathlib.Core.Bool.{Bool, true, false, not, _&&_}
+use mathlib.Core.List.{List, [], _∷_}
+use Prim.Native.Nat.{ℕ, suc, _+_, _-_, _*_, _^_, _≤_, _<_}
+use native.Mathlib.Nat.{le-trans, le-of-eq, one-mul, mul-le-mul-right, mul-le-mul-left, pow-le-pow-right, mul-assoc, pow-succ', one-le-pow}
+use native.Mathlib.Numerals.{add-one}
+use native.Mathlib.Omega.{arith}
+use lib.IntN.{ℤ, pos, negℤ, _-ℤ_}
+use lib.ListN.{length, getD, take, drop, drop-of-length-le}
+use lib.Pow.{pow-add}
+use lib.Seq.{drop-cons}
+use lib.Dec.{leb, ltb, eqb}
+use borrow.Author.Tests.{leb-true, lt-ltb, le-ltb, eq-eqb, ne-eqb}
+use Rattle.refusal.specs.Rows.{Rows, pick, first}
+use Rattle.refusal.specs.Table.{refusal}
+use Rattle.refusal.specs.declared.Rule.the-variants.{NoNumber, Digits}
+use Rattle.refusal.specs.declared.Part.the-variants.{File}
+use Rattle.decimal.specs.declared.Decimal.{Decimal}
+use Rattle.decimal.specs.declared.NumberAnswer.{NumberAnswer}
+use Rattle.decimal.specs.declared.NumberAnswer.the-variants.{Is, Refused}
+use Rattle.decimal.specs.Run.{digit, run, front, behind}
+use Rattle.decimal.specs.Grammar.{Parts}
+
+-- ---- one byte at the front
+
+-- the byte b stands at the front
+unfoldable pub has : ℕ → List ℕ → Bool
+has b [] = false
+has b (x ∷ xs) = eqb x b
+
+-- what is behind it, or all where it does not stand there
+unfoldable pub past : ℕ → List ℕ → List ℕ
+past b t = pick (has b t) (drop 1 t) t
+
+pub has-first : (b : ℕ) (t : List ℕ) → 0 < length t → eqb (getD t 0 0) b ≡ has b t
+unfolding has
+has-first b [] h = absurd (omega arith)
+has-first b (x ∷ xs) h = refl
+
+pub has-none : (b : ℕ) (t : List ℕ) → length t ≤ 0 → false ≡ has b t
+unfolding has
+has-none b [] h = refl
+has-none b (x ∷ xs) h = absurd (omega arith)
+
+pub past-has : (b : ℕ) (t : List ℕ) → has b t ≡ true → past b t ≡ drop 1 t
+unfolding past
+past-has b t e = rw e
+
+pub past-not : (b : ℕ) (t : List ℕ) → has b t ≡ false → past b t ≡ t
+unfolding past
+past-not b t e = rw e
+
+pub has-same : (b : ℕ) (r : List ℕ) → has b (b ∷ r) ≡ true
+unfolding has
+has-same b r = eq-eqb b b refl
+
+pub past-same : (b : ℕ) (r : List ℕ) → past b (b ∷ r) ≡ r
+past-same b r = past-has b (b ∷ r) (has-same b r)
+
+-- ---- digits as a number
+
+-- what a digit is worth; a byte that is none is worth nothing
+unfoldable pub worth : ℕ → ℕ
+worth b = pick (digit b) (b - 48) 0
+
+-- v with the digits of a text behind it
+unfoldable pub value : ℕ → List ℕ → ℕ
+value v [] = v
+value v (b ∷ bs) = value (v * 10 + worth b) bs
+
+-- ---- the answer
+
+-- "sign, coefficient as written and power of ten; zero has sign plus"
+abbrev pub signed : Bool → ℕ → ℤ
+signed true n = negℤ (pos n)
+signed false n = pos n
+
+unfoldable pub powerOf : Bool → ℕ → ℕ → ℤ
+powerOf down e n = signed down e -ℤ pos n
+
+unfoldable pub decimalOf : Parts → Decimal
+decimalOf p = record {
+  minus = p .minus && ltb 0 (value (value 0 (p .whole)) (p .decimals));
+  coefficient = value (value 0 (p .whole)) (p .decimals);
+  power = powerOf (p .down) (value 0 (p .exponent)) (length (p .decimals));
+}
+
+-- a lone number's refusals have place 0; whoever asks for a number inside a text puts the place in
+abbrev pub noNumber : NumberAnswer
+noNumber = Refused (refusal NoNumber File 0)
+
+abbrev pub tooLong : NumberAnswer
+tooLong = Refused (refusal Digits File 0)
+
+-- "At most 18 digits before E, leading zeros counted, and at most 2 after it"
+abbrev pub limits : Parts → Rows NumberAnswer
+limits p = (ltb 18 (length (p .whole) + length (p .decimals)), tooLong) ∷ (ltb 2 (length (p .exponent)), tooLong) ∷ []
+
+unfoldable pub judged : Parts → NumberAnswer
+judged p = first (limits p) (Is (decimalOf p))
+
+-- behind the digits stands x: nothing, or E, a minus or nothing, digits (at y), and no more
+abbrev pub tailRows : List ℕ → Rows NumberAnswer
+tailRows x =
+    let y = past 45 (past 69 x) in
+    (ltb 0 (length x) && not (has 69 x), noNumber)
+    ∷ (has 69 x && eqb (run digit y) 0, noNumber)
+    ∷ (ltb 0 (length (behind digit y)), noNumber)
+    ∷ []
+
+abbrev pub partsAre : Bool → List ℕ → List ℕ → Bool → List ℕ → Parts
+partsAre m w d down e = record { minus = m; whole = w; decimals = d; down = down; exponent = e }
+
+abbrev pub tailParts : Bool → List ℕ → List ℕ → List ℕ → Parts
+tailParts m w d x = partsAre m w d (has 45 (past 69 x)) (front digit (past 45 (past 69 x)))
+
+unfoldable pub tailOf : Bool → List ℕ → List ℕ → List ℕ → NumberAnswer
+tailOf m w d x = first (tailRows x) (judged (tailParts m w d x))
+
+-- a minus or nothing, one or more digits (at s), and where a point follows (at u), one or more digits behind it (at v)
+abbrev pub shapeRows : List ℕ → Rows NumberAnswer
+shapeRows t =
+    let s = past 45 t in
+    let u = behind digit s in
+    let v = past 46 u in
+    (eqb (run digit s) 0, noNumber) ∷ (has 46 u && eqb (run digit v) 0, noNumber) ∷ tailRows (behind digit v)
+
+unfoldable pub partsOf : List ℕ → Parts
+partsOf t =
+    let s = past 45 t in
+    let v = past 46 (behind digit s) in
+    tailParts (has 45 t) (front digit s) (front digit v) (behind digit v)
+
+unfoldable pub numberOf : List ℕ → NumberAnswer
+numberOf t = first (shapeRows t) (judged (partsOf t))
+
+-- ---- a law for each answer, with what the code found and tested
+
+module _ (m : Bool) (w d : List ℕ) (n : Bool) (e : List ℕ) where
+  pub long-before : 18 < length w + length d → tooLong ≡ judged (partsAre m w d n e)
+  unfolding judged
+  long-before h = rw (lt-ltb 18 (length w + length d) h)
+
+  module _ (few : length w + length d ≤ 18) where
+    pub long-after : 2 < length e → tooLong ≡ judged (partsAre m w d n e)
+    unfolding judged
+    long-after h = rw (le-ltb 18 (length w + length d) few, lt-ltb 2 (length e) h)
+
+    pub within : length e ≤ 2 → Is (decimalOf (partsAre m w d n e)) ≡ judged (partsAre m w d n e)
+    unfolding judged
+    within h = rw (le-ltb 18 (length w + length d) few, le-ltb 2 (length e) h)
+
+module _ (m : Bool) (w d x : List ℕ) {e : Bool} (is-e : e ≡ has 69 x) where
+  pub no-e : ltb 0 (length x) && not e ≡ true → noNumber ≡ tailOf m w d x
+  unfolding tailOf
+  no-e h = rw (← is-e, h)
+
+  module _ {z y : List ℕ} {n : ℕ} (at-z : z ≡ past 69 x) (at-y : y ≡ past 45 z) (is-n : n ≡ run digit y) (ok : ltb 0 (length x) && not e ≡ false) where
+    pub no-exponent : e && eqb n 0 ≡ true → noNumber ≡ tailOf m w d x
+    unfolding tailOf
+    no-exponent h = rw (← is-e, ok, ← at-z, ← at-y, ← is-n, h)
+
+    module _ {r : List ℕ} (at-r : r ≡ drop n y) (some : e && eqb n 0 ≡ false) where
+      pub more-behind : 0 < length r → noNumber ≡ tailOf m w d x
+      unfolding tailOf
+      more-behind h = rw (← is-e, ok, ← at-z, ← at-y, ← is-n, some, ← at-r, lt-ltb 0 (length r) h)
+
+      pub tail-judged : length r ≤ 0 → {down : Bool} {es : List ℕ} → down ≡ has 45 z → es ≡ take n y → judged (partsAre m w d down es) ≡ tailOf m w d x
+      unfolding tailOf
+      tail-judged h is-down at-es = rw (← is-e, ok, ← at-z, ← at-y, ← is-n, some, ← at-r, le-ltb 0 (length r) h, ← is-down, ← at-es)
+
+module _ (t : List ℕ) {s : List ℕ} {n : ℕ} (at-s : s ≡ past 45 t) (is-n : n ≡ run digit s) where
+  pub no-digit : n ≡ 0 → noNumber ≡ numberOf t
+  unfolding numberOf
+  no-digit h = rw (← at-s, ← is-n, eq-eqb n 0 h)
+
+  module _ {u v : List ℕ} {b : Bool} {m : ℕ} (some : n ≡ 0 → ⊥) (at-u : u ≡ drop n s) (is-b : b ≡ has 46 u) (at-v : v ≡ past 46 u)
+      (is-m : m ≡ run digit v) where
+    pub no-decimal : b && eqb m 0 ≡ true → noNumber ≡ numberOf t
+    unfolding numberOf
+    no-decimal h = rw (← at-s, ← is-n, ne-eqb n 0 some, ← at-u, ← is-b, ← at-v, ← is-m, h)
+
+    pub to-tail : b && eqb m 0 ≡ false → {minus : Bool} {w d x : List ℕ} → minus ≡ has 45 t → w ≡ take n s → d ≡ take m v → x ≡ drop m v
+        → tailOf minus w d x ≡ numberOf t
+    unfolding numberOf partsOf tailOf
+    to-tail h is-minus at-w at-d at-x =
+        rw (← is-minus, ← at-s, ← is-n, ne-eqb n 0 some, ← at-u, ← is-b, ← at-v, ← is-m, h, ← at-w, ← at-d, ← at-x)
+
+-- ---- laws of the loop over digits: a turn, the end, and that 18 digits fit 64 bits
+
+pub value-more : (v : ℕ) (s : List ℕ) (i : ℕ) → i < length s → value (v * 10 + worth (getD s i 0)) (drop (i + 1) s) ≡ value v (drop i s)
+unfolding value
+value-more v s i h = rw (add-one i, drop-cons s i 0 h)
+
+pub value-over : (v : ℕ) (s : List ℕ) (i : ℕ) → length s ≤ i → value v (drop i s) ≡ v
+unfolding value
+value-over v s i h = rw (drop-of-length-le s h)
+
+pub and-left : (a b : Bool) → a && b ≡ true → a ≡ true
+and-left true b e = refl
+and-left false b e = e
+
+pub and-right : (a b : Bool) → a && b ≡ true → b ≡ true
+and-right true b e = e
+and-right false b e = absurd (let z : _≡_ {A = ℕ} 0 1 = cc in omega arith)
+
+pub worth-digit : (b : ℕ) → digit b ≡ true → (worth b ≡ b - 48) × (48 ≤ b) × (b ≤ 57)
+unfolding worth
+worth-digit b e = (rw e, leb-true 48 b (and-left (leb 48 b) (leb b 57) e), leb-true b 57 (and-right (leb 48 b) (leb b 57) e))
+
+pub worth-other : (b : ℕ) → digit b ≡ false → worth b ≡ 0
+unfolding worth
+worth-other b e = rw e
+
+pub worth-lt : (b : ℕ) → worth b < 10
+worth-lt b = go (digit b) refl
+  where
+    go : (q : Bool) → digit b ≡ q → worth b < 10
+    go true e = let d = worth-digit b e in omega arith
+    go false e = let d = worth-other b e in omega arith
+
+-- v with n digits more behind it has at most 18
+abbrev pub Room : ℕ → ℕ → Type 0
+Room v n = (v + 1) * 10 ^ n ≤ 1000000000000000000
+
+grown : (v b n : ℕ) → (v * 10 + worth b + 1) * 10 ^ n ≤ (v + 1) * 10 ^ suc n
+grown v b n =
+    let l : v * 10 + worth b + 1 ≤ (v + 1) * 10 = omega (arith, worth-lt b) in
+    le-trans (mul-le-mul-right (10 ^ n) l) (le-of-eq (mul-assoc (v + 1) 10 (10 ^ n) ∙ ap (λ (x : ℕ). (v + 1) * x) (sym (pow-succ' 10 n))))
+
+pub room-more : (v b n i : ℕ) → i < n → Room v (n - i) → Room (v * 10 + worth b) (n - (i + 1))
+room-more v b n i h r = let e : n - i ≡ suc (n - (i + 1)) = omega arith in le-trans (grown v b (n - (i + 1))) (rw e at r)
+
+pub room-lt : (v n : ℕ) → Room v n → v < 1000000000000000000
+room-lt v n r = le-trans (le-trans (omega arith) (mul-le-mul-left (v + 1) (one-le-pow n 10 (omega arith)))) r
+
+pub value-le : (v : ℕ) (s : List ℕ) → value v s + 1 ≤ (v + 1) * 10 ^ length s
+unfolding value
+value-le v [] = omega arith
+value-le v (b ∷ bs) = le-trans (value-le (v * 10 + worth b) bs) (grown v b (length bs))
+
+pub room-none : (n : ℕ) → n ≤ 18 → Room 0 n
+room-none n h = le-trans (le-of-eq (one-mul (10 ^ n))) (pow-le-pow-right {n = 10} (omega arith) h)
+
+pub room-behind : (s : List ℕ) (k : ℕ) → length s + k ≤ 18 → Room (value 0 s) k
+room-behind s k h =
+    le-trans (mul-le-mul-right (10 ^ k) (le-trans (value-le 0 s) (le-of-eq (one-mul (10 ^ length s)))))
+    (le-trans (le-of-eq (sym (pow-add 10 (length s) k))) (pow-le-pow-right {n = 10} (omega arith) {i = length s + k} {j = 18} h))
+
+pub two-digits : (s : List ℕ) → length s ≤ 2 → value 0 s < 100
+two-digits s h =
+    let v = value-le 0 s in
+    let m = one-mul (10 ^ length s) in
+    let t = pow-le-pow-right {n = 10} (omega arith) {i = length s} {j = 2} h in
+    omega arith
