@@ -38,7 +38,7 @@ fn check_says_that_a_file_keeps_the_rules() {
     let path = kept("good", &example());
     let out = run(&["check", &path.to_string_lossy()]);
     assert_eq!(out.status.code(), Some(0));
-    assert!(text(&out.stdout).ends_with(": keeps the rules: low byte first, 1 traces, 3 samples\n"));
+    assert!(text(&out.stdout).ends_with(": keeps the rules\n"));
 }
 
 #[test]

@@ -1,0 +1,7 @@
+pub mod Head
+pub mod HeadLaws
+pub mod Image
+pub mod ImageLaws
+pub mod Keeps
+pub mod Accepted
+pub mod Broken
