@@ -153,7 +153,13 @@ pub extern "C" fn probe_read_integers(code: u8, block: &[u8], high: bool, row: &
 
 // The patterns of a data block, and their classes.
 #[no_mangle]
-pub extern "C" fn probe_read_bits(code: u8, block: &[u8], high: bool, row: &mut [u64], classes: &mut [u8]) -> bool
+pub extern "C" fn probe_read_bits(
+    code: u8,
+    block: &[u8],
+    high: bool,
+    row: &mut [u64],
+    classes: &mut [u8],
+) -> bool
     ensures answer { λ r. ⌜ r ≡ bitsThere code (length (now (row .entry))) (length (now (classes .entry))) (now (block .entry)) ⌝ }
     ensures filled { λ _. ⌜ now (row .exit) ≡ patternsRead code high (now (block .entry)) (now (row .entry)) (now (classes .entry)) ⌝ }
     ensures classed { λ _. ⌜ now (classes .exit) ≡ classesRead code high (now (block .entry)) (now (row .entry)) (now (classes .entry)) ⌝ }

@@ -1,0 +1,17 @@
+-- `sheet::write_more` meets its contract. Assumes nothing.
+use mathlib.Core.Path.{refl, _∙_}
+use Rattle.sheet.specs.Writing.{put-then}
+use borrow.Author.Needs.{needs}
+use Rattle.sheet.proofs.write_more.Statement.{statement}
+use Rattle.sheet.proofs.write_more.Tie as tie
+
+pub write-more-spec : {M : Type 1} → statement M
+write-more-spec =
+    tie.close
+    (tie.spec
+    (λ c. search needs)
+    (λ c κs. search needs)
+    (λ c κs. search needs)
+    (λ c. search needs)
+    (λ c. search needs)
+    (λ c. (search needs, c .before .before .copy2 .ensures ∙ rw (c .before .before .before .before .before .before .copy .ensures) (put-then _ _ _ _ _ refl))))

@@ -1,0 +1,54 @@
+-- `sheet::write_strings` meets its contract. The invariant: what is left to store, stored, makes the whole. Assumes nothing.
+use mathlib.Core.Path.{_≡_, refl, sym, _∙_}
+use Prim.Native.Nat.{_≤_, _-_}
+use lib.ListN.{length}
+use Rattle.word.specs.Part.{part-rest}
+use Rattle.word.specs.Put.{length-put}
+use Rattle.sheet.specs.Writing.{Strung, texts-room, strung-start, line-fits, strung-fits, strung-room, strung-turn, strung-headed, strung-note-room, strung-note, strung-over}
+use borrow.Author.Needs.{needs}
+use native.Mathlib.Omega.{arith}
+use Rattle.sheet.proofs.write_strings.Statement.{statement}
+use Rattle.sheet.proofs.write_strings.Tie as tie
+
+abbrev Inv-loop : tie.InvT-loop
+Inv-loop part₀ high t u sheet at₀ to₀ part at to = (at ≤ length sheet) × (length part ≡ length part₀) × Strung high t u sheet part₀ at to part
+
+abbrev μ-loop : tie.MeasureT-loop
+μ-loop part₀ high t u sheet at₀ to₀ part at to = length sheet - at
+
+pub write-strings-spec : {M : Type 1} → statement M
+write-strings-spec =
+    tie.close
+    (tie.spec
+    Inv-loop
+    μ-loop
+    (λ c. (search needs, refl, strung-start _ _ _ _ _ _ (c .before .before .before .before .pre)))
+    (λ c. search needs)
+    (λ c. search needs)
+    (λ c. search needs)
+    (λ c κs. search needs)
+    (λ c. let b = line-fits _ _ _ _ _ (c .before .before .before .loop .at) _ _ (c .before .before .before .loop .inv .2) (c .before .before .loop-test .taken) _ (rw part-rest at (c .line-len .ensures .0)) in omega (arith, b))
+    (λ c. let b = line-fits _ _ _ _ _ (c .before .before .before .loop .at) _ _ (c .before .before .before .loop .inv .2) (c .before .before .loop-test .taken) _ (rw part-rest at (c .line-len .ensures .0)) in omega (arith, b))
+    (λ c. let b = line-fits _ _ _ _ _ (c .before .before .before .loop .at) _ _ (c .before .before .before .loop .inv .2) (c .before .before .loop-test .taken) _ (rw part-rest at (c .line-len .ensures .0)) in omega (arith, b))
+    (λ c. let b = line-fits _ _ _ _ _ (c .before .before .before .loop .at) _ _ (c .before .before .before .loop .inv .2) (c .before .before .loop-test .taken) _ (rw part-rest at (c .line-len .ensures .0)) in omega (arith, b))
+    (λ c κs. search needs)
+    (λ c. let b = strung-fits _ _ _ _ _ (c .before .before .before .before .before .loop .at) _ _ (c .before .before .before .before .before .loop .inv .2) (c .before .before .before .before .loop-test .taken) _ (rw part-rest at (c .before .before .line-len .ensures .0)) _ (c .key-run .ensures .0) in omega (arith, b .0, b .1, b .2, b .3))
+    (λ c. let b = strung-fits _ _ _ _ _ (c .before .before .before .before .before .loop .at) _ _ (c .before .before .before .before .before .loop .inv .2) (c .before .before .before .before .loop-test .taken) _ (rw part-rest at (c .before .before .line-len .ensures .0)) _ (c .key-run .ensures .0) in omega (arith, b .0, b .1, b .2, b .3))
+    (λ c. let b = strung-fits _ _ _ _ _ (c .before .before .before .before .before .loop .at) _ _ (c .before .before .before .before .before .loop .inv .2) (c .before .before .before .before .loop-test .taken) _ (rw part-rest at (c .before .before .line-len .ensures .0)) _ (c .key-run .ensures .0) in omega (arith, b .0, b .1, b .2, b .3))
+    (λ c. let b = strung-fits _ _ _ _ _ (c .before .before .before .before .before .loop .at) _ _ (c .before .before .before .before .before .loop .inv .2) (c .before .before .before .before .loop-test .taken) _ (rw part-rest at (c .before .before .line-len .ensures .0)) _ (c .key-run .ensures .0) in omega (arith, b .0, b .1, b .2, b .3))
+    (λ c κs. search needs)
+    (λ c. search needs)
+    (λ c. search needs)
+    (λ c. search needs)
+    (λ c κs. let r = (texts-room (c .before .before .before .before .before .before .before .before .before .before .before .before .before .before .before .args .high) _ _ _ _ (c .before .before .before .before .before .before .before .before .before .before .before .before .before .before .before .pre)) in let q = strung-note-room _ _ _ _ _ (c .before .before .before .before .before .before .before .before .before .before .loop .at) _ _ (c .before .before .before .before .before .before .before .before .before .before .loop .inv .2) (c .before .before .before .before .before .before .before .before .before .loop-test .taken) _ (rw part-rest at (c .before .before .before .before .before .before .before .line-len .ensures .0)) _ (c .before .before .before .before .before .key-run .ensures .0) (sym (c .before .before .before .is-note .ensures) ∙ c .before .before .if1 .taken) in rw part-rest (strung-headed _ _ _ _ _ (c .before .before .before .before .before .before .before .before .before .before .loop .at) _ _ (c .before .before .before .before .before .before .before .before .before .before .loop .inv .2) (c .before .before .before .before .before .before .before .before .before .loop-test .taken) _ (rw part-rest at (c .before .before .before .before .before .before .before .line-len .ensures .0)) _ (c .before .before .before .before .before .key-run .ensures .0) (sym (c .before .before .before .is-note .ensures) ∙ c .before .before .if1 .taken), omega (arith, r .0, r .1), omega (arith, r .0, r .1, c .before .before .before .before .before .before .before .before .before .before .loop .inv .1)))
+    (λ c. search needs)
+    (λ c. strung-note _ _ _ _ _ (c .before .before .before .before .before .before .before .before .before .before .before .before .before .loop .at) _ _ (c .before .before .before .before .before .before .before .before .before .before .before .before .before .loop .inv .2) (c .before .before .before .before .before .before .before .before .before .before .before .before .loop-test .taken) _ (rw part-rest at (c .before .before .before .before .before .before .before .before .before .before .line-len .ensures .0)) _ (c .before .before .before .before .before .before .before .before .key-run .ensures .0) (sym (c .before .before .before .before .before .before .is-note .ensures) ∙ c .before .before .before .before .before .if1 .taken) _ _ (rw part-rest at (c .before .before .write-note .ensures .0)) (rw part-rest at (c .before .before .write-note .ensures .1)))
+    (λ c. let b = strung-fits _ _ _ _ _ (c .before .before .before .before .before .before .before .before .before .loop .at) _ _ (c .before .before .before .before .before .before .before .before .before .loop .inv .2) (c .before .before .before .before .before .before .before .before .loop-test .taken) _ (rw part-rest at (c .before .before .before .before .before .before .line-len .ensures .0)) _ (c .before .before .before .before .key-run .ensures .0) in omega (arith, b .0, b .1, b .2, b .3))
+    (λ c. let b = strung-fits _ _ _ _ _ (c .before .before .before .before .before .before .before .before .before .loop .at) _ _ (c .before .before .before .before .before .before .before .before .before .loop .inv .2) (c .before .before .before .before .before .before .before .before .loop-test .taken) _ (rw part-rest at (c .before .before .before .before .before .before .line-len .ensures .0)) _ (c .before .before .before .before .key-run .ensures .0) in omega (arith, b .0, b .1, b .2, b .3))
+    (λ c. let b = strung-fits _ _ _ _ _ (c .before .before .before .before .before .before .before .before .before .loop .at) _ _ (c .before .before .before .before .before .before .before .before .before .loop .inv .2) (c .before .before .before .before .before .before .before .before .loop-test .taken) _ (rw part-rest at (c .before .before .before .before .before .before .line-len .ensures .0)) _ (c .before .before .before .before .key-run .ensures .0) in omega (arith, b .0, b .1, b .2, b .3))
+    (λ c κs. let b = strung-fits _ _ _ _ _ (c .before .before .before .before .before .before .before .before .before .before .loop .at) _ _ (c .before .before .before .before .before .before .before .before .before .before .loop .inv .2) (c .before .before .before .before .before .before .before .before .before .loop-test .taken) _ (rw part-rest at (c .before .before .before .before .before .before .before .line-len .ensures .0)) _ (c .before .before .before .before .before .key-run .ensures .0) in let r = (texts-room (c .before .before .before .before .before .before .before .before .before .before .before .before .before .before .before .args .high) _ _ _ _ (c .before .before .before .before .before .before .before .before .before .before .before .before .before .before .before .pre)) in let q = strung-room _ _ _ _ _ (c .before .before .before .before .before .before .before .before .before .before .loop .at) _ _ (c .before .before .before .before .before .before .before .before .before .before .loop .inv .2) (c .before .before .before .before .before .before .before .before .before .loop-test .taken) _ (rw part-rest at (c .before .before .before .before .before .before .before .line-len .ensures .0)) _ (c .before .before .before .before .before .key-run .ensures .0) (sym (c .before .before .before .is-note .ensures) ∙ c .before .before .if1 .left) in (b .2, omega (arith, r .0, r .1), omega (arith, r .0, r .1, c .before .before .before .before .before .before .before .before .before .before .loop .inv .1)))
+    (λ c. let b = strung-fits _ _ _ _ _ (c .before .before .before .before .before .before .before .before .before .before .before .before .before .loop .at) _ _ (c .before .before .before .before .before .before .before .before .before .before .before .before .before .loop .inv .2) (c .before .before .before .before .before .before .before .before .before .before .before .before .loop-test .taken) _ (rw part-rest at (c .before .before .before .before .before .before .before .before .before .before .line-len .ensures .0)) _ (c .before .before .before .before .before .before .before .before .key-run .ensures .0) in omega (arith, b .0, b .1, b .2, b .3))
+    (λ c. let b = strung-fits _ _ _ _ _ (c .before .before .before .before .before .before .before .before .before .before .before .before .before .loop .at) _ _ (c .before .before .before .before .before .before .before .before .before .before .before .before .before .loop .inv .2) (c .before .before .before .before .before .before .before .before .before .before .before .before .loop-test .taken) _ (rw part-rest at (c .before .before .before .before .before .before .before .before .before .before .line-len .ensures .0)) _ (c .before .before .before .before .before .before .before .before .key-run .ensures .0) in omega (arith, b .0, b .1, b .2, b .3))
+    (λ c. let b = strung-fits _ _ _ _ _ (c .before .before .before .before .before .before .before .before .before .before .before .before .before .loop .at) _ _ (c .before .before .before .before .before .before .before .before .before .before .before .before .before .loop .inv .2) (c .before .before .before .before .before .before .before .before .before .before .before .before .loop-test .taken) _ (rw part-rest at (c .before .before .before .before .before .before .before .before .before .before .line-len .ensures .0)) _ (c .before .before .before .before .before .before .before .before .key-run .ensures .0) in (omega (arith, b .1), rw (c .before .before .write-line .ensures .1, length-put) (c .before .before .before .before .before .before .before .before .before .before .before .before .before .loop .inv .1), strung-turn _ _ _ _ _ (c .before .before .before .before .before .before .before .before .before .before .before .before .before .loop .at) _ _ (c .before .before .before .before .before .before .before .before .before .before .before .before .before .loop .inv .2) (c .before .before .before .before .before .before .before .before .before .before .before .before .loop-test .taken) _ (rw part-rest at (c .before .before .before .before .before .before .before .before .before .before .line-len .ensures .0)) _ (c .before .before .before .before .before .before .before .before .key-run .ensures .0) (sym (c .before .before .before .before .before .before .is-note .ensures) ∙ c .before .before .before .before .before .if1 .left) _ _ (c .before .before .write-line .ensures .0) (c .before .before .write-line .ensures .1)))
+    (λ c. search needs)
+    (λ c. strung-over _ _ _ _ _ _ _ _ (c .before .loop .inv .2) (c .loop-test .left)))

@@ -1,0 +1,9 @@
+pub mod Lines
+pub mod Area
+pub mod Judging
+pub mod Sizes
+pub mod Counting
+pub mod Paper
+pub mod Spelling
+pub mod Writing
+pub mod Meaning

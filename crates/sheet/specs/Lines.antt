@@ -1,0 +1,119 @@
+-- The lines of a sheet, and the check of them: "Strings come as a sheet, lines of text ended by 0Ah: keyword (as above), tab, value" (document 01,
+-- "What we write"; rows 25 and 26). A sheet is the list of its bytes; every definition is on the bytes that are left of it, and a place is carried
+-- along only for refusals.
+-- Assumes nothing.
+use mathlib.Core.Bool.{Bool, not, _&&_, _||_}
+use mathlib.Core.List.{List, [], _∷_}
+use Prim.Native.Nat.{ℕ, zero, suc, _+_}
+use lib.ListN.{length, getD, take, drop}
+use lib.Dec.{leb, eqb}
+use Rattle.refusal.specs.declared.Rule.the-variants.{SheetLine, SheetOrder}
+use Rattle.refusal.specs.declared.Part.the-variants.{File}
+use Rattle.refusal.specs.declared.Verdict.{Verdict}
+use Rattle.refusal.specs.declared.Verdict.the-variants.{Accepted, Refused}
+use Rattle.refusal.specs.Table.{refusal}
+use Rattle.refusal.specs.Rows.{Rows, first, pick}
+use Rattle.text.specs.declared.Judged.{Judged}
+use Rattle.text.specs.declared.Judged.the-variants.{Keyword, Wrong}
+use Rattle.text.specs.Chars.{keyChar, note}
+use Rattle.text.specs.Runs.{run, all, same}
+use Rattle.text.specs.Order.{rises}
+use Rattle.sheet.specs.declared.Step.{Step}
+use Rattle.sheet.specs.declared.Step.the-variants.{Next, Bad}
+
+-- ---- one line
+
+-- "ended by 0Ah"
+abbrev pub inLine : ℕ → Bool
+inLine b = not (eqb b 10)
+
+-- "Value codes are 32 to 126": no tab and no other control character
+abbrev pub plain : ℕ → Bool
+plain b = leb 32 b && leb b 126
+
+-- the length of the first line, the line, and what follows its 0Ah
+unfoldable pub lineLen : List ℕ → ℕ
+lineLen s = run inLine s
+
+abbrev pub lineOf : List ℕ → List ℕ
+lineOf s = take (lineLen s) s
+
+abbrev pub afterLine : List ℕ → List ℕ
+afterLine s = drop (lineLen s + 1) s
+
+-- the keyword of a line, and behind the one byte that follows it the value
+unfoldable pub keyLen : List ℕ → ℕ
+keyLen l = run keyChar l
+
+abbrev pub keyOf : List ℕ → List ℕ
+keyOf l = take (keyLen l) l
+
+abbrev pub valueOf : List ℕ → List ℕ
+valueOf l = drop (keyLen l + 1) l
+
+-- a value "starting with a space"; an empty one does not
+abbrev pub spaced : List ℕ → Bool
+spaced v = eqb (getD v 0 0) 32
+
+-- "Consecutive NOTE lines at the end are lines of one NOTE": the line with the keyword k continues the one before it, whose keyword is prev
+unfoldable pub continues : List ℕ → List ℕ → Bool
+continues prev k = same prev note && same k note
+
+-- ---- the rows of the table for one line: the first whose test holds answers
+
+-- 25 "bad sheet line": an empty line or no keyword; no tab behind the keyword (a line that ends there has none); a value's character; a value that
+-- starts with a space, where the line does not continue a NOTE. 26 "sheet order": `text`'s own order, but for a NOTE that is continued. prev is the
+-- keyword before, the empty one before the first line
+abbrev pub lineRows : List ℕ → List ℕ → Rows Judged
+lineRows prev l =
+    (eqb (keyLen l) 0, Wrong SheetLine)
+    ∷ (not (eqb (getD l (keyLen l) 0) 9), Wrong SheetLine)
+    ∷ (not (all plain (valueOf l)), Wrong SheetLine)
+    ∷ (spaced (valueOf l) && not (continues prev (keyOf l)), Wrong SheetLine)
+    ∷ (not (continues prev (keyOf l) || rises prev (keyOf l)), Wrong SheetOrder)
+    ∷ []
+
+unfoldable pub judgedOf : List ℕ → List ℕ → Judged
+judgedOf prev l = first (lineRows prev l) (Keyword (keyLen l))
+
+-- the place of both is the line's start, the part the file
+abbrev pub onJudged : Judged → ℕ → ℕ → Step
+onJudged (Keyword w) at n = Next n w
+onJudged (Wrong r) at n = Bad (refusal r File at)
+
+-- "An empty or unfinished line is bad"
+unfoldable pub stepOf : List ℕ → List ℕ → ℕ → Step
+stepOf prev s at = pick (leb (length s) (lineLen s)) (Bad (refusal SheetLine File at)) (onJudged (judgedOf prev (lineOf s)) at (lineLen s))
+
+-- ---- a whole sheet, "line by line, 25 first"
+
+abbrev pub onStep : Step → (ℕ → ℕ → Verdict) → Verdict
+onStep (Next n w) next = next n w
+onStep (Bad r) next = Refused r
+
+-- the lines from s on. The number bounds how many there are; the length of s is enough, for each has a byte
+unfoldable pub checkFrom : ℕ → List ℕ → List ℕ → ℕ → Verdict
+checkFrom zero prev s at = Accepted
+checkFrom (suc m) prev s at =
+    pick (eqb (length s) 0) Accepted (onStep (stepOf prev s at) (λ n w. checkFrom m (take w s) (drop (n + 1) s) (at + n + 1)))
+
+unfoldable pub linesVerdict : List ℕ → Verdict
+linesVerdict s = checkFrom (length s) [] s 0
+
+-- ---- the lines themselves
+
+pub record Line : Type 0 where
+  pub key : List ℕ
+  pub value : List ℕ
+
+-- a line, taken apart
+abbrev pub asLine : List ℕ → Line
+asLine l = record { key = keyOf l; value = valueOf l }
+
+unfoldable pub linesFrom : ℕ → List ℕ → List Line
+linesFrom zero s = []
+linesFrom (suc m) s = pick (eqb (length s) 0) [] (asLine (lineOf s) ∷ linesFrom m (afterLine s))
+
+-- "a sheet without lines is an empty list"
+unfoldable pub linesOf : List ℕ → List Line
+linesOf s = linesFrom (length s) s

@@ -1,0 +1,246 @@
+-- The written area spells exactly the strings that the sheet means, in `text`'s sense, for every order and terminators that a file can have; its
+-- size; and every list of good lines whose area is not too large is let through.
+-- Assumes nothing.
+use mathlib.Core.Path.{_≡_, refl}
+use mathlib.Core.Bool.{Bool, true, false, not, _&&_, _||_}
+use mathlib.Core.List.{List, [], _∷_, _++_, append-nil}
+use Prim.Native.Nat.{ℕ, _%_, _≤_, _<_}
+use native.Mathlib.Omega.{arith}
+use lib.ListN.{length, getD}
+use lib.Dec.{leb, ltb, eqb}
+use borrow.Author.Tests.{leb-true, ne-eqb, lt-leb, le-ltb, ltb-false}
+use Rattle.word.specs.Round.{round4}
+use Rattle.refusal.specs.Rows.{pick}
+use Rattle.refusal.specs.Table.{refusal}
+use Rattle.refusal.specs.declared.Rule.the-variants.{AreaSize}
+use Rattle.refusal.specs.declared.Part.{Part}
+use Rattle.refusal.specs.declared.Part.the-variants.{File}
+use Rattle.refusal.specs.declared.Verdict.{Verdict}
+use Rattle.refusal.specs.declared.Verdict.the-variants.{Accepted, Refused}
+use Rattle.text.specs.Chars.{blank, valueChar, note, blank-value}
+use Rattle.text.specs.Runs.{all, same, same-eq, both, Stops, all-weaker}
+use Rattle.text.specs.Order.{rises}
+use Rattle.text.specs.Note.{withEnds, valueOk, Lines, Lines.done, Lines.char, Lines.line, lines-accept}
+use Rattle.text.specs.Strings as Strings
+use Rattle.text.specs.Paper.{spelled-accepted}
+use Rattle.text.specs.Spelled.{Good, Rising, sizeOf, Spells, Spells.full}
+use Rattle.sheet.specs.declared.Measured as measured
+use Rattle.sheet.specs.declared.Measured.the-variants.{Size}
+use Rattle.sheet.specs.Lines.{Line, plain, spaced, continues, linesVerdict, linesOf}
+use Rattle.sheet.specs.Area.{strOf, values, noteOf, joined, stringsOf, textSize, padding, areaOf, areaSize, sized, onVerdict, measuredOf}
+use Rattle.sheet.specs.Sizes.{length-area, textSize-low}
+use Rattle.sheet.specs.Paper.{sheetOf, GoodLine, GoodLines, good-accepted, lines-read, accepted-lines}
+
+-- ---- terminators (document 01, "The file block", house rule)
+
+-- "the used terminator characters are 0 to 31, neither terminator uses tab (9)"
+abbrev pub control : ℕ → Bool
+control b = leb b 31 && not (eqb b 9)
+
+abbrev pub among : ℕ → List ℕ → Bool
+among b [] = false
+among b (c ∷ l) = eqb c b || among b l
+
+-- "each terminator's length is 1 or 2 .. and the two share no character"
+pub record Terminators (t u : List ℕ) : Type 0 where
+  pub t-low : 1 ≤ length t
+  pub t-high : length t ≤ 2
+  pub u-low : 1 ≤ length u
+  pub u-high : length u ≤ 2
+  pub t-chars : all control t ≡ true
+  pub u-chars : all control u ≡ true
+  pub apart : (b : ℕ) → among b t ≡ true → among b u ≡ false
+
+-- of all that only this is needed here: a line terminator starts with a byte that no value has
+abbrev pub LineEnd : List ℕ → Type 0
+LineEnd u = (0 < length u) × (valueChar (getD u 0 0) ≡ false)
+
+control-no-value : (b : ℕ) → control b ≡ true → valueChar b ≡ false
+control-no-value b h =
+    let k = both (leb b 31) (not (eqb b 9)) h in
+    let l = leb-true b 31 (k .0) in
+    let n : eqb b 9 ≡ false = not-back (eqb b 9) (k .1) in
+    rw (lt-leb 32 b (omega arith), n)
+  where
+    not-back : (w : Bool) → not w ≡ true → w ≡ false
+    not-back true e = let z : _≡_ {A = ℕ} 0 1 = cc in absurd (omega arith)
+    not-back false e = refl
+
+pub terminators-end : (t u : List ℕ) → Terminators t u → LineEnd u
+unfolding all
+terminators-end t [] e = absurd (omega (arith, e .u-low))
+terminators-end t (x ∷ u) e = (omega arith, control-no-value x (both (control x) (all control u) (e .u-chars) .0))
+
+-- ---- characters
+
+pub plain-value : (b : ℕ) → plain b ≡ true → valueChar b ≡ true
+plain-value b h = rw h
+
+plain-blank : (b : ℕ) → plain b ≡ true → eqb b 32 ≡ false → blank b ≡ false
+plain-blank b h s =
+    let l = leb-true 32 b (both (leb 32 b) (leb b 126) h .0) in
+    rw (s, ne-eqb b 9 (omega arith))
+
+no-value-blank : (b : ℕ) → valueChar b ≡ false → blank b ≡ false
+no-value-blank b h = go (blank b) refl
+  where
+    go : (w : Bool) → blank b ≡ w → w ≡ false
+    go true e = let k = blank-value b e in let z : _≡_ {A = ℕ} 0 1 = cc in absurd (omega arith)
+    go false e = refl
+
+-- ---- the lines of a NOTE
+
+abbrev pub Plains : List (List ℕ) → Type 0
+Plains [] = Unit {0}
+Plains (v ∷ vs) = (all plain v ≡ true) × Plains vs
+
+-- behind a NOTE line there are only NOTE lines
+pub note-next : {prev : List ℕ} {l : Line} → same prev note ≡ true → GoodLine prev l → l .key ≡ note
+unfolding continues rises
+note-next {prev} {l} n g = same-eq (l .key) note (go (same (l .key) note) refl)
+  where
+    go : (w : Bool) → same (l .key) note ≡ w → w ≡ true
+    go true e = refl
+    go false e =
+        let c : continues prev (l .key) ≡ false = rw (n, e) in
+        let f : rises prev (l .key) ≡ true = g .follows c in
+        let r : false ≡ true = rw n at f in
+        let z : _≡_ {A = ℕ} 0 1 = cc in
+        absurd (omega arith)
+
+pub plains-of : (prev : List ℕ) (ls : List Line) → GoodLines prev ls → Plains (values ls)
+plains-of prev [] g = tt
+plains-of prev (l ∷ ls) g = (g .0 .plains, plains-of (l .key) ls (g .1))
+
+plain-before : (u v r : List ℕ) → all plain v ≡ true → Lines u r → Lines u (v ++ r)
+unfolding all
+plain-before u [] r h k = k
+plain-before u (b ∷ v) r h k = let a = both (plain b) (all plain v) h in char (plain-value b (a .0)) (plain-before u v r (a .1) k)
+
+ends-lines : (u v : List ℕ) (vs : List (List ℕ)) → all plain v ≡ true → Plains vs → Lines u (withEnds u (v ∷ vs))
+unfolding withEnds
+ends-lines u v [] h k = rw append-nil at (plain-before u v [] h done)
+ends-lines u v (w ∷ vs) h k = plain-before u v (u ++ withEnds u (w ∷ vs)) h (line (ends-lines u w vs (k .0) (k .1)))
+
+ends-open : (u v : List ℕ) (vs : List (List ℕ)) → LineEnd u → all plain v ≡ true → spaced v ≡ false → Stops blank (withEnds u (v ∷ vs))
+unfolding withEnds all
+ends-open [] v vs e h s = absurd (omega (arith, e .0))
+ends-open (x ∷ u) [] [] e h s = tt
+ends-open (x ∷ u) [] (w ∷ vs) e h s = no-value-blank x (e .1)
+ends-open (x ∷ u) (b ∷ v) [] e h s = plain-blank b (both (plain b) (all plain v) h .0) s
+ends-open (x ∷ u) (b ∷ v) (w ∷ vs) e h s = plain-blank b (both (plain b) (all plain v) h .0) s
+
+value-open : (v : List ℕ) → all plain v ≡ true → spaced v ≡ false → Stops blank v
+unfolding all
+value-open [] h s = tt
+value-open (b ∷ v) h s = plain-blank b (both (plain b) (all plain v) h .0) s
+
+-- ---- good lines mean strings that may be written
+
+-- a space parts a keyword from its value, so that it is no empty separator
+one-space : (v : List ℕ) → _≡_ {A = List ℕ} (32 ∷ []) [] → v ≡ []
+one-space v e = let z : _≡_ {A = ℕ} 0 1 = cc in absurd (omega arith)
+
+str-good : (t u prev : List ℕ) (l : Line) → GoodLine prev l → same (l .key) note ≡ false → spaced (l .value) ≡ false → sizeOf t (strOf l) < 65536 → Good t u (strOf l)
+unfolding valueOk all
+str-good t u prev l g n s small =
+    record {
+      some = g .some;
+      keys = g .keys;
+      blanks = refl;
+      starts = value-open (l .value) (g .plains) s;
+      apart = one-space (l .value);
+      values = rw n (all-weaker plain valueChar plain-value (l .value) (g .plains));
+      small = small;
+    }
+
+note-values : (u v : List ℕ) (vs : List (List ℕ)) → LineEnd u → all plain v ≡ true → Plains vs → valueOk u note (withEnds u (v ∷ vs)) ≡ true
+unfolding valueOk same
+note-values [] v vs e h k = absurd (omega (arith, e .0))
+note-values (x ∷ u) v vs e h k = lines-accept x u (withEnds (x ∷ u) (v ∷ vs)) (e .1) (ends-lines (x ∷ u) v vs h k)
+
+note-good : (t u prev : List ℕ) (l : Line) (ls : List Line) → LineEnd u → GoodLines prev (l ∷ ls) → spaced (l .value) ≡ false
+    → sizeOf t (noteOf u (l ∷ ls)) < 65536 → Good t u (noteOf u (l ∷ ls))
+unfolding all
+note-good t u prev l ls e g s small =
+    record {
+      some = omega arith;
+      keys = refl;
+      blanks = refl;
+      starts = ends-open u (l .value) (values ls) e (g .0 .plains) s;
+      apart = one-space (withEnds u (values (l ∷ ls)));
+      values = note-values u (l .value) (values ls) e (g .0 .plains) (plains-of (l .key) ls (g .1));
+      small = small;
+    }
+
+lines-rise : (t u prev : List ℕ) (ls : List Line) → LineEnd u → same prev note ≡ false → GoodLines prev ls → textSize t (joined u ls) < 65536
+    → Rising t u prev (joined u ls)
+unfolding joined textSize continues
+lines-rise t u prev [] e n g h = tt
+lines-rise t u prev (l ∷ ls) e n g h = go (same (l .key) note) refl h (lines-rise t u (l .key) ls e)
+  where
+    c : continues prev (l .key) ≡ false
+    c = rw n
+
+    go : (w : Bool) → same (l .key) note ≡ w → textSize t (pick w (noteOf u (l ∷ ls) ∷ []) (strOf l ∷ joined u ls)) < 65536
+        → (same (l .key) note ≡ false → GoodLines (l .key) ls → textSize t (joined u ls) < 65536 → Rising t u (l .key) (joined u ls))
+        → Rising t u prev (pick w (noteOf u (l ∷ ls) ∷ []) (strOf l ∷ joined u ls))
+    go true q k i =
+        let s = same-eq (l .key) note q in
+        (note-good t u prev l ls e g (g .0 .opens c) (omega arith), rw s at (g .0 .follows c), tt)
+    go false q k i =
+        let low = textSize-low t (joined u ls) in
+        (str-good t u prev l (g .0) q (g .0 .opens c) (omega arith), g .0 .follows c, i q (g .1) (omega arith))
+
+-- ---- what an answer of a size has shown
+
+pub measured-size : (t u s : List ℕ) (n : ℕ) → measuredOf t u s ≡ Size n → (linesVerdict s ≡ Accepted) × (areaSize t u s ≡ n) × (n ≤ 65500)
+unfolding measuredOf
+measured-size t u s n e = go (linesVerdict s) refl e
+  where
+    sizes : (w : Bool) → ltb 65500 (areaSize t u s) ≡ w → pick w (measured.the-variants.Refused (refusal AreaSize File 0)) (Size (areaSize t u s)) ≡ Size n
+        → (areaSize t u s ≡ n) × (n ≤ 65500)
+    sizes true q k = let z : _≡_ {A = ℕ} 0 1 = cc in absurd (omega arith)
+    sizes false q k =
+        let a : areaSize t u s ≡ n = cc in
+        let l = ltb-false 65500 (areaSize t u s) q in
+        (a, omega arith)
+
+    go : (v : Verdict) → linesVerdict s ≡ v → onVerdict v (sized (areaSize t u s)) ≡ Size n → (linesVerdict s ≡ Accepted) × (areaSize t u s ≡ n) × (n ≤ 65500)
+    go Accepted q k = let b = sizes (ltb 65500 (areaSize t u s)) refl k in (q, b .0, b .1)
+    go (Refused r) q k = let z : _≡_ {A = ℕ} 0 1 = cc in absurd (omega arith)
+
+-- ---- the theorems
+
+-- an area is a multiple of 4, at least 4 and at most 65,500 bytes long
+pub area-bounds : (high : Bool) (t u s : List ℕ) (n : ℕ) → measuredOf t u s ≡ Size n
+    → (length (areaOf high t u s) ≡ n) × (n % 4 ≡ 0) × (4 ≤ n) × (n ≤ 65500)
+unfolding areaSize
+area-bounds high t u s n e =
+    let b = measured-size t u s n e in
+    let a : round4 (textSize t (stringsOf u s)) ≡ n = b .1 in
+    let l = length-area high t u s in
+    let low = textSize-low t (stringsOf u s) in
+    (omega arith, omega arith, omega arith, b .2)
+
+pub area-spells : (high : Bool) (t u s : List ℕ) (n : ℕ) → LineEnd u → measuredOf t u s ≡ Size n → Spells high t u (stringsOf u s) (areaOf high t u s)
+unfolding areaOf areaSize stringsOf same
+area-spells high t u s n e m =
+    let b = measured-size t u s n m in
+    let a : round4 (textSize t (joined u (linesOf s))) ≡ n = b .1 in
+    let k : n ≤ 65500 = b .2 in
+    let g = accepted-lines s (b .0) .1 in
+    full (padding (textSize t (joined u (linesOf s)))) (lines-rise t u [] (linesOf s) e refl g (omega arith))
+
+-- so in a file with these terminators `text`'s check accepts the area, wherever it stands
+pub area-accepted : (high : Bool) (t u s : List ℕ) (n : ℕ) (p : Part) (at : ℕ) → Terminators t u → measuredOf t u s ≡ Size n
+    → Strings.stringsOf high t u p (areaOf high t u s) at ≡ Accepted
+area-accepted high t u s n p at e m = spelled-accepted p at (area-spells high t u s n (terminators-end t u e) m)
+
+-- every list of good lines whose area is not too large is let through, and means the strings of those lines
+pub good-measured : (t u : List ℕ) (ls : List Line) → GoodLines [] ls → round4 (textSize t (joined u ls)) ≤ 65500
+    → (measuredOf t u (sheetOf ls) ≡ Size (round4 (textSize t (joined u ls)))) × (stringsOf u (sheetOf ls) ≡ joined u ls)
+unfolding measuredOf areaSize stringsOf
+good-measured t u ls g h =
+    let l : linesOf (sheetOf ls) ≡ ls = lines-read [] ls g in
+    (rw (good-accepted ls g, l, le-ltb 65500 (round4 (textSize t (joined u ls))) h), rw l)
