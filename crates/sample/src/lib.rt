@@ -2,8 +2,8 @@
 ghost use mathlib.Core.Path.{_≡_};
 ghost use mathlib.Core.List.{map};
 ghost use Prim.Native.Nat.{_+_, _*_, _%_, _≤_, _<_};
-ghost use lib.IntN.{pos, natAbs};
-ghost use lib.ListN.{length, getD};
+ghost use lib.IntN.{natAbs};
+ghost use lib.ListN.{length};
 ghost use Rattle.word.specs.Put.{put};
 ghost use Rattle.word.specs.Word.{wordAt, bytesOf};
 ghost use Rattle.sample.specs.Needed.{needed, room};
@@ -13,7 +13,7 @@ ghost use Rattle.sample.specs.Sample.{twos, exponentIn, scaled, groupSam
 ghost use Rattle.sample.specs.Unfit.{firstFrom, outside, unfitIntegers, unfitPatterns};
 ghost use Rattle.sample.specs.WriteLaws.{Told, Coded};
 ghost use Rattle.sample.specs.Write.{residue, wordsOf, groupOf, integersData, bitsData};
-ghost use Rattle.sample.specs.Sample.{classBy, classOf, bitsThere, patternsRead, classesRead};
+ghost use Rattle.sample.specs.Sample.{classOf, bitsThere, patternsRead, classesRead};
 
 // ---- the sample that a code cannot hold
 
@@ -97,14 +97,37 @@ pub fn room(code: u8, count: u32) -> usize
     word::round_up(needed(code, count))
 }
 
-// ---- a word of two bytes
+// ---- words in either order
 
-// The two bytes of a word the other way round, where the high one comes first. A word is read and written low byte first, as the machine does in one
-// step, and then turned, so that a loop over words has no branch on the order.
+// The bytes of a word the other way round, where the high one comes first. A word is read and written low byte first, as the machine does in one
+// step, and then turned, which is one step as well. So a loop over words has no branch on the order.
 fn turned(high: bool, n: u16) -> u16
-    ensures { λ r. ⌜ r ≡ turned high n ⌝ }
+    ensures { λ r. ⌜ r ≡ turned 2 high n ⌝ }
 {
     if high { n % 256 * 256 + n / 256 } else { n }
+}
+
+// Of four bytes: the halves change places, each turned.
+fn turned4(high: bool, n: u32) -> u32
+    ensures { λ r. ⌜ r ≡ turned 4 high n ⌝ }
+{
+    if high {
+        turned(true, (n % 65536) as u16) as u32 * 65536 + turned(true, (n / 65536) as u16) as u32
+    } else {
+        n
+    }
+}
+
+// Of eight bytes.
+fn turned8(high: bool, n: u64) -> u64
+    ensures { λ r. ⌜ r ≡ turned 8 high n ⌝ }
+{
+    if high {
+        turned4(true, (n % 4294967296) as u32) as u64 * 4294967296
+            + turned4(true, (n / 4294967296) as u32) as u64
+    } else {
+        n
+    }
 }
 
 // The whole number of two bytes at a place.
@@ -115,12 +138,44 @@ fn word_at(block: &[u8], high: bool, at: usize) -> usize
     turned(high, word::word2(block, false, at) as u16) as usize
 }
 
+// Of four bytes.
+fn word4_at(block: &[u8], high: bool, at: usize) -> usize
+    requires { ⌜ at + 4 ≤ length (now block) ⌝ }
+    ensures { λ r. ⌜ (r ≡ wordAt 4 high (now (block .entry)) at) × (r < 4294967296) ⌝ }
+{
+    turned4(high, word::word4(block, false, at) as u32) as usize
+}
+
+// Of eight bytes.
+fn word8_at(block: &[u8], high: bool, at: usize) -> u64
+    requires { ⌜ at + 8 ≤ length (now block) ⌝ }
+    ensures { λ r. ⌜ r ≡ wordAt 8 high (now (block .entry)) at ⌝ }
+{
+    turned8(high, word::word8(block, false, at))
+}
+
 // The two bytes of a number, stored at a place.
 fn put_word(part: &mut [u8], high: bool, at: usize, n: u16)
     requires { ⌜ at + 2 ≤ length (now part) ⌝ }
     ensures { λ _. ⌜ now (part .exit) ≡ put (now (part .entry)) at (bytesOf 2 high n) ⌝ }
 {
     word::put2(part, false, at, turned(high, n));
+}
+
+// The four bytes.
+fn put_word4(part: &mut [u8], high: bool, at: usize, n: u32)
+    requires { ⌜ at + 4 ≤ length (now part) ⌝ }
+    ensures { λ _. ⌜ now (part .exit) ≡ put (now (part .entry)) at (bytesOf 4 high n) ⌝ }
+{
+    word::put4(part, false, at, turned4(high, n));
+}
+
+// The eight bytes.
+fn put_word8(part: &mut [u8], high: bool, at: usize, n: u64)
+    requires { ⌜ at + 8 ≤ length (now part) ⌝ }
+    ensures { λ _. ⌜ now (part .exit) ≡ put (now (part .entry)) at (bytesOf 8 high n) ⌝ }
+{
+    word::put8(part, false, at, turned8(high, n));
 }
 
 // ---- codes 1 and 2
@@ -175,7 +230,7 @@ pub fn read2(block: &[u8], high: bool, row: &mut [i32]) -> bool
     }
     let mut i = 0;
     while i < row.len() {
-        row[i] = twos32(word::word4(block, high, 4 * i));
+        row[i] = twos32(word4_at(block, high, 4 * i));
         i += 1;
     }
     true
@@ -231,7 +286,21 @@ fn read_group(block: &[u8], high: bool, g: usize, row: &mut [i32])
     row[i3] = group_sample(block, high, at, exponents, 3);
 }
 
-// The same of code 3. A row that is no number of whole groups is refused as well.
+// All groups of a row.
+fn read_groups(block: &[u8], high: bool, row: &mut [i32])
+    requires { ⌜ (length (now row) % 4 ≡ 0) × (needed 3 (length (now row)) ≤ length (now block)) ⌝ }
+    ensures { λ _. ⌜ now (row .exit) ≡ run (sampleOf 3 high (now (block .entry))) 0 (length (now (row .entry))) ⌝ }
+{
+    let count = row.len() / 4;
+    let mut g = 0;
+    while g < count {
+        read_group(block, high, g, row);
+        g += 1;
+    }
+}
+
+// The same of code 3. A row that is no number of whole groups is refused as well. The order is settled outside of the loop, whose body is too long for
+// the compiler to do so.
 pub fn read3(block: &[u8], high: bool, row: &mut [i32]) -> bool
     ensures answer { λ r. ⌜ r ≡ integersThere 3 (length (now (row .entry))) (now (block .entry)) ⌝ }
     ensures filled { λ _. ⌜ now (row .exit) ≡ integersRead 3 high (now (block .entry)) (now (row .entry)) ⌝ }
@@ -239,15 +308,14 @@ pub fn read3(block: &[u8], high: bool, row: &mut [i32]) -> bool
     if row.len() % 4 != 0 {
         return false;
     }
-    let count = row.len() / 4;
-    if block.len() / 10 < count {
+    if block.len() / 10 < row.len() / 4 {
         return false;
     }
-    let mut g = 0;
-    while g < count {
-        read_group(block, high, g, row);
-        g += 1;
+    if high {
+        read_groups(block, true, row);
+        return true;
     }
+    read_groups(block, false, row);
     true
 }
 
@@ -267,27 +335,22 @@ pub fn read_integers(code: u8, block: &[u8], high: bool, row: &mut [i32]) -> boo
 // ---- codes 4 and 5
 
 // The class that the exponent bits and the fraction bits tell (the paper's table of special cases): 0 zero, 1 underflow, 2 number, 3 infinity,
-// 4 not a number. It is how many of four bounds the pattern has passed, which asks for no branch. `ones` is the exponent of all ones.
-fn class(ones: u64, exponent: u64, fraction: u64) -> u8
-    requires { ⌜ 0 < ones ⌝ }
-    ensures { λ r. ⌜ r ≡ classBy ones exponent fraction ⌝ }
-{
-    let leading = exponent != 0;
-    let digits = fraction != 0;
-    let last = exponent == ones;
-    (leading | digits) as u8 + leading as u8 + last as u8 + (last & digits) as u8
-}
-
+// 4 not a number. It is how many of four bounds the bits behind the sign have passed as one number, which asks for no branch.
 fn class4(pattern: u64) -> u8
     ensures { λ r. ⌜ r ≡ classOf 4 pattern ⌝ }
 {
-    class(255, pattern >> 23 & 255, pattern & 8388607)
+    let m = (pattern % 2147483648) as u32;
+    (0 < m) as u8 + (8388607 < m) as u8 + (2139095039 < m) as u8 + (2139095040 < m) as u8
 }
 
 fn class5(pattern: u64) -> u8
     ensures { λ r. ⌜ r ≡ classOf 5 pattern ⌝ }
 {
-    class(2047, pattern >> 52 & 2047, pattern & 4503599627370495)
+    let m = pattern % 9223372036854775808;
+    (0 < m) as u8
+        + (4503599627370495 < m) as u8
+        + (9218868437227405311 < m) as u8
+        + (9218868437227405312 < m) as u8
 }
 
 // The patterns of code 4, and their classes.
@@ -297,7 +360,7 @@ fn patterns4(block: &[u8], high: bool, row: &mut [u64])
 {
     let mut i = 0;
     while i < row.len() {
-        row[i] = word::word4(block, high, 4 * i) as u64;
+        row[i] = word4_at(block, high, 4 * i) as u64;
         i += 1;
     }
 }
@@ -320,7 +383,7 @@ fn patterns5(block: &[u8], high: bool, row: &mut [u64])
 {
     let mut i = 0;
     while i < row.len() {
-        row[i] = word::word8(block, high, 8 * i);
+        row[i] = word8_at(block, high, 8 * i);
         i += 1;
     }
 }
@@ -419,7 +482,7 @@ pub fn write2(row: &[i32], high: bool, part: &mut [u8])
 {
     let mut i = 0;
     while i < row.len() {
-        word::put4(part, high, 4 * i, bits(row[i]));
+        put_word4(part, high, 4 * i, bits(row[i]));
         i += 1;
     }
     let end = 4 * row.len();
@@ -433,7 +496,7 @@ pub fn write4(row: &[u64], high: bool, part: &mut [u8])
 {
     let mut i = 0;
     while i < row.len() {
-        word::put4(part, high, 4 * i, (row[i] % 4294967296) as u32);
+        put_word4(part, high, 4 * i, (row[i] % 4294967296) as u32);
         i += 1;
     }
     let end = 4 * row.len();
@@ -447,7 +510,7 @@ pub fn write5(row: &[u64], high: bool, part: &mut [u8])
 {
     let mut i = 0;
     while i < row.len() {
-        word::put8(part, high, 8 * i, row[i]);
+        put_word8(part, high, 8 * i, row[i]);
         i += 1;
     }
     let end = 8 * row.len();

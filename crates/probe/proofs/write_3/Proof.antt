@@ -1,5 +1,5 @@
 -- `probe::write_3` meets its contract. What the encoder asks has been tested. Assumes nothing.
-use mathlib.Core.Path.{refl, sym, _∙_}
+use mathlib.Core.Path.{sym, _∙_}
 use borrow.Author.Tests.{not-true, not-false, leb-true, eq-eqb, ne-eqb}
 use Rattle.probe.specs.Written.{fits-all, integers-not-asked, integers-unfit, integers-no-room, integers-done}
 use borrow.Author.Needs.{needs}

@@ -1,9 +1,10 @@
--- `sample::class4` meets its contract. A shift divides, and a mask is a remainder. Assumes nothing.
-use mathlib.Core.Path.{_∙_}
-use Prim.Native.Nat.{_/_, _^_}
-use lib.Bits.{and-mask}
+-- `sample::class4` meets its contract. The class is how many of four bounds the bits behind the sign have passed. Assumes nothing.
+use Prim.Native.Nat.{_+_, _/_, _%_}
+use native.Mathlib.Omega.{arith}
+use lib.Dec.{ltb}
 use borrow.Author.Needs.{needs}
 use Rattle.sample.specs.Sample.{classOf}
+use Rattle.sample.proofs.Machine.{one-at-most, class-passed}
 use Rattle.sample.proofs.class4.Statement.{statement}
 use Rattle.sample.proofs.class4.Tie as tie
 
@@ -12,5 +13,14 @@ unfolding classOf
 class4-spec =
     tie.close
     (tie.spec
-    (λ c κs. search needs)
-    (λ c. let n = c .before .args .pattern in c .class .ensures ∙ rw (and-mask (n / 2 ^ 23) 8, and-mask n 23)))
+    (λ c. search needs)
+    (λ c. search needs)
+    (λ c. search needs)
+    (λ c. let m = c .args .pattern % 2147483648 in omega (arith, one-at-most (ltb 0 m), one-at-most (ltb 8388607 m), one-at-most (ltb 2139095039 m), one-at-most (ltb 2139095040 m)))
+    (λ c. search needs)
+    (λ c. let m = c .args .pattern % 2147483648 in omega (arith, one-at-most (ltb 0 m), one-at-most (ltb 8388607 m), one-at-most (ltb 2139095039 m), one-at-most (ltb 2139095040 m)))
+    (λ c. search needs)
+    (λ c. let m = c .args .pattern % 2147483648 in omega (arith, one-at-most (ltb 0 m), one-at-most (ltb 8388607 m), one-at-most (ltb 2139095039 m), one-at-most (ltb 2139095040 m)))
+    (λ c.
+    let n = c .args .pattern in
+    class-passed 255 8388608 (n / 8388608 % (255 + 1)) (n % 8388608) (n % 2147483648) (omega arith) (omega arith) (omega arith) (omega arith)))

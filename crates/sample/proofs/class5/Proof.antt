@@ -1,9 +1,10 @@
--- `sample::class5` meets its contract. A shift divides, and a mask is a remainder. Assumes nothing.
-use mathlib.Core.Path.{_∙_}
-use Prim.Native.Nat.{_/_, _^_}
-use lib.Bits.{and-mask}
+-- `sample::class5` meets its contract. The class is how many of four bounds the bits behind the sign have passed. Assumes nothing.
+use Prim.Native.Nat.{_+_, _/_, _%_}
+use native.Mathlib.Omega.{arith}
+use lib.Dec.{ltb}
 use borrow.Author.Needs.{needs}
 use Rattle.sample.specs.Sample.{classOf}
+use Rattle.sample.proofs.Machine.{one-at-most, class-passed}
 use Rattle.sample.proofs.class5.Statement.{statement}
 use Rattle.sample.proofs.class5.Tie as tie
 
@@ -12,5 +13,13 @@ unfolding classOf
 class5-spec =
     tie.close
     (tie.spec
-    (λ c κs. search needs)
-    (λ c. let n = c .before .args .pattern in c .class .ensures ∙ rw (and-mask (n / 2 ^ 52) 11, and-mask n 52)))
+    (λ c. search needs)
+    (λ c. search needs)
+    (λ c. let m = c .args .pattern % 9223372036854775808 in omega (arith, one-at-most (ltb 0 m), one-at-most (ltb 4503599627370495 m), one-at-most (ltb 9218868437227405311 m), one-at-most (ltb 9218868437227405312 m)))
+    (λ c. search needs)
+    (λ c. let m = c .args .pattern % 9223372036854775808 in omega (arith, one-at-most (ltb 0 m), one-at-most (ltb 4503599627370495 m), one-at-most (ltb 9218868437227405311 m), one-at-most (ltb 9218868437227405312 m)))
+    (λ c. search needs)
+    (λ c. let m = c .args .pattern % 9223372036854775808 in omega (arith, one-at-most (ltb 0 m), one-at-most (ltb 4503599627370495 m), one-at-most (ltb 9218868437227405311 m), one-at-most (ltb 9218868437227405312 m)))
+    (λ c.
+    let n = c .args .pattern in
+    class-passed 2047 4503599627370496 (n / 4503599627370496 % (2047 + 1)) (n % 4503599627370496) (n % 9223372036854775808) (omega arith) (omega arith) (omega arith) (omega arith)))

@@ -29,6 +29,6 @@ patterns5-spec =
     (λ c. search needs)
     (λ c. search needs)
     (λ c. search needs)
-    (λ c. fill-one (c .before .before .loop .inv) (omega arith) (c .word8 .ensures .0))
+    (λ c. fill-one (c .before .before .loop .inv) (omega arith) (c .word8-at .ensures))
     (λ c. c .before .loop .inv .long)
     (λ c. fill-end (c .before .loop .inv) (omega arith)))

@@ -1,6 +1,5 @@
 -- `sample::put_word` meets its contract. A word that is turned and then written low byte first has the bytes of the order. Assumes nothing.
 use mathlib.Core.Path.{_∙_}
-use native.Mathlib.Omega.{arith}
 use borrow.Author.Needs.{needs}
 use Rattle.sample.specs.Turned.{turned-bytes}
 use Rattle.sample.proofs.put_word.Statement.{statement}
@@ -13,4 +12,4 @@ put-word-spec =
     (λ c κs. search needs)
     (λ c κs. search needs)
     (λ c. search needs)
-    (λ c. c .before .before .put2 .ensures ∙ rw (c .before .before .before .turned .ensures, turned-bytes (c .before .before .before .before .before .before .args .high) (c .before .before .before .before .before .before .args .n) (omega arith))))
+    (λ c. c .before .before .put2 .ensures ∙ rw (c .before .before .before .turned .ensures, turned-bytes)))

@@ -1,36 +1,22 @@
--- `sample::read3` meets its contract. The invariant is that of a row of which 4 * g places are filled. Assumes nothing.
-use mathlib.Core.Path.{_≡_}
-use Prim.Native.Nat.{_+_, _-_, _*_, _/_}
+-- `sample::read3` meets its contract. Each order is read by itself. Assumes nothing.
 use native.Mathlib.Omega.{arith}
-use lib.ListN.{length}
 use borrow.Author.Needs.{needs}
 use borrow.Author.Tests.{eq-eqb}
 use Rattle.sample.specs.Needed.{needed}
-use Rattle.sample.specs.Run.{Filling, fill-start, fill-some, fill-end}
-use Rattle.sample.specs.Sample.{sampleOf}
 use Rattle.sample.specs.SampleLaws.{too-short, no-groups, there, nothing-read, all-read}
 use Rattle.sample.proofs.read3.Statement.{statement}
 use Rattle.sample.proofs.read3.Tie as tie
-
-abbrev Inv-loop : tie.InvT-loop
-Inv-loop block high row₀ count g₀ row g = Filling (sampleOf 3 high block) row₀ (4 * g) row
-
-abbrev μ-loop : tie.MeasureT-loop
-μ-loop block high row₀ count g₀ row g = length row₀ / 4 - g
 
 pub read3-spec : {M : Type 1} → statement M
 unfolding needed
 read3-spec =
     tie.close
     (tie.spec
-    Inv-loop
-    μ-loop
     (λ c. nothing-read 3 _ _ _ (no-groups _ _ (c .if1 .taken)))
     (λ c. nothing-read 3 _ _ _ (too-short 3 _ _ (omega arith)))
-    (λ c. fill-start _ _)
-    (λ c κs. search needs)
+    (λ c κs. (omega arith, omega arith))
     (λ c. search needs)
+    (λ c. rw (c .before .before .before .if3 .taken) (all-read 3 _ _ _ _ (there 3 _ _ (eq-eqb _ _ (c .before .before .before .before .before .if1 .left)) (omega arith)) (c .before .read-groups .ensures)))
+    (λ c κs. (omega arith, omega arith))
     (λ c. search needs)
-    (λ c. let e : 4 * (c .before .before .before .before .loop .g + 1) ≡ 4 * c .before .before .before .before .loop .g + 4 = omega arith in rw (e, c .before .read-group .ensures) (fill-some 4 (c .before .before .before .before .loop .inv) (omega arith)))
-    (λ c. c .before .loop .inv .long)
-    (λ c. all-read 3 _ _ _ _ (there 3 _ _ (eq-eqb _ _ (c .before .before .before .if1 .left)) (omega arith)) (fill-end (c .before .loop .inv) (omega arith))))
+    (λ c. rw (c .before .before .before .if3 .left) (all-read 3 _ _ _ _ (there 3 _ _ (eq-eqb _ _ (c .before .before .before .before .before .if1 .left)) (omega arith)) (c .before .read-groups2 .ensures))))

@@ -1,6 +1,5 @@
 -- `sample::word_at` meets its contract. A word that is read low byte first and then turned is the word of the order. Assumes nothing.
 use mathlib.Core.Path.{ap, _∙_}
-use Prim.Native.Nat.{_+_}
 use native.Mathlib.Omega.{arith}
 use borrow.Author.Needs.{needs}
 use Rattle.sample.specs.Turned.{turned, turned-word}
@@ -15,4 +14,4 @@ word-at-spec =
     (λ c. search needs)
     (λ c κs. search needs)
     (λ c. search needs)
-    (λ c. let b = c .before .before .shared-slice-known .given in let at = c .before .before .before .args .at in (c .turned .ensures ∙ ap (turned _) (c .before .word2 .ensures .0) ∙ turned-word _ _ at (c .before .before .before .pre) (b at .fits) (b (at + 1) .fits), omega arith)))
+    (λ c. (c .turned .ensures ∙ ap (turned 2 _) (c .before .word2 .ensures .0) ∙ turned-word 2 _ _ _ (c .before .before .before .pre) (λ i. c .before .before .shared-slice-known .given i .fits), omega arith)))

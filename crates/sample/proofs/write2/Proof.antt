@@ -34,7 +34,7 @@ write2-spec =
     (λ c κs. omega arith)
     (λ c. search needs)
     (λ c. search needs)
-    (λ c. let z = getD (c .before .before .before .before .before .before .before .before .before .args .row .now) (c .before .before .before .before .before .before .before .loop .i) (pos 0) in let q : c .before .before .before .bits .result ≡ residue 4294967296 z = c .before .before .before .bits .ensures ∙ ap (residue 4294967296) (kept z (c .before .before .before .before .bits-arg .given)) in write-turn (fixedBytes 4 (c .before .before .before .before .before .before .before .before .before .args .high) z) (c .before .before .before .before .before .before .before .loop .inv) (flat-turn _ (pos 0) _ _ (c .before .before .before .before .before .before .loop-test .taken)) (length-bytesOf 4 _ _) (c .before .before .put4 .ensures ∙ rw q))
+    (λ c. let z = getD (c .before .before .before .before .before .before .before .before .before .args .row .now) (c .before .before .before .before .before .before .before .loop .i) (pos 0) in let q : c .before .before .before .bits .result ≡ residue 4294967296 z = c .before .before .before .bits .ensures ∙ ap (residue 4294967296) (kept z (c .before .before .before .before .bits-arg .given)) in write-turn (fixedBytes 4 (c .before .before .before .before .before .before .before .before .before .args .high) z) (c .before .before .before .before .before .before .before .loop .inv) (flat-turn _ (pos 0) _ _ (c .before .before .before .before .before .before .loop-test .taken)) (length-bytesOf 4 _ _) (c .before .before .put-word4 .ensures ∙ rw q))
     (λ c. omega arith)
     (λ c κs. omega arith)
     (λ c κs. omega arith)

@@ -33,7 +33,7 @@ write4-spec =
     (λ c κs. omega arith)
     (λ c. search needs)
     (λ c. search needs)
-    (λ c. let z = getD (c .before .before .before .before .before .before .before .before .before .args .row .now) (c .before .before .before .before .before .before .loop .i) 0 in write-turn (bytesOf 4 (c .before .before .before .before .before .before .before .before .before .args .high) z) (c .before .before .before .before .before .before .loop .inv) (flat-turn _ 0 _ _ (c .before .before .before .before .before .loop-test .taken)) (length-bytesOf 4 _ _) (c .before .before .put4 .ensures ∙ rw (bytes-low4 (c .before .before .before .before .before .before .before .before .before .args .high) z)))
+    (λ c. let z = getD (c .before .before .before .before .before .before .before .before .before .args .row .now) (c .before .before .before .before .before .before .loop .i) 0 in write-turn (bytesOf 4 (c .before .before .before .before .before .before .before .before .before .args .high) z) (c .before .before .before .before .before .before .loop .inv) (flat-turn _ 0 _ _ (c .before .before .before .before .before .loop-test .taken)) (length-bytesOf 4 _ _) (c .before .before .put-word4 .ensures ∙ rw (bytes-low4 (c .before .before .before .before .before .before .before .before .before .args .high) z)))
     (λ c. omega arith)
     (λ c κs. omega arith)
     (λ c κs. omega arith)

@@ -32,7 +32,7 @@ write5-spec =
     (λ c κs. omega arith)
     (λ c. search needs)
     (λ c. search needs)
-    (λ c. let z = getD (c .before .before .before .before .before .before .before .before .before .args .row .now) (c .before .before .before .before .before .before .loop .i) 0 in write-turn (bytesOf 8 (c .before .before .before .before .before .before .before .before .before .args .high) z) (c .before .before .before .before .before .before .loop .inv) (flat-turn _ 0 _ _ (c .before .before .before .before .before .loop-test .taken)) (length-bytesOf 8 _ _) (c .before .before .put8 .ensures))
+    (λ c. let z = getD (c .before .before .before .before .before .before .before .before .before .args .row .now) (c .before .before .before .before .before .before .loop .i) 0 in write-turn (bytesOf 8 (c .before .before .before .before .before .before .before .before .before .args .high) z) (c .before .before .before .before .before .before .loop .inv) (flat-turn _ 0 _ _ (c .before .before .before .before .before .loop-test .taken)) (length-bytesOf 8 _ _) (c .before .before .put-word8 .ensures))
     (λ c. omega arith)
     (λ c κs. omega arith)
     (λ c κs. omega arith)
