@@ -1,0 +1,166 @@
+-- Written afresh: every list of good traces that has its slots and its room is written, none of its calls refused, and what is left is the file that
+-- the list defines.
+-- Assumes nothing.
+use mathlib.Core.Path.{_≡_, refl, ap, _∙_}
+use mathlib.Core.Bool.{Bool, true}
+use mathlib.Core.List.{List, [], _∷_, _++_}
+use Prim.Native.Nat.{ℕ, _+_, _*_, _≤_, _<_}
+use native.Mathlib.Omega.{arith}
+use lib.ListN.{length, take}
+use lib.Dec.{eqb}
+use Rattle.sheet.specs.Area.{measuredOf}
+use Rattle.sheet.specs.declared.Measured.the-variants.{Size}
+use Rattle.refusal.specs.declared.Verdict.the-variants.{Accepted}
+use Rattle.block.specs.Image.{checkOf}
+use Rattle.block.specs.Head.{roomOf, countOf, stringEnd, lineEnd}
+use Rattle.writer.specs.declared.Written.{Written}
+use Rattle.writer.specs.declared.Written.the-variants.{To, Refused}
+use Rattle.writer.specs.Layout.{nul, lineFeed, startSize, Trace, traceSize}
+use Rattle.writer.specs.Answers.{startAnswer, startLeft, addAnswer, addLeft}
+use Rattle.afresh.specs.FileOf.{sizes, fileOf, fileSize, Measures, Good, AllGood}
+use Rattle.afresh.specs.FileLaws.{length-more, fronted}
+use Rattle.afresh.specs.Shown.{Started, started, start-answers, Added, added, add-answers}
+use Rattle.afresh.specs.Step.{Holds, start-past, start-afresh, new-end, add-afresh, add-past}
+use Rattle.afresh.specs.Calls.{lengthLeft, after, answersOf, acceptedOf, answers-to, accepted-to, Grew, start-grows}
+use Rattle.afresh.specs.Kept.{file-accepted}
+
+-- "the new length is answered; it is where the new trace's D bytes end": the answers to the calls for a list, where the image ends at a place before them
+unfoldable pub lengths : ℕ → List Trace → List Written
+lengths at [] = []
+lengths at (x ∷ ts) = To (at + traceSize nul lineFeed x) ∷ lengths (at + traceSize nul lineFeed x) ts
+
+module _ (high : Bool) (slots : ℕ) (sheet : List ℕ) (some : 1 ≤ slots) (measures : Measures sheet) where
+  -- a good trace is added to the file of a list where there is a slot and room
+  pub add-accepted : (ts : List Trace) (xs : List ℕ) (n : ℕ) (x : Trace) → Holds high slots sheet ts xs n → Good x → length ts < slots
+      → n + traceSize nul lineFeed x ≤ length xs → n + traceSize nul lineFeed x ≤ 67108864 → addAnswer xs n x ≡ To (n + traceSize nul lineFeed x)
+  add-accepted ts xs n x is g slot fits most =
+      let f = fronted high slots sheet ts (is .few) (is .slotted) in
+      let e = new-end high slots sheet ts xs n x is in
+      let c : countOf (take n xs) ≡ length ts = ap countOf (is .image) ∙ f .count in
+      let r : roomOf (take n xs) ≡ 4 * slots = ap roomOf (is .image) ∙ f .room in
+      let m : measuredOf (stringEnd (take n xs)) (lineEnd (take n xs)) (x .sheet) ≡ Size (g .measures .0) = rw (is .image, f .strings, f .lines) (g .measures .1) in
+      let a : Added xs n x =
+      record {
+        checked = file-accepted true high slots sheet ts xs n is some measures (omega arith) (λ z. refl);
+        free = omega arith;
+        measures = (g .measures .0, m);
+        kind = g .kind;
+        held = g .held;
+        fits = rw e fits;
+        most = rw e most;
+      } in
+      add-answers xs n x a ∙ ap To e
+
+  -- and so is every list of them
+  pub goes-on : (calls ts : List Trace) (xs : List ℕ) (n : ℕ) → Holds high slots sheet ts xs n → AllGood calls → length ts + length calls ≤ slots
+      → n + sizes calls ≤ length xs → n + sizes calls ≤ 67108864 → (answersOf xs n calls ≡ lengths n calls) × (acceptedOf xs n calls ≡ calls)
+  unfolding answersOf acceptedOf lengths sizes
+  goes-on [] ts xs n is g slotted fits most = (refl, refl)
+  goes-on (x ∷ calls) ts xs n is g slotted fits most =
+      let end : ℕ = n + traceSize nul lineFeed x in
+      let to = add-accepted ts xs n x is (g .0) (omega arith) (omega arith) (omega arith) in
+      let l = length-more ts x in
+      let p = add-past high slots sheet ts xs n x is end to .1 in
+      let i = goes-on calls (ts ++ (x ∷ [])) (addLeft xs n x) end (add-afresh high slots sheet ts xs n x is end to) (g .1) (omega arith) (omega arith) (omega arith) in
+      (answers-to xs n x calls end to ∙ ap (λ (r : List Written). To end ∷ r) (i .0), accepted-to xs n x calls end to ∙ ap (λ (r : List Trace). x ∷ r) (i .1))
+
+-- ---- from the start
+
+-- the lists that can be written into a buffer: what rows 24 to 31 ask, said of the start's inputs and of the list at once
+pub record Writable (xs : List ℕ) (order slots : ℕ) (sheet : List ℕ) (ts : List Trace) : Type 0 where
+  pub either : order ≤ 1
+  pub some : 1 ≤ slots
+  pub few : slots ≤ 16383
+  pub measures : Measures sheet
+  pub good : AllGood ts
+  pub slotted : length ts ≤ slots
+  pub fits : fileSize slots sheet ts ≤ length xs
+  pub most : fileSize slots sheet ts ≤ 67108864
+
+module _ (xs : List ℕ) (order slots : ℕ) (sheet : List ℕ) (ts : List Trace) (w : Writable xs order slots sheet ts) where
+  can-start : Started xs order slots sheet
+  unfolding fileSize
+  can-start =
+      let fits = w .fits in
+      let most = w .most in
+      record { either = w .either; some = w .some; few = w .few; measures = w .measures; fits = omega arith; most = omega arith }
+
+  -- the start answers the length of its image
+  pub start-accepted : startAnswer xs order slots sheet ≡ To (startSize slots sheet)
+  start-accepted = start-answers xs order slots sheet can-start
+
+  abbrev begun : List ℕ
+  begun = startLeft xs order slots sheet
+
+  on-from-start : (answersOf begun (startSize slots sheet) ts ≡ lengths (startSize slots sheet) ts) × (acceptedOf begun (startSize slots sheet) ts ≡ ts)
+  unfolding fileSize
+  on-from-start =
+      let g = start-grows xs order slots sheet (startSize slots sheet) start-accepted [] in
+      let s = start-past xs order slots sheet (startSize slots sheet) start-accepted .1 in
+      let fits = w .fits in
+      let most = w .most in
+      let slotted = w .slotted in
+      goes-on (eqb order 1) slots sheet (w .some) (w .measures) ts [] begun (startSize slots sheet)
+      (start-afresh xs order slots sheet (startSize slots sheet) start-accepted) (w .good) (omega arith) (omega arith) (omega arith)
+
+  -- every addition answers where its trace ends: none is refused
+  pub none-refused : answersOf begun (startSize slots sheet) ts ≡ lengths (startSize slots sheet) ts
+  none-refused = on-from-start .0
+
+  pub all-accepted : acceptedOf begun (startSize slots sheet) ts ≡ ts
+  all-accepted = on-from-start .1
+
+  -- and the image at the end is the file that the list defines; past it the buffer is as it was
+  pub written-afresh : Grew (eqb order 1) slots sheet ts xs (startSize slots sheet) (after begun (startSize slots sheet) ts)
+  written-afresh = rw all-accepted at (start-grows xs order slots sheet (startSize slots sheet) start-accepted ts)
+
+  pub image-afresh : (take (after begun (startSize slots sheet) ts .1) (after begun (startSize slots sheet) ts .0) ≡ fileOf (eqb order 1) slots sheet ts)
+      × (after begun (startSize slots sheet) ts .1 ≡ fileSize slots sheet ts)
+  image-afresh = (written-afresh .holds .image, written-afresh .holds .size)
+
+  -- a reader's check accepts it where there is a trace, an addition's check always
+  pub afresh-accepted : (grow : Bool) → (length ts ≡ 0 → grow ≡ true)
+      → checkOf grow (after begun (startSize slots sheet) ts .0) (after begun (startSize slots sheet) ts .1) ≡ Accepted
+  afresh-accepted grow none =
+      let size = written-afresh .holds .size in
+      let most = w .most in
+      file-accepted grow (eqb order 1) slots sheet ts (after begun (startSize slots sheet) ts .0) (after begun (startSize slots sheet) ts .1) (written-afresh .holds)
+      (w .some) (w .measures) (omega arith) none
+
+-- ---- and no other list is written: what calls have left, some of them refused, could have been written afresh from the accepted ones alone
+
+after-most : (calls : List Trace) (xs : List ℕ) (n : ℕ) → n ≤ 67108864 → after xs n calls .1 ≤ 67108864
+unfolding after
+after-most [] xs n h = h
+after-most (x ∷ calls) xs n h = go (addAnswer xs n x) refl (after-most calls)
+  where
+    go : (v : Written) → addAnswer xs n x ≡ v → ((ys : List ℕ) (m : ℕ) → m ≤ 67108864 → after ys m calls .1 ≤ 67108864)
+        → after (addLeft xs n x) (lengthLeft (addAnswer xs n x) n) calls .1 ≤ 67108864
+    go (To end) e more =
+        let a = added xs n x end e in
+        let m = a .1 .most in
+        let s = a .0 in
+        rw e (more (addLeft xs n x) end (omega arith))
+    go (Refused r) e more = rw e (more (addLeft xs n x) n h)
+
+pub accepted-writable : (xs : List ℕ) (order slots : ℕ) (sheet : List ℕ) (e : ℕ) → startAnswer xs order slots sheet ≡ To e → (calls : List Trace)
+    → Writable xs order slots sheet (acceptedOf (startLeft xs order slots sheet) e calls)
+accepted-writable xs order slots sheet e to calls =
+    let s = started xs order slots sheet e to in
+    let begins = s .0 in
+    let small = s .1 .most in
+    let g = start-grows xs order slots sheet e to calls in
+    let size = g .holds .size in
+    let within = g .holds .fits in
+    let kept = g .size in
+    let most = after-most calls (startLeft xs order slots sheet) e (omega arith) in
+    record {
+      either = s .1 .either;
+      some = s .1 .some;
+      few = s .1 .few;
+      measures = s .1 .measures;
+      good = g .holds .good;
+      slotted = g .holds .slotted;
+      fits = omega arith;
+      most = omega arith;
+    }

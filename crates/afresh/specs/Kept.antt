@@ -1,0 +1,159 @@
+-- The file that a list defines keeps the rules of a file, so that the check accepts it: every reader takes it where it has a trace, and an addition
+-- takes it always.
+-- Assumes nothing.
+use mathlib.Core.Path.{_≡_, refl, sym, ap, _∙_}
+use mathlib.Core.Bool.{Bool, true, false}
+use mathlib.Core.List.{List, [], _∷_, _++_, append-assoc}
+use mathlib.Core.Logic.{inl}
+use Prim.Native.Nat.{ℕ, zero, suc, _+_, _-_, _*_, _%_, _≤_, _<_}
+use native.Mathlib.Omega.{arith}
+use lib.ListN.{length, getD, take, replicate, length-append, length-replicate}
+use lib.Dec.{eqb}
+use borrow.Author.Tests.{eqb-true, eqb-false}
+use Rattle.word.specs.Part.{part, part-among}
+use Rattle.refusal.specs.Rows.{pick}
+use Rattle.refusal.specs.declared.Verdict.the-variants.{Accepted}
+use Rattle.text.specs.Runs.{all}
+use Rattle.text.specs.Spelled.{Spells}
+use Rattle.sample.specs.Needed.{room}
+use Rattle.sheet.specs.Area.{stringsOf, areaOf, areaSize}
+use Rattle.sheet.specs.Sizes.{length-area}
+use Rattle.sheet.specs.Spelling.{LineEnd, area-spells}
+use Rattle.block.specs.Head.{highFirst, countOf, stringEnd, lineEnd, apart}
+use Rattle.block.specs.Image.{pointerOf, endAt, checkOf}
+use Rattle.block.specs.Keeps.{traceAt, endBefore, stringsEnd, KeepsTrace, Keeps}
+use Rattle.block.specs.Accepted.{keeps-accepted}
+use Rattle.writer.specs.Layout.{nul, lineFeed, fileBlock, startSize, Trace, count}
+use Rattle.afresh.specs.FileOf.{pointers, blocks, fileOf, fileSize, Measures, Good, AllGood}
+use Rattle.afresh.specs.FileLaws.{length-fileBlock, length-pointers, length-file, area-whole, room-whole, file-whole, size-none, size-low, Fronted, fronted}
+use Rattle.afresh.specs.Step.{Holds}
+use Rattle.afresh.specs.Stands.{kinds, needed-room, Stands, noTrace, Traced, file-traces}
+
+-- 0Ah is no character of a value
+line-end : LineEnd lineFeed
+line-end = (omega arith, refl)
+
+spelled : (high : Bool) (sheet : List ℕ) → Measures sheet → Spells high nul lineFeed (stringsOf lineFeed sheet) (areaOf high nul lineFeed sheet)
+spelled high sheet m = area-spells high nul lineFeed sheet (m .0) line-end (m .1)
+
+-- ---- a trace
+keeps-trace : (high : Bool) (f : List ℕ) (k p : ℕ) (x : Trace) → highFirst f ≡ high → stringEnd f ≡ nul → lineEnd f ≡ lineFeed → pointerOf high f k ≡ p
+    → Stands high f p x → Good x → p % 4 ≡ 0 → endBefore f k ≤ p → KeepsTrace f k
+keeps-trace high f k p x o s l at h g w b =
+    let a = area-whole nul lineFeed (x .sheet) in
+    let d = room-whole (x .code) (count (x .samples)) in
+    let c = kinds (x .code) (x .samples) (g .kind) in
+    let n = needed-room (x .code) (count (x .samples)) in
+    let i = h .inside in
+    record {
+      aligned = rw (o, at) w;
+      behind = rw (o, at) b;
+      mark = rw (o, at) (h .mark);
+      least = rw (o, at, h .block) (omega arith);
+      whole = rw (o, at, h .block) (omega arith);
+      samples-whole = rw (o, at, h .bytes) d;
+      inside = rw (o, at, h .block, h .bytes) (omega arith);
+      code = rw (o, at, h .code) (c .0, c .1);
+      groups = rw (o, at, h .code, h .number) (c .2);
+      samples = rw (o, at, h .code, h .number, h .bytes) n;
+      strings = (stringsOf lineFeed (x .sheet), rw (o, s, l, at, h .block, h .area) (spelled high (x .sheet) (g .measures)));
+    }
+
+-- ---- the file's strings
+ends-at : (c l t e : ℕ) → (c ≡ 0 → l ≡ e) → (0 < c → t ≡ e) → pick (eqb c 0) l t ≡ e
+ends-at c l t e h k = go (eqb c 0) refl
+  where
+    go : (w : Bool) → eqb c 0 ≡ w → pick w l t ≡ e
+    go true q = h (eqb-true c 0 q)
+    go false q = let z = eqb-false c 0 q in k (omega arith)
+
+pub file-strings : (high : Bool) (slots : ℕ) (sheet : List ℕ) (ts : List Trace) → length ts ≤ slots
+    → part (32 + 4 * slots) (startSize slots sheet) (fileOf high slots sheet ts) ≡ areaOf high nul lineFeed sheet
+unfolding fileOf startSize
+file-strings high slots sheet ts h =
+    let fb = fileBlock high (4 * slots) (length ts) in
+    let ptrs = pointers high (startSize slots sheet) ts in
+    let free : List ℕ = replicate (4 * (slots - length ts)) 0 in
+    let area = areaOf high nul lineFeed sheet in
+    let a = length-append fb (ptrs ++ free) in
+    let b = length-append ptrs free in
+    let c = length-fileBlock high (4 * slots) (length ts) in
+    let d = length-pointers high (startSize slots sheet) ts in
+    let e = length-replicate {A = ℕ} (4 * (slots - length ts)) 0 in
+    let g = length-area high nul lineFeed sheet in
+    let s : (fb ++ (ptrs ++ free)) ++ (area ++ blocks high ts) ≡ fb ++ (ptrs ++ (free ++ (area ++ blocks high ts))) = simp append-assoc in
+    ap (λ (r : List ℕ). part (32 + 4 * slots) (32 + 4 * slots + areaSize nul lineFeed sheet) r) (sym s)
+    ∙ part-among (fb ++ (ptrs ++ free)) area (blocks high ts) (32 + 4 * slots) (32 + 4 * slots + areaSize nul lineFeed sheet) (omega arith) (omega arith)
+
+none-left : (ts : List Trace) → length ts ≡ 0 → ts ≡ []
+none-left [] h = refl
+none-left (x ∷ ts) h = absurd (omega arith)
+
+-- ---- the whole
+module _ (high : Bool) (slots : ℕ) (sheet : List ℕ) (ts : List Trace) (some : 1 ≤ slots) (few : slots ≤ 16383) (measures : Measures sheet)
+    (good : AllGood ts) (slotted : length ts ≤ slots) (most : fileSize slots sheet ts ≤ 67108864) where
+  abbrev file : List ℕ
+  file = fileOf high slots sheet ts
+
+  front : Fronted high slots (length ts) file
+  front = fronted high slots sheet ts few slotted
+
+  long : length file ≡ fileSize slots sheet ts
+  long = length-file high slots sheet ts slotted good
+
+  here : (k : ℕ) → k < length ts → Traced high slots sheet ts k
+  here = file-traces high slots sheet ts slotted good most
+
+  -- each trace begins where what stands before it ends, and the first behind the file's strings
+  before : (k : ℕ) → k ≤ length ts → endBefore file k ≤ fileSize slots sheet (take k ts)
+  unfolding endBefore endAt
+  before zero h = let l = size-low slots sheet [] in rw (front .room) l
+  before (suc k) h =
+      let t = here k (omega arith) in
+      let s = t .here in
+      let n = t .next in
+      rw (front .order, t .pointer, s .block, s .bytes) (omega arith)
+
+  strings-end : stringsEnd file ≡ startSize slots sheet
+  strings-end =
+      ends-at (countOf file) (length file) (traceAt file 0) (startSize slots sheet)
+      (λ z.
+      (let e : length ts ≡ 0 = sym (front .count) ∙ z in
+      long ∙ ap (fileSize slots sheet) (none-left ts e) ∙ size-none slots sheet))
+      (λ z.
+      (let e : 0 < length ts = rw (front .count) at z in
+      let t = here 0 e in
+      rw (front .order) (t .pointer ∙ size-none slots sheet)))
+
+  pub file-keeps : (grow : Bool) → (length ts ≡ 0 → grow ≡ true) → Keeps grow file
+  unfolding apart all
+  file-keeps grow none =
+      let low = size-low slots sheet ts in
+      record {
+        length = (omega (arith, long), omega (arith, long));
+        first = front .first;
+        revision = front .revision;
+        room = (rw (front .room) (omega arith), rw (front .room) (omega arith), rw (front .room) (omega (arith, long)));
+        some = λ z. none (sym (front .count) ∙ z);
+        count = rw (front .count, front .room) (omega arith);
+        string-end = record { size = inl (front .ones .0); characters = rw (front .strings) };
+        line-end = record { size = inl (front .ones .1); characters = rw (front .lines) };
+        ends-apart = rw (front .strings, front .lines);
+        strings = (
+          stringsOf lineFeed sheet,
+          rw (strings-end, front .order, front .strings, front .lines, front .room, file-strings high slots sheet ts slotted) (spelled high sheet measures),
+        );
+        traces = λ k h.
+            (let l : k < length ts = rw (front .count) at h in
+            let t = here k l in
+            keeps-trace high file k (fileSize slots sheet (take k ts)) (getD ts k noTrace) (front .order) (front .strings) (front .lines) (t .pointer) (t .here) (t .good)
+            (file-whole slots sheet (take k ts)) (before k (omega arith)));
+      }
+
+-- and the check accepts it, in any buffer that holds it
+pub file-accepted : (grow high : Bool) (slots : ℕ) (sheet : List ℕ) (ts : List Trace) (xs : List ℕ) (n : ℕ) → Holds high slots sheet ts xs n → 1 ≤ slots
+    → Measures sheet → n ≤ 67108864 → (length ts ≡ 0 → grow ≡ true) → checkOf grow xs n ≡ Accepted
+file-accepted grow high slots sheet ts xs n is some measures most none =
+    let s = is .size in
+    let k = file-keeps high slots sheet ts some (is .few) measures (is .good) (is .slotted) (omega arith) grow none in
+    keeps-accepted grow xs n (is .fits) (rw (is .image) k)
