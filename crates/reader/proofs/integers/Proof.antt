@@ -1,0 +1,24 @@
+-- `reader::integers` meets its contract. The block of a trace of an accepted image fits it. Assumes nothing.
+use mathlib.Core.Path.{sym, _∙_}
+use native.Mathlib.Omega.{arith}
+use lib.IntN.{ℤ}
+use borrow.Author.Needs.{needs}
+use Rattle.reader.specs.Samples.{integers-bad, integers-answer, integers-left}
+use Rattle.reader.specs.Reach.{told, told-fits}
+use Rattle.reader.specs.Questions.{traceAnswer}
+use Rattle.reader.proofs.Machine.{handed}
+use Rattle.reader.proofs.integers.Statement.{statement}
+use Rattle.reader.proofs.integers.Tie as tie
+
+pub integers-spec : {M : Type 1} → statement M
+integers-spec =
+    tie.close
+    (tie.spec
+    (λ c κs. search needs)
+    (λ c. search needs)
+    (λ c. search needs)
+    (λ c. let h = told _ _ _ _ (sym (handed (λ (z : ℤ). traceAnswer (c .before .before .before .before .before .before .args .buffer .now) (c .before .before .before .before .before .before .args .length) z) (c .before .before .before .before .before .before .args .trace) (c .before .before .before .before .before .before .fits .trace .sfits) (c .before .before .before .before .trace-block .ensures)) ∙ c .before .before .a2 .given .1) in sym (h .known .size))
+    (λ c κs. let h = told _ _ _ _ (sym (handed (λ (z : ℤ). traceAnswer (c .before .before .before .before .before .before .before .args .buffer .now) (c .before .before .before .before .before .before .before .args .length) z) (c .before .before .before .before .before .before .before .args .trace) (c .before .before .before .before .before .before .before .fits .trace .sfits) (c .before .before .before .before .before .trace-block .ensures)) ∙ c .before .before .before .a2 .given .1) in (omega (arith, h .known .size, h .known .least), told-fits _ _ _ _ h))
+    (λ c. integers-bad _ _ _ _ (sym (handed (λ (z : ℤ). traceAnswer (c .before .before .before .before .before .args .buffer .now) (c .before .before .before .before .before .args .length) z) (c .before .before .before .before .before .args .trace) (c .before .before .before .before .before .fits .trace .sfits) (c .before .before .before .trace-block .ensures)) ∙ c .before .a .given .1) _)
+    (λ c. search needs)
+    (λ c. let h = told _ _ _ _ (sym (handed (λ (z : ℤ). traceAnswer (c .before .before .before .before .before .before .before .before .before .args .buffer .now) (c .before .before .before .before .before .before .before .before .before .args .length) z) (c .before .before .before .before .before .before .before .before .before .args .trace) (c .before .before .before .before .before .before .before .before .before .fits .trace .sfits) (c .before .before .before .before .before .before .before .trace-block .ensures)) ∙ c .before .before .before .before .before .a2 .given .1) in (c .before .integers-of .ensures .0 ∙ integers-answer _ _ _ _ h _, c .before .integers-of .ensures .1 ∙ integers-left _ _ _ _ h _)))

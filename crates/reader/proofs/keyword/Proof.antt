@@ -1,0 +1,21 @@
+-- `reader::keyword` meets its contract. An arm for each case. Assumes nothing.
+use mathlib.Core.Path.{sym, _∙_}
+use lib.IntN.{ℤ}
+use borrow.Author.Needs.{needs}
+use Rattle.reader.specs.Questions.{findAnswer, keywordAnswer}
+use Rattle.reader.proofs.Machine.{handed}
+use Rattle.reader.proofs.keyword.Statement.{statement}
+use Rattle.reader.proofs.keyword.Tie as tie
+
+pub keyword-spec : {M : Type 1} → statement M
+unfolding keywordAnswer
+keyword-spec =
+    tie.close
+    (tie.spec
+    (λ c κs. search needs)
+    (λ c. search needs)
+    (λ c. search needs)
+    (λ c. search needs)
+    (λ c. rw (sym (handed (λ (z : ℤ). findAnswer (c .before .before .before .before .before .args .buffer .now) (c .before .before .before .before .before .args .length) z (c .before .before .before .before .before .args .key .now)) (c .before .before .before .before .before .args .part) (c .before .before .before .before .before .fits .part .sfits) (c .before .before .find .ensures)) ∙ c .enum-told .given .1))
+    (λ c. rw (sym (handed (λ (z : ℤ). findAnswer (c .before .before .before .before .before .args .buffer .now) (c .before .before .before .before .before .args .length) z (c .before .before .before .before .before .args .key .now)) (c .before .before .before .before .before .args .part) (c .before .before .before .before .before .fits .part .sfits) (c .before .before .find .ensures)) ∙ c .enum-told2 .given .1))
+    (λ c. rw (sym (handed (λ (z : ℤ). findAnswer (c .before .before .before .before .before .before .args .buffer .now) (c .before .before .before .before .before .before .args .length) z (c .before .before .before .before .before .before .args .key .now)) (c .before .before .before .before .before .before .args .part) (c .before .before .before .before .before .before .fits .part .sfits) (c .before .before .before .find .ensures)) ∙ c .before .s .given .1)))

@@ -1,0 +1,23 @@
+-- `reader::location` meets its contract. What was found lies in the buffer. Assumes nothing.
+use mathlib.Core.Path.{sym, _∙_}
+use lib.IntN.{ℤ}
+use borrow.Author.Needs.{needs}
+use Rattle.decimal.specs.Location.{locationOf}
+use Rattle.decimal.specs.declared.LocationAnswer.the-variants as location
+use Rattle.reader.specs.Reach.{find-lent, value-made}
+use Rattle.reader.specs.Questions.{findAnswer, locationAnswer}
+use Rattle.reader.proofs.Machine.{handed, answered}
+use Rattle.reader.proofs.location.Statement.{statement}
+use Rattle.reader.proofs.location.Tie as tie
+
+pub location-spec : {M : Type 1} → statement M
+unfolding locationAnswer
+location-spec =
+    tie.close
+    (tie.spec
+    (λ c κs. search needs)
+    (λ c. search needs)
+    (λ c. rw (sym (handed (λ (z : ℤ). findAnswer (c .before .before .before .before .before .before .args .buffer .now) (c .before .before .before .before .before .before .args .length) z (c .before .before .before .before .before .before .args .key .now)) (c .before .before .before .before .before .before .args .part) (c .before .before .before .before .before .before .fits .part .sfits) (c .before .before .before .find .ensures)) ∙ c .before .s .given .1))
+    (λ c κs. rw (c .before .find .ensures) (find-lent _ _ _ _))
+    (λ c κs. search needs)
+    (λ c. c .location .ensures ∙ value-made location.Refused locationOf _ _ _ _ _ _ (handed (λ (z : ℤ). findAnswer (c .before .before .before .before .before .before .args .buffer .now) (c .before .before .before .before .before .before .args .length) z (c .before .before .before .before .before .before .args .key .now)) (c .before .before .before .before .before .before .args .part) (c .before .before .before .before .before .before .fits .part .sfits) (c .before .before .before .find .ensures)) (c .before .value-at .ensures) (answered location.Refused (c .before .before .before .find .result) (c .before .before .match .keys2))))

@@ -1,0 +1,23 @@
+-- `reader::number` meets its contract. What was found lies in the buffer. Assumes nothing.
+use mathlib.Core.Path.{sym, _∙_}
+use lib.IntN.{ℤ}
+use borrow.Author.Needs.{needs}
+use Rattle.decimal.specs.Number.{numberOf}
+use Rattle.decimal.specs.declared.NumberAnswer.the-variants as number
+use Rattle.reader.specs.Reach.{find-lent, value-made}
+use Rattle.reader.specs.Questions.{findAnswer, numberAnswer}
+use Rattle.reader.proofs.Machine.{handed, answered}
+use Rattle.reader.proofs.number.Statement.{statement}
+use Rattle.reader.proofs.number.Tie as tie
+
+pub number-spec : {M : Type 1} → statement M
+unfolding numberAnswer
+number-spec =
+    tie.close
+    (tie.spec
+    (λ c κs. search needs)
+    (λ c. search needs)
+    (λ c. rw (sym (handed (λ (z : ℤ). findAnswer (c .before .before .before .before .before .before .args .buffer .now) (c .before .before .before .before .before .before .args .length) z (c .before .before .before .before .before .before .args .key .now)) (c .before .before .before .before .before .before .args .part) (c .before .before .before .before .before .before .fits .part .sfits) (c .before .before .before .find .ensures)) ∙ c .before .s .given .1))
+    (λ c κs. rw (c .before .find .ensures) (find-lent _ _ _ _))
+    (λ c κs. search needs)
+    (λ c. c .number .ensures ∙ value-made number.Refused numberOf _ _ _ _ _ _ (handed (λ (z : ℤ). findAnswer (c .before .before .before .before .before .before .args .buffer .now) (c .before .before .before .before .before .before .args .length) z (c .before .before .before .before .before .before .args .key .now)) (c .before .before .before .before .before .before .args .part) (c .before .before .before .before .before .before .fits .part .sfits) (c .before .before .before .find .ensures)) (c .before .value-at .ensures) (answered number.Refused (c .before .before .before .find .result) (c .before .before .match .keys2))))

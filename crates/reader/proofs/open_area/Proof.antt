@@ -1,0 +1,29 @@
+-- `reader::open_area` meets its contract. What the check has accepted is what the area asks. Assumes nothing.
+use mathlib.Core.Path.{sym, _∙_}
+use native.Mathlib.Omega.{arith}
+use lib.IntN.{ℤ}
+use lib.ListN.{take}
+use borrow.Author.Needs.{needs}
+use Rattle.reader.specs.Reach.{checked}
+use Rattle.reader.specs.Leaves.{openedOf}
+use Rattle.reader.specs.Questions.{areaAsked}
+use Rattle.reader.proofs.Machine.{handed}
+use Rattle.reader.proofs.open_area.Statement.{statement}
+use Rattle.reader.proofs.open_area.Tie as tie
+
+pub open-area-spec : {M : Type 1} → statement M
+unfolding openedOf
+open-area-spec =
+    tie.close
+    (tie.spec
+    (λ c κs. search needs)
+    (λ c. search needs)
+    (λ c. rw (sym (c .before .before .before .check .ensures) ∙ c .before .v .given .1))
+    (λ c. search needs)
+    (λ c. sym (checked _ _ (sym (c .before .before .before .check .ensures) ∙ c .before .enum-told .given .1) .size))
+    (λ c κs. let k = checked _ _ (sym (c .before .before .before .check .ensures) ∙ c .before .enum-told .given .1) in (omega (arith, k .size, k .least), k .image))
+    (λ c. search needs)
+    (λ c κs. search needs)
+    (λ c. search needs)
+    (λ c. rw ((sym (c .before .before .before .before .before .before .before .check .ensures) ∙ c .before .before .before .before .before .enum-told .given .1), (sym (handed (λ (z : ℤ). areaAsked (take (c .before .before .before .before .before .before .before .before .before .args .length) (c .before .before .before .before .before .before .before .before .before .args .buffer .now)) z) (c .before .before .before .before .before .before .before .before .before .args .part) (c .before .before .before .before .before .before .before .before .before .fits .part .sfits) (c .before .before .before .area-of .ensures)) ∙ c .before .enum-told2 .given .1), c .no-trace .ensures))
+    (λ c. rw ((sym (c .before .before .before .before .before .before .before .check .ensures) ∙ c .before .before .before .before .before .enum-told .given .1), (sym (handed (λ (z : ℤ). areaAsked (take (c .before .before .before .before .before .before .before .before .before .args .length) (c .before .before .before .before .before .before .before .before .before .args .buffer .now)) z) (c .before .before .before .before .before .before .before .before .before .args .part) (c .before .before .before .before .before .before .before .before .before .fits .part .sfits) (c .before .before .before .area-of .ensures)) ∙ c .before .w .given .1))))

@@ -1,0 +1,34 @@
+-- `reader::trace_block` meets its contract. Each trace of an accepted image lies in it. Assumes nothing.
+use mathlib.Core.Path.{sym, _∙_}
+use native.Mathlib.Omega.{arith}
+use lib.IntN.{ℤ}
+use lib.ListN.{take}
+use borrow.Author.Needs.{needs}
+use Rattle.block.specs.Head.{countOf}
+use Rattle.reader.specs.Reach.{checked, whose-trace, pointer-slot, trace-pointed}
+use Rattle.reader.specs.Questions.{whoseOf, traceAnswer}
+use Rattle.reader.proofs.Machine.{handed}
+use Rattle.reader.proofs.trace_block.Statement.{statement}
+use Rattle.reader.proofs.trace_block.Tie as tie
+
+pub trace-block-spec : {M : Type 1} → statement M
+unfolding traceAnswer
+trace-block-spec =
+    tie.close
+    (tie.spec
+    (λ c κs. search needs)
+    (λ c. search needs)
+    (λ c. rw (sym (c .before .before .before .check .ensures) ∙ c .before .v .given .1))
+    (λ c. search needs)
+    (λ c. sym (checked _ _ (sym (c .before .before .before .check .ensures) ∙ c .before .enum-told .given .1) .size))
+    (λ c κs. let k = checked _ _ (sym (c .before .before .before .check .ensures) ∙ c .before .enum-told .given .1) in omega (arith, k .size, k .least))
+    (λ c. search needs)
+    (λ c κs. let k = checked _ _ (sym (c .before .before .before .before .before .before .before .check .ensures) ∙ c .before .before .before .before .before .enum-told .given .1) in omega (arith, k .size, k .least))
+    (λ c κs. let k = checked _ _ (sym (c .before .before .before .before .before .before .before .before .check .ensures) ∙ c .before .before .before .before .before .before .enum-told .given .1) in let l = (whose-trace _ _ _ (sym (c .before .before .before .before .whose-in .ensures) ∙ c .before .before .w .given .1) .1) in (pointer-slot _ (k .image) _ l, rw (c .is-high .ensures) (trace-pointed _ (k .image) _ l .fits)))
+    (λ c. search needs)
+    (λ c κs. search needs)
+    (λ c. search needs)
+    (λ c κs. search needs)
+    (λ c. rw ((sym (c .before .before .before .before .before .before .before .before .before .check .ensures) ∙ c .before .before .before .before .before .before .before .enum-told .given .1), (sym (handed (λ (z : ℤ). whoseOf z (countOf (take (c .before .before .before .before .before .before .before .before .before .before .before .args .length) (c .before .before .before .before .before .before .before .before .before .before .before .args .buffer .now)))) (c .before .before .before .before .before .before .before .before .before .before .before .args .trace) (c .before .before .before .before .before .before .before .before .before .before .before .fits .trace .sfits) (c .before .before .before .before .before .whose-in .ensures)) ∙ c .before .before .before .w .given .1), c .trace-block .ensures, c .before .is-high .ensures))
+    (λ c. rw ((sym (c .before .before .before .before .before .before .before .check .ensures) ∙ c .before .before .before .before .before .enum-told .given .1), (sym (handed (λ (z : ℤ). whoseOf z (countOf (take (c .before .before .before .before .before .before .before .before .before .args .length) (c .before .before .before .before .before .before .before .before .before .args .buffer .now)))) (c .before .before .before .before .before .before .before .before .before .args .trace) (c .before .before .before .before .before .before .before .before .before .fits .trace .sfits) (c .before .before .before .whose-in .ensures)) ∙ c .before .enum-told2 .given .1), c .no-trace .ensures))
+    (λ c. rw ((sym (c .before .before .before .before .before .before .before .check .ensures) ∙ c .before .before .before .before .before .enum-told .given .1), (sym (handed (λ (z : ℤ). whoseOf z (countOf (take (c .before .before .before .before .before .before .before .before .before .args .length) (c .before .before .before .before .before .before .before .before .before .args .buffer .now)))) (c .before .before .before .before .before .before .before .before .before .args .trace) (c .before .before .before .before .before .before .before .before .before .fits .trace .sfits) (c .before .before .before .whose-in .ensures)) ∙ c .before .enum-told3 .given .1), c .no-trace2 .ensures)))

@@ -1,0 +1,20 @@
+-- `reader::whose_in` meets its contract. N is the word at 6, in the order of the file. Assumes nothing.
+use mathlib.Core.Path.{_∙_}
+use lib.IntN.{ℤ}
+use borrow.Author.Needs.{needs}
+use Rattle.block.specs.HeadLaws.{count-read}
+use Rattle.block.specs.Head.{countOf}
+use Rattle.reader.specs.Questions.{whoseOf}
+use Rattle.reader.proofs.Machine.{handed}
+use Rattle.reader.proofs.whose_in.Statement.{statement}
+use Rattle.reader.proofs.whose_in.Tie as tie
+
+pub whose-in-spec : {M : Type 1} → statement M
+whose-in-spec =
+    tie.close
+    (tie.spec
+    (λ c κs. search needs)
+    (λ c κs. search needs)
+    (λ c. search needs)
+    (λ c κs. search needs)
+    (λ c. handed (λ (z : ℤ). whoseOf z (countOf (c .before .before .before .before .args .f .now))) (c .before .before .before .before .args .part) (c .before .before .before .before .fits .part .sfits) (c .named .ensures ∙ rw (count-read _ _ (c .before .before .is-high .ensures) _ (c .before .word2 .ensures .0)))))

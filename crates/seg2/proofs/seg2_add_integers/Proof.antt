@@ -1,0 +1,15 @@
+-- `seg2::seg2_add_integers` meets its contract. The answer of the function below it, as it crosses. Assumes nothing.
+use mathlib.Core.Path.{ap, _∙_}
+use Rattle.seg2.specs.Face.{lengthOf}
+use borrow.Author.Needs.{needs}
+use Rattle.seg2.proofs.seg2_add_integers.Statement.{statement}
+use Rattle.seg2.proofs.seg2_add_integers.Tie as tie
+
+pub seg2-add-integers-spec : {M : Type 1} → statement M
+seg2-add-integers-spec =
+    tie.close
+    (tie.spec
+    (λ c κs. search needs)
+    (λ c κs. search needs)
+    (λ c. search needs)
+    (λ c. (c .length-told .ensures ∙ ap lengthOf (c .before .before .before .add-integers .ensures .0), c .before .before .before .add-integers .ensures .1)))

@@ -1,0 +1,18 @@
+-- `seg2::seg2_bits` meets its contract. The answer of the function below it, as it crosses. Assumes nothing.
+use mathlib.Core.Path.{ap, _∙_}
+use mir.Syntax.{w32}
+use mir.Facts.{toZ-ofZ}
+use Rattle.seg2.specs.Face.{verdictOf}
+use borrow.Author.Needs.{needs}
+use Rattle.seg2.proofs.seg2_bits.Statement.{statement}
+use Rattle.seg2.proofs.seg2_bits.Tie as tie
+
+pub seg2-bits-spec : {M : Type 1} → statement M
+seg2-bits-spec =
+    tie.close
+    (tie.spec
+    (λ c κs. search needs)
+    (λ c κs. search needs)
+    (λ c. search needs)
+    (λ c. search needs)
+    (λ c. (c .told .ensures ∙ ap verdictOf (rw (toZ-ofZ {w = w32} (c .before .before .before .before .before .before .before .before .before .before .before .fits .trace)) at (c .before .before .before .before .before .bits .ensures .0)), (rw (toZ-ofZ {w = w32} (c .before .before .before .before .before .before .before .before .before .before .before .fits .trace)) at (c .before .before .before .before .before .bits .ensures .1 .0), rw (toZ-ofZ {w = w32} (c .before .before .before .before .before .before .before .before .before .before .before .fits .trace)) at (c .before .before .before .before .before .bits .ensures .1 .1)))))

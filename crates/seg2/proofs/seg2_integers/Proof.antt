@@ -1,0 +1,17 @@
+-- `seg2::seg2_integers` meets its contract. The answer of the function below it, as it crosses. Assumes nothing.
+use mathlib.Core.Path.{ap, _∙_}
+use mir.Syntax.{w32}
+use mir.Facts.{toZ-ofZ}
+use Rattle.seg2.specs.Face.{verdictOf}
+use borrow.Author.Needs.{needs}
+use Rattle.seg2.proofs.seg2_integers.Statement.{statement}
+use Rattle.seg2.proofs.seg2_integers.Tie as tie
+
+pub seg2-integers-spec : {M : Type 1} → statement M
+seg2-integers-spec =
+    tie.close
+    (tie.spec
+    (λ c κs. search needs)
+    (λ c κs. search needs)
+    (λ c. search needs)
+    (λ c. (c .told .ensures ∙ ap verdictOf (rw (toZ-ofZ {w = w32} (c .before .before .before .before .before .fits .trace)) at (c .before .before .integers .ensures .0)), rw (toZ-ofZ {w = w32} (c .before .before .before .before .before .fits .trace)) at (c .before .before .integers .ensures .1))))

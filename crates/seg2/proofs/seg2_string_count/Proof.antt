@@ -1,0 +1,16 @@
+-- `seg2::seg2_string_count` meets its contract. The answer of the function below it, as it crosses. Assumes nothing.
+use mathlib.Core.Path.{ap, _∙_}
+use mir.Syntax.{w32}
+use mir.Facts.{toZ-ofZ}
+use Rattle.seg2.specs.Face.{countOf}
+use borrow.Author.Needs.{needs}
+use Rattle.seg2.proofs.seg2_string_count.Statement.{statement}
+use Rattle.seg2.proofs.seg2_string_count.Tie as tie
+
+pub seg2-string-count-spec : {M : Type 1} → statement M
+seg2-string-count-spec =
+    tie.close
+    (tie.spec
+    (λ c κs. search needs)
+    (λ c κs. search needs)
+    (λ c. c .count-told .ensures ∙ ap countOf (rw (toZ-ofZ {w = w32} (c .before .before .before .fits .part)) at (c .before .string-count .ensures))))

@@ -1,0 +1,16 @@
+-- `seg2::seg2_trace_block` meets its contract. The answer of the function below it, as it crosses. Assumes nothing.
+use mathlib.Core.Path.{ap, _∙_}
+use mir.Syntax.{w32}
+use mir.Facts.{toZ-ofZ}
+use Rattle.seg2.specs.Face.{traceOf}
+use borrow.Author.Needs.{needs}
+use Rattle.seg2.proofs.seg2_trace_block.Statement.{statement}
+use Rattle.seg2.proofs.seg2_trace_block.Tie as tie
+
+pub seg2-trace-block-spec : {M : Type 1} → statement M
+seg2-trace-block-spec =
+    tie.close
+    (tie.spec
+    (λ c κs. search needs)
+    (λ c κs. search needs)
+    (λ c. c .trace-told .ensures ∙ ap traceOf (rw (toZ-ofZ {w = w32} (c .before .before .before .fits .trace)) at (c .before .trace-block .ensures))))

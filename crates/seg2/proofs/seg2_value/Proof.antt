@@ -1,0 +1,16 @@
+-- `seg2::seg2_value` meets its contract. The answer of the function below it, as it crosses. Assumes nothing.
+use mathlib.Core.Path.{ap, _∙_}
+use mir.Syntax.{w32}
+use mir.Facts.{toZ-ofZ}
+use Rattle.seg2.specs.Face.{valueOf}
+use borrow.Author.Needs.{needs}
+use Rattle.seg2.proofs.seg2_value.Statement.{statement}
+use Rattle.seg2.proofs.seg2_value.Tie as tie
+
+pub seg2-value-spec : {M : Type 1} → statement M
+seg2-value-spec =
+    tie.close
+    (tie.spec
+    (λ c κs. search needs)
+    (λ c κs. search needs)
+    (λ c. c .value-told .ensures ∙ ap valueOf (rw (toZ-ofZ {w = w32} (c .before .before .before .before .fits .part)) at (c .before .find .ensures))))

@@ -1,0 +1,114 @@
+//! The exported functions as they are: what `include/seg2.h` declares, in Rust.
+//!
+//! A slice goes as its pointer and its size, one behind the other. A struct of more
+//! than 16 bytes comes back through a place that is the first argument, on x86-64 and
+//! on Arm alike (docs/DECISIONS.md), so it is declared so and not as a result.
+
+macro_rules! answer {
+    ($(#[$said:meta])* $name:ident { $($field:ident: $kind:ty),* $(,)? }) => {
+        $(#[$said])*
+        #[repr(C)]
+        #[derive(Clone, Copy, Debug, PartialEq)]
+        pub struct $name {
+            /// The refusal's number in the table, 0 for none.
+            pub number: u32,
+            /// The refusal's part: -1 for the file, else the trace.
+            pub part: i32,
+            /// The refusal's place.
+            pub place: usize,
+            $(#[allow(missing_docs)] pub $field: $kind,)*
+        }
+    };
+}
+
+answer!(
+    /// No value beside the refusal.
+    Verdict {}
+);
+answer!(
+    /// Order (0 low first, 1 high first), M, N, lengths of the string and the line terminator.
+    File { order: u32, room: usize, count: usize, strings: usize, lines: usize }
+);
+answer!(
+    /// Start of the block, B, D, S, format code.
+    Trace { start: usize, block: usize, bytes: usize, count: usize, code: u32 }
+);
+answer!(
+    /// How many there are.
+    Count { count: usize }
+);
+answer!(
+    /// Whether it is there; start and length of keyword and value in the buffer.
+    Text { found: u32, key: usize, letters: usize, value: usize, size: usize }
+);
+answer!(
+    /// Whether it is there.
+    Keyword { found: u32 }
+);
+answer!(
+    /// Start and length of a value in the buffer.
+    Value { start: usize, size: usize }
+);
+answer!(
+    /// Sign (1 minus), power of ten, coefficient.
+    Number { minus: u32, power: i32, coefficient: u64 }
+);
+answer!(
+    /// A double.
+    Double { value: f64 }
+);
+answer!(
+    /// How many values, and the values.
+    Location { count: u32, x: f64, y: f64, z: f64 }
+);
+answer!(
+    /// The image's new length.
+    Length { length: usize }
+);
+
+extern "C" {
+    pub fn seg2_check(buffer: *const u8, size: usize, length: usize) -> Verdict;
+    pub fn seg2_file_block(answer: *mut File, buffer: *const u8, size: usize, length: usize);
+    pub fn seg2_trace_block(answer: *mut Trace, buffer: *const u8, size: usize, length: usize, trace: i32);
+    pub fn seg2_string_count(answer: *mut Count, buffer: *const u8, size: usize, length: usize, part: i32);
+    pub fn seg2_string(answer: *mut Text, buffer: *const u8, size: usize, length: usize, part: i32, index: usize);
+    pub fn seg2_keyword(answer: *mut Keyword, buffer: *const u8, size: usize, length: usize, part: i32, key: *const u8, key_size: usize);
+    pub fn seg2_value(answer: *mut Value, buffer: *const u8, size: usize, length: usize, part: i32, key: *const u8, key_size: usize);
+    pub fn seg2_number(answer: *mut Number, buffer: *const u8, size: usize, length: usize, part: i32, key: *const u8, key_size: usize);
+    pub fn seg2_double(answer: *mut Double, buffer: *const u8, size: usize, length: usize, part: i32, key: *const u8, key_size: usize);
+    pub fn seg2_location(answer: *mut Location, buffer: *const u8, size: usize, length: usize, part: i32, key: *const u8, key_size: usize);
+    pub fn seg2_integers(buffer: *const u8, size: usize, length: usize, trace: i32, row: *mut i32, row_size: usize) -> Verdict;
+    pub fn seg2_bits(
+        buffer: *const u8,
+        size: usize,
+        length: usize,
+        trace: i32,
+        row: *mut u64,
+        row_size: usize,
+        classes: *mut u8,
+        classes_size: usize,
+    ) -> Verdict;
+    pub fn seg2_start(answer: *mut Length, buffer: *mut u8, size: usize, order: u32, slots: u32, sheet: *const u8, sheet_size: usize);
+    pub fn seg2_add_integers(
+        answer: *mut Length,
+        buffer: *mut u8,
+        size: usize,
+        length: usize,
+        sheet: *const u8,
+        sheet_size: usize,
+        code: u32,
+        row: *const i32,
+        row_size: usize,
+    );
+    pub fn seg2_add_bits(
+        answer: *mut Length,
+        buffer: *mut u8,
+        size: usize,
+        length: usize,
+        sheet: *const u8,
+        sheet_size: usize,
+        code: u32,
+        row: *const u64,
+        row_size: usize,
+    );
+}
