@@ -1,0 +1,13 @@
+pub mod Added
+pub mod TraceBytes
+pub mod Frame
+pub mod Grows
+pub mod Kept
+pub mod NewTrace
+pub mod Ends
+pub mod StillKeeps
+pub mod Answered
+pub mod StillRead
+pub mod ReadsLast
+pub mod Start
+pub mod AllBytes

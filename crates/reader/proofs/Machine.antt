@@ -1,0 +1,91 @@
+-- The machine's 32-bit patterns, read as signed numbers: a part number as it is tested, cast and handed on.
+-- Assumes nothing.
+use mathlib.Core.Path.{_≡_, refl, sym, ap, _∙_}
+use mathlib.Core.Bool.{Bool, true, false}
+use Prim.Native.Nat.{ℕ, zero, suc, _≤_, _<_}
+use native.Mathlib.Omega.{arith}
+use lib.IntN.{ℤ, pos, negsuc, natAbs}
+use lib.Dec.{T}
+use lib.Signed.{mag, ltZ, nonNeg}
+use borrow.Author.Tests.{ltb-true, lt-ltb, le-ltb}
+use mir.Syntax.{w32}
+use mir.Val.{toZ, ofZ, Fits}
+use mir.Facts.{toZ-ofZ}
+use Rattle.reader.specs.declared.Whose.the-variants.{Whole, One, Nobody}
+use Rattle.reader.specs.declared.StringAnswer.{StringAnswer}
+use Rattle.reader.specs.declared.StringAnswer.the-variants as string
+use Rattle.reader.specs.Questions.{whoseOf, onString}
+use Rattle.reader.proofs.StringAnswer.{the-type}
+use Rattle.refusal.specs.declared.Refusal.{Refusal}
+use types.Run.{OneOf}
+use denote.Enum.Declared.{tagOf}
+use mathlib.Core.List.{[], _∷_}
+use mathlib.Core.Logic.{⊎-elim}
+
+-- a number that fits, handed on
+crossed : (z : ℤ) → mag z < 2147483648 → toZ w32 (ofZ w32 z) ≡ z
+crossed z h = toZ-ofZ {w = w32} (record { sfits = h })
+
+-- what was answered of it was answered of the number itself
+pub handed : {A : Type 0} (g : ℤ → A) (z : ℤ) {r : A} → mag z < 2147483648 → r ≡ g (toZ w32 (ofZ w32 z)) → r ≡ g z
+handed g z h e = e ∙ ap g (crossed z h)
+
+sign : (z : ℤ) {b : Bool} → mag z < 2147483648 → ltZ (toZ w32 (ofZ w32 z)) (pos 0) ≡ b → ltZ z (pos 0) ≡ b
+sign z h e = ap (λ (y : ℤ). ltZ y (pos 0)) (sym (crossed z h)) ∙ e
+
+-- -1
+pub whole : (z : ℤ) (n : ℕ) → mag z < 2147483648 → ofZ w32 z ≡ 4294967295 → Whole ≡ whoseOf z n
+unfolding whoseOf
+whole (pos k) n h e = absurd (omega arith)
+whole (negsuc zero) n h e = refl
+whole (negsuc (suc k)) n h e = absurd (omega arith)
+
+-- below -1
+pub below : (z : ℤ) (n : ℕ) → mag z < 2147483648 → (ofZ w32 z ≡ 4294967295 → ⊥) → ltZ (toZ w32 (ofZ w32 z)) (pos 0) ≡ true → Nobody ≡ whoseOf z n
+unfolding whoseOf
+below z n h f t = go z f (sign z h t)
+  where
+    go : (y : ℤ) → (ofZ w32 y ≡ 4294967295 → ⊥) → ltZ y (pos 0) ≡ true → Nobody ≡ whoseOf y n
+    go (pos k) f t = let l : k < 0 = ltb-true k 0 t in absurd (omega arith)
+    go (negsuc zero) f t = absurd (f refl)
+    go (negsuc (suc k)) f t = refl
+
+-- 0 and above
+at-least : (z : ℤ) → mag z < 2147483648 → ltZ (toZ w32 (ofZ w32 z)) (pos 0) ≡ false → (k : ℕ) × (z ≡ pos k) × (k < 2147483648)
+at-least (pos k) h t = (k, refl, h)
+at-least (negsuc k) h t = let s = sign (negsuc k) h t in let y : _≡_ {A = ℕ} 0 1 = cc in absurd (omega arith)
+
+plain : (z : ℤ) (k : ℕ) → mag z < 2147483648 → z ≡ pos k → natAbs (toZ w32 (ofZ w32 z)) ≡ k
+plain z k h e = rw (crossed z h, e)
+
+pub casts : (z : ℤ) → mag z < 2147483648 → ltZ (toZ w32 (ofZ w32 z)) (pos 0) ≡ false
+    → T (nonNeg (toZ w32 (ofZ w32 z))) × Fits w32 (natAbs (toZ w32 (ofZ w32 z)))
+casts z h t = let a = at-least z h t in rw (crossed z h, a .1) (tt, record { fits = omega (arith, a .2) })
+
+-- among n, and past them
+among : (k n : ℕ) → k < n → One k ≡ whoseOf (pos k) n
+unfolding whoseOf
+among k n l = rw (lt-ltb k n l)
+
+none : (k n : ℕ) → n ≤ k → Nobody ≡ whoseOf (pos k) n
+unfolding whoseOf
+none k n l = rw (le-ltb k n l)
+
+pub one : (z : ℤ) (n : ℕ) → mag z < 2147483648 → ltZ (toZ w32 (ofZ w32 z)) (pos 0) ≡ false → natAbs (toZ w32 (ofZ w32 z)) < n
+    → One (natAbs (toZ w32 (ofZ w32 z))) ≡ whoseOf z n
+one z n h t l =
+    let a = at-least z h t in
+    let p = plain z (a .0) h (a .1) in
+    ap One p ∙ among (a .0) n (omega (arith, p, l)) ∙ ap (λ (y : ℤ). whoseOf y n) (sym (a .1))
+
+pub past : (z : ℤ) (n : ℕ) → mag z < 2147483648 → ltZ (toZ w32 (ofZ w32 z)) (pos 0) ≡ false → n ≤ natAbs (toZ w32 (ofZ w32 z)) → Nobody ≡ whoseOf z n
+past z n h t l =
+    let a = at-least z h t in
+    let p = plain z (a .0) h (a .1) in
+    none (a .0) n (omega (arith, p, l)) ∙ ap (λ (y : ℤ). whoseOf y n) (sym (a .1))
+
+-- a string that the test for a refusal has passed by
+pub answered : {A : Type 0} (bad : Refusal → A) (s : StringAnswer) → OneOf (0 ∷ 1 ∷ []) (tagOf the-type s) → (a : A) → onString bad s a ≡ a
+answered bad (string.There p) h a = refl
+answered bad string.Absent h a = refl
+answered bad (string.Refused r) h a = absurd (⊎-elim (λ e. omega (arith, e)) (λ e. omega (arith, e)) h)

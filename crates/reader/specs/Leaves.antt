@@ -1,0 +1,153 @@
+-- What the leaves of the questions answer, and that the questions are made of them.
+-- Assumes nothing.
+use mathlib.Core.Path.{_≡_, refl}
+use mathlib.Core.Bool.{Bool, true, false, not}
+use mathlib.Core.List.{List, [], _∷_}
+use Prim.Native.Nat.{ℕ, zero, suc, _+_, _-_, _≤_, _<_, _%_}
+use lib.IntN.{ℤ}
+use lib.ListN.{length, take}
+use lib.Dec.{eqb}
+use Rattle.word.specs.Part.{part}
+use Rattle.word.specs.Word.{wordAt}
+use Rattle.refusal.specs.declared.Rule.the-variants.{RowLength, CodeKind}
+use Rattle.refusal.specs.declared.Refusal.{Refusal}
+use Rattle.refusal.specs.declared.Verdict.{Verdict}
+use Rattle.refusal.specs.declared.Verdict.the-variants.{Accepted, Refused}
+use Rattle.refusal.specs.Rows.{first}
+use Rattle.text.specs.declared.Found.{Found}
+use Rattle.text.specs.Strings.{placesOf, nthOf, findOf}
+use Rattle.sample.specs.Needed.{needed}
+use Rattle.sample.specs.Run.{run}
+use Rattle.sample.specs.Sample.{sampleOf, patternOf, classOf}
+use Rattle.block.specs.declared.TraceBlock.{TraceBlock}
+use Rattle.block.specs.Head.{highFirst, roomOf, stringEnd, refused}
+use Rattle.block.specs.Image.{pointerOf, blockSize, checkOf}
+use Rattle.reader.specs.declared.Whose.the-variants.{Whole, One}
+use Rattle.reader.specs.declared.Area.{Area}
+use Rattle.reader.specs.declared.Area.the-variants.{Outside, From}
+use Rattle.reader.specs.declared.Opened.{Opened}
+use Rattle.reader.specs.declared.Opened.the-variants as opened
+use Rattle.reader.specs.declared.StringAnswer.{StringAnswer}
+use Rattle.reader.specs.declared.StringAnswer.the-variants as string
+use Rattle.reader.specs.declared.CountAnswer.the-variants as count
+use Rattle.reader.specs.Questions.{asked, noTrace, areaOf, areaAsked, onArea, placesIn, there, countAnswer, nthAnswer, findAnswer, ofIntegers, ofBits}
+
+-- ---- the area of a part, as it is read
+pub area-whole : (f : List ℕ) (h : Bool) (m p : ℕ) → h ≡ highFirst f → m ≡ wordAt 2 h f 4 → p ≡ pointerOf h f 0 → From (32 + m) p ≡ areaOf f Whole
+unfolding areaOf roomOf
+area-whole f h m p e w v = rw (← e, ← w, ← v)
+
+pub area-one : (f : List ℕ) (h : Bool) (k p b : ℕ) → h ≡ highFirst f → p ≡ pointerOf h f k → b ≡ wordAt 2 h f (p + 2) → From (p + 32) (p + b) ≡ areaOf f (One k)
+unfolding areaOf blockSize
+area-one f h k p b e v w = rw (← e, ← v, ← w)
+
+-- ---- strings: the check and the area of a part in one answer
+
+unfoldable pub openedOf : List ℕ → ℕ → ℤ → Opened
+openedOf xs n z = asked opened.Bad (checkOf false xs n) (onArea (areaAsked (take n xs) z) (opened.Bad noTrace) opened.From)
+
+abbrev pub onOpened : {A : Type 0} → Opened → (Refusal → A) → (ℕ → ℕ → A) → A
+onOpened (opened.Bad r) bad some = bad r
+onOpened (opened.From a e) bad some = some a e
+
+opened-asked : {A : Type 0} (v : Verdict) (w : Area) (bad : Refusal → A) (some : ℕ → ℕ → A)
+    → onOpened (asked opened.Bad v (onArea w (opened.Bad noTrace) opened.From)) bad some ≡ asked bad v (onArea w (bad noTrace) some)
+opened-asked (Refused r) w bad some = refl
+opened-asked Accepted Outside bad some = refl
+opened-asked Accepted (From a e) bad some = refl
+
+module _ (xs : List ℕ) (n : ℕ) (z : ℤ) where
+  pub count-opened : onOpened (openedOf xs n z) count.Refused (λ a e. count.Is (length (placesIn (take n xs) a e))) ≡ countAnswer xs n z
+  unfolding openedOf countAnswer
+  count-opened = opened-asked (checkOf false xs n) (areaAsked (take n xs) z) _ _
+
+  pub nth-opened : (i : ℕ) → onOpened (openedOf xs n z) string.Refused (λ a e. there (nthOf (placesIn (take n xs) a e) i)) ≡ nthAnswer xs n z i
+  unfolding openedOf nthAnswer
+  nth-opened i = opened-asked (checkOf false xs n) (areaAsked (take n xs) z) _ _
+
+  pub find-opened : (key : List ℕ)
+      → onOpened (openedOf xs n z) string.Refused (λ a e. there (findOf (take n xs) (placesIn (take n xs) a e) key)) ≡ findAnswer xs n z key
+  unfolding openedOf findAnswer
+  find-opened key = opened-asked (checkOf false xs n) (areaAsked (take n xs) z) _ _
+
+-- a law for each answer, with what the code has in hand
+placed : (f : List ℕ) (a e : ℕ) (h : Bool) (t : List ℕ) → h ≡ highFirst f → t ≡ stringEnd f → placesOf h t (part a e f) a ≡ placesIn f a e
+unfolding placesIn
+placed f a e h t p q = rw (p, q)
+
+module _ (xs : List ℕ) (n : ℕ) (z : ℤ) where
+  pub count-bad : (r : Refusal) → openedOf xs n z ≡ opened.Bad r → count.Refused r ≡ countAnswer xs n z
+  count-bad r o = rw (← count-opened xs n z, o)
+
+  pub nth-bad : (i : ℕ) (r : Refusal) → openedOf xs n z ≡ opened.Bad r → string.Refused r ≡ nthAnswer xs n z i
+  nth-bad i r o = rw (← nth-opened xs n z i, o)
+
+  pub find-bad : (key : List ℕ) (r : Refusal) → openedOf xs n z ≡ opened.Bad r → string.Refused r ≡ findAnswer xs n z key
+  find-bad key r o = rw (← find-opened xs n z key, o)
+
+  module _ (a e : ℕ) (h : Bool) (t : List ℕ) (o : openedOf xs n z ≡ opened.From a e) (p : h ≡ highFirst (take n xs)) (q : t ≡ stringEnd (take n xs)) where
+    pub count-told : (c : ℕ) → c ≡ length (placesOf h t (part a e (take n xs)) a) → count.Is c ≡ countAnswer xs n z
+    count-told c s = rw (← count-opened xs n z, o, s, placed (take n xs) a e h t p q)
+
+    pub nth-told : (i : ℕ) (s : Found) (r : StringAnswer) → s ≡ nthOf (placesOf h t (part a e (take n xs)) a) i → r ≡ there s → r ≡ nthAnswer xs n z i
+    nth-told i s r w v = rw (← nth-opened xs n z i, o, v, w, placed (take n xs) a e h t p q)
+
+    pub find-told : (key : List ℕ) (s : Found) (r : StringAnswer) → s ≡ findOf (take n xs) (placesOf h t (part a e (take n xs)) a) key → r ≡ there s
+        → r ≡ findAnswer xs n z key
+    find-told key s r w v = rw (← find-opened xs n z key, o, v, w, placed (take n xs) a e h t p q)
+
+-- a string that was found ends within so many bytes
+abbrev pub Within : ℕ → StringAnswer → Type 0
+Within n (string.There s) = (s .key ≤ s .gap) × (s .gap ≤ s .value) × (s .value ≤ s .end) × (s .end ≤ n)
+Within n string.Absent = Unit {0}
+Within n (string.Refused r) = Unit {0}
+
+-- ---- samples of the trace whose block is t
+
+-- what the check has shown of t
+pub record Fits (n : ℕ) (t : TraceBlock) : Type 0 where
+  pub inside : t .p + t .b + t .d ≤ n
+  pub most : n ≤ 67108864
+  pub groups : t .code ≡ 3 → t .s % 4 ≡ 0
+  pub samples : needed (t .code) (t .s) ≤ t .d
+
+-- a code that is none of those
+pub integers-none : (code : ℕ) → (code ≡ 1 → ⊥) → (code ≡ 2 → ⊥) → (code ≡ 3 → ⊥) → false ≡ ofIntegers code
+integers-none zero a b c = refl
+integers-none (suc zero) a b c = absurd (a refl)
+integers-none (suc (suc zero)) a b c = absurd (b refl)
+integers-none (suc (suc (suc zero))) a b c = absurd (c refl)
+integers-none (suc (suc (suc (suc zero)))) a b c = refl
+integers-none (suc (suc (suc (suc (suc zero))))) a b c = refl
+integers-none (suc (suc (suc (suc (suc (suc k)))))) a b c = refl
+
+pub bits-none : (code : ℕ) → (code ≡ 4 → ⊥) → (code ≡ 5 → ⊥) → false ≡ ofBits code
+bits-none zero a b = refl
+bits-none (suc zero) a b = refl
+bits-none (suc (suc zero)) a b = refl
+bits-none (suc (suc (suc zero))) a b = refl
+bits-none (suc (suc (suc (suc zero)))) a b = absurd (a refl)
+bits-none (suc (suc (suc (suc (suc zero))))) a b = absurd (b refl)
+bits-none (suc (suc (suc (suc (suc (suc k)))))) a b = refl
+
+-- "Data occupies D bytes from p+B"
+abbrev pub dataTold : List ℕ → TraceBlock → List ℕ
+dataTold f t = part (t .p + t .b) (t .p + t .b + t .d) f
+
+unfoldable pub integersTold : TraceBlock → ℕ → Verdict
+integersTold t s = first ((not (ofIntegers (t .code)), refused CodeKind 0) ∷ (not (eqb s (t .s)), refused RowLength 0) ∷ []) Accepted
+
+unfoldable pub bitsTold : TraceBlock → ℕ → ℕ → Verdict
+bitsTold t s c =
+    first
+    ((not (ofBits (t .code)), refused CodeKind 0) ∷ (not (eqb s (t .s)), refused RowLength 0) ∷ (not (eqb c (t .s)), refused RowLength 0) ∷ [])
+    Accepted
+
+unfoldable pub samplesTold : List ℕ → TraceBlock → List ℤ
+samplesTold f t = run (sampleOf (t .code) (highFirst f) (dataTold f t)) 0 (t .s)
+
+unfoldable pub patternsTold : List ℕ → TraceBlock → List ℕ
+patternsTold f t = run (patternOf (t .code) (highFirst f) (dataTold f t)) 0 (t .s)
+
+unfoldable pub classesTold : List ℕ → TraceBlock → List ℕ
+classesTold f t = run (λ i. classOf (t .code) (patternOf (t .code) (highFirst f) (dataTold f t) i)) 0 (t .s)

@@ -1,0 +1,406 @@
+// The questions on a file: blocks, strings, keywords, numbers in values, samples (document 01, rows 18, 32, 33). Every question checks the whole
+// file first; its answer is one of the image, the first `length` bytes of the lent buffer. A part is -1 for the file, else the trace.
+use block::TraceBlock;
+use decimal::DoubleAnswer;
+use decimal::LocationAnswer;
+use decimal::NumberAnswer;
+use refusal::Part;
+use refusal::Refusal;
+use refusal::Rule;
+use refusal::Verdict;
+use text::Found;
+use text::Place;
+ghost use mathlib.Core.Path.{_≡_};
+ghost use mathlib.Core.Bool.{false};
+ghost use Prim.Native.Nat.{_≤_};
+ghost use lib.ListN.{length};
+ghost use Rattle.refusal.specs.declared.Verdict.the-variants.{Accepted};
+ghost use Rattle.block.specs.Head.{countOf, refused};
+ghost use Rattle.block.specs.Image.{imageOf};
+ghost use Rattle.reader.specs.Questions.{noTrace, areaAsked, fileAnswer, traceAnswer, countAnswer, nthAnswer, findAnswer, keywordAnswer, valueThere, valueAnswer, numberAnswer, doubleAnswer, locationAnswer, ofIntegers, ofBits, kept, integersAnswer, integersLeft, bitsAnswer, patternsLeft, classesLeft, whoseOf};
+ghost use Rattle.reader.specs.Leaves.{openedOf, Within, Fits, integersTold, samplesTold, bitsTold, patternsTold, classesTold};
+
+// Whom a part number names.
+pub enum Whose {
+    Whole,
+    One(u16),
+    Nobody,
+}
+
+// The bytes that the strings of a part stand in.
+pub enum Area {
+    Outside,
+    From(usize, usize),
+}
+
+// The byte order, M, N, and the lengths of the string terminator (its characters stand from byte 9 on) and of the line terminator (from 12 on).
+pub struct FileFacts {
+    pub high: bool,
+    pub m: usize,
+    pub n: usize,
+    pub strings: usize,
+    pub lines: usize,
+}
+
+pub enum FileAnswer {
+    Is(FileFacts),
+    Refused(Refusal),
+}
+
+pub enum TraceAnswer {
+    Is(TraceBlock),
+    Refused(Refusal),
+}
+
+pub enum CountAnswer {
+    Is(usize),
+    Refused(Refusal),
+}
+
+// Where a string stands in the file; or that there is none; or the refusal.
+pub enum StringAnswer {
+    There(Place),
+    Absent,
+    Refused(Refusal),
+}
+
+pub enum KeywordAnswer {
+    Yes,
+    No,
+    Refused(Refusal),
+}
+
+// ---- whom and which bytes a question is about
+
+// Whom a part number names among n traces: -1 the file, 0 to n-1 a trace.
+pub fn named(part: i32, n: u16) -> Whose
+    ensures { λ r. ⌜ r ≡ whoseOf part n ⌝ }
+{
+    if part == -1 {
+        return Whose::Whole;
+    }
+    if part < 0 {
+        return Whose::Nobody;
+    }
+    let k = part as u32;
+    if k < n as u32 {
+        return Whose::One(k as u16);
+    }
+    Whose::Nobody
+}
+
+fn whose_in(f: &[u8], part: i32) -> Whose
+    requires { ⌜ 32 ≤ length (now f) ⌝ }
+    ensures { λ r. ⌜ r ≡ whoseOf part (countOf (now (f .entry))) ⌝ }
+{
+    let n = word::word2(f, block::is_high(f), 6);
+    named(part, n as u16)
+}
+
+// Row 18.
+fn no_trace() -> Refusal
+    ensures { λ r. ⌜ r ≡ noTrace ⌝ }
+{
+    Refusal {
+        rule: Rule::NoTrace,
+        part: Part::File,
+        place: 0,
+    }
+}
+
+// Where the strings of a part of an accepted image stand.
+fn area_of(f: &[u8], part: i32) -> Area
+    requires { ⌜ (32 ≤ length (now f)) × (imageOf false (now f) ≡ Accepted) ⌝ }
+    ensures { λ r. ⌜ r ≡ areaAsked (now (f .entry)) part ⌝ }
+{
+    let high = block::is_high(f);
+    let w = whose_in(f, part);
+    match w {
+        Whose::Nobody => Area::Outside,
+        Whose::Whole => Area::From(32 + word::word2(f, high, 4), block::pointer(f, high, 0)),
+        Whose::One(k) => {
+            let p = block::pointer(f, high, k);
+            Area::From(p + 32, p + word::word2(f, high, p + 2))
+        }
+    }
+}
+
+// The check, then where the strings of a part stand; or the refusal of either.
+enum Opened {
+    From(usize, usize),
+    Bad(Refusal),
+}
+
+fn open_area(buffer: &[u8], length: usize, part: i32) -> Opened
+    ensures { λ r. ⌜ r ≡ openedOf (now (buffer .entry)) length part ⌝ }
+{
+    let v = block::check(buffer, length, false);
+    if let Verdict::Refused(r) = v {
+        return Opened::Bad(r);
+    }
+    let w = area_of(&buffer[..length], part);
+    match w {
+        Area::Outside => Opened::Bad(no_trace()),
+        Area::From(a, e) => Opened::From(a, e),
+    }
+}
+
+// ---- blocks
+
+pub fn file_block(buffer: &[u8], length: usize) -> FileAnswer
+    ensures { λ r. ⌜ r ≡ fileAnswer (now (buffer .entry)) length ⌝ }
+{
+    let v = block::check(buffer, length, false);
+    if let Verdict::Refused(r) = v {
+        return FileAnswer::Refused(r);
+    }
+    let f = &buffer[..length];
+    let b = block::file_block(f);
+    let high = b.high;
+    let m = b.m;
+    let n = b.n;
+    FileAnswer::Is(FileFacts {
+        high,
+        m,
+        n,
+        strings: word::wide(f[8]),
+        lines: word::wide(f[11]),
+    })
+}
+
+pub fn trace_block(buffer: &[u8], length: usize, trace: i32) -> TraceAnswer
+    ensures { λ r. ⌜ r ≡ traceAnswer (now (buffer .entry)) length trace ⌝ }
+{
+    let v = block::check(buffer, length, false);
+    if let Verdict::Refused(r) = v {
+        return TraceAnswer::Refused(r);
+    }
+    let f = &buffer[..length];
+    let w = whose_in(f, trace);
+    match w {
+        Whose::One(k) => TraceAnswer::Is(block::trace_block(f, block::is_high(f), k)),
+        Whose::Whole => TraceAnswer::Refused(no_trace()),
+        Whose::Nobody => TraceAnswer::Refused(no_trace()),
+    }
+}
+
+// ---- strings
+
+// How many strings a part has.
+pub fn string_count(buffer: &[u8], length: usize, part: i32) -> CountAnswer
+    ensures { λ r. ⌜ r ≡ countAnswer (now (buffer .entry)) length part ⌝ }
+{
+    let o = open_area(buffer, length, part);
+    match o {
+        Opened::Bad(r) => CountAnswer::Refused(r),
+        Opened::From(a, e) => {
+            let f = &buffer[..length];
+            CountAnswer::Is(text::count(f, a, e, block::is_high(f), block::terminator(f, 8)))
+        }
+    }
+}
+
+fn there(s: Found) -> StringAnswer
+    ensures { λ r. ⌜ r ≡ Rattle.reader.specs.Questions.there s ⌝ }
+{
+    match s {
+        Found::Nothing => StringAnswer::Absent,
+        Found::Is(p) => StringAnswer::There(p),
+    }
+}
+
+// The i-th string of a part, counted from 0; past the last there is none.
+pub fn string(buffer: &[u8], length: usize, part: i32, i: usize) -> StringAnswer
+    ensures { λ r. ⌜ r ≡ nthAnswer (now (buffer .entry)) length part i ⌝ }
+{
+    let o = open_area(buffer, length, part);
+    match o {
+        Opened::Bad(r) => StringAnswer::Refused(r),
+        Opened::From(a, e) => {
+            let f = &buffer[..length];
+            there(text::nth(f, a, e, block::is_high(f), block::terminator(f, 8), i))
+        }
+    }
+}
+
+// The string with a keyword. Any bytes may be asked for.
+pub fn find(buffer: &[u8], length: usize, part: i32, key: &[u8]) -> StringAnswer
+    ensures { λ r. ⌜ r ≡ findAnswer (now (buffer .entry)) length part (now (key .entry)) ⌝ }
+{
+    let o = open_area(buffer, length, part);
+    match o {
+        Opened::Bad(r) => StringAnswer::Refused(r),
+        Opened::From(a, e) => {
+            let f = &buffer[..length];
+            there(text::find(f, a, e, block::is_high(f), block::terminator(f, 8), key))
+        }
+    }
+}
+
+// "A keyword question is two calls: one answers yes, no or the refusal".
+pub fn keyword(buffer: &[u8], length: usize, part: i32, key: &[u8]) -> KeywordAnswer
+    ensures { λ r. ⌜ r ≡ keywordAnswer (now (buffer .entry)) length part (now (key .entry)) ⌝ }
+{
+    let s = find(buffer, length, part, key);
+    match s {
+        StringAnswer::There(_) => KeywordAnswer::Yes,
+        StringAnswer::Absent => KeywordAnswer::No,
+        StringAnswer::Refused(r) => KeywordAnswer::Refused(r),
+    }
+}
+
+// The value of a string that was found, as the caller's own bytes; else the empty part at the start.
+fn value_at<'a>(buffer: &'a [u8], s: StringAnswer) -> &'a [u8]
+    requires { ⌜ Within (length (now buffer)) s ⌝ }
+    ensures { λ r. ⌜ now r ≡ valueThere (now (buffer .entry)) s ⌝ }
+{
+    match s {
+        StringAnswer::There(p) => {
+            let from = p.value;
+            let to = p.end;
+            &buffer[from..to]
+        }
+        StringAnswer::Absent => &buffer[..0],
+        StringAnswer::Refused(_) => &buffer[..0],
+    }
+}
+
+// "the other answers the value as the caller's own bytes, not a copy, and for a no or a refusal the empty part".
+pub fn value<'a>(buffer: &'a [u8], length: usize, part: i32, key: &[u8]) -> &'a [u8]
+    ensures { λ r. ⌜ now r ≡ valueAnswer (now (buffer .entry)) length part (now (key .entry)) ⌝ }
+{
+    value_at(buffer, find(buffer, length, part, key))
+}
+
+// ---- numbers in values; an absent keyword has the empty value, which is no number and no location
+
+pub fn number(buffer: &[u8], length: usize, part: i32, key: &[u8]) -> NumberAnswer
+    ensures { λ r. ⌜ r ≡ numberAnswer (now (buffer .entry)) length part (now (key .entry)) ⌝ }
+{
+    let s = find(buffer, length, part, key);
+    if let StringAnswer::Refused(r) = s {
+        return NumberAnswer::Refused(r);
+    }
+    decimal::number(value_at(buffer, s))
+}
+
+pub fn double(buffer: &[u8], length: usize, part: i32, key: &[u8]) -> DoubleAnswer
+    ensures { λ r. ⌜ r ≡ doubleAnswer (now (buffer .entry)) length part (now (key .entry)) ⌝ }
+{
+    let s = find(buffer, length, part, key);
+    if let StringAnswer::Refused(r) = s {
+        return DoubleAnswer::Refused(r);
+    }
+    decimal::double(value_at(buffer, s))
+}
+
+pub fn location(buffer: &[u8], length: usize, part: i32, key: &[u8]) -> LocationAnswer
+    ensures { λ r. ⌜ r ≡ locationAnswer (now (buffer .entry)) length part (now (key .entry)) ⌝ }
+{
+    let s = find(buffer, length, part, key);
+    if let StringAnswer::Refused(r) = s {
+        return LocationAnswer::Refused(r);
+    }
+    decimal::location(value_at(buffer, s))
+}
+
+// ---- samples: rows 18, 33 and 32 in that order; then the data block alone, out of the middle of the file, is handed to the decoder
+
+fn is_integers(code: u8) -> bool
+    ensures { λ r. ⌜ r ≡ ofIntegers code ⌝ }
+{
+    match code {
+        1 => true,
+        2 => true,
+        3 => true,
+        _ => false,
+    }
+}
+
+fn is_bits(code: u8) -> bool
+    ensures { λ r. ⌜ r ≡ ofBits code ⌝ }
+{
+    match code {
+        4 => true,
+        5 => true,
+        _ => false,
+    }
+}
+
+fn refusing(rule: Rule) -> Verdict
+    ensures { λ r. ⌜ r ≡ refused rule 0 ⌝ }
+{
+    Verdict::Refused(Refusal {
+        rule,
+        part: Part::File,
+        place: 0,
+    })
+}
+
+// The samples of the trace whose block is t, of an accepted image.
+fn integers_of(f: &[u8], t: TraceBlock, row: &mut [i32]) -> Verdict
+    requires { ⌜ (2 ≤ length (now f)) × Fits (length (now f)) t ⌝ }
+    ensures answer { λ r. ⌜ r ≡ integersTold t (length (now (row .entry))) ⌝ }
+    ensures row { λ _. ⌜ now (row .exit) ≡ kept (integersTold t (length (now (row .entry)))) (samplesTold (now (f .entry)) t) (now (row .entry)) ⌝ }
+{
+    let code = t.code;
+    let s = t.s;
+    if !is_integers(code) {
+        return refusing(Rule::CodeKind);
+    }
+    if row.len() != s {
+        return refusing(Rule::RowLength);
+    }
+    let p = t.p;
+    let b = t.b;
+    let d = t.d;
+    sample::read_integers(code, &f[p + b..p + b + d], block::is_high(f), row);
+    Verdict::Accepted
+}
+
+pub fn integers(buffer: &[u8], length: usize, trace: i32, row: &mut [i32]) -> Verdict
+    ensures answer { λ r. ⌜ r ≡ integersAnswer (now (buffer .entry)) length trace (lib.ListN.length (now (row .entry))) ⌝ }
+    ensures row { λ _. ⌜ now (row .exit) ≡ integersLeft (now (buffer .entry)) length trace (now (row .entry)) ⌝ }
+{
+    let a = trace_block(buffer, length, trace);
+    match a {
+        TraceAnswer::Refused(r) => Verdict::Refused(r),
+        TraceAnswer::Is(t) => integers_of(&buffer[..length], t, row),
+    }
+}
+
+fn bits_of(f: &[u8], t: TraceBlock, row: &mut [u64], classes: &mut [u8]) -> Verdict
+    requires { ⌜ (2 ≤ length (now f)) × Fits (length (now f)) t ⌝ }
+    ensures answer { λ r. ⌜ r ≡ bitsTold t (length (now (row .entry))) (length (now (classes .entry))) ⌝ }
+    ensures row { λ _. ⌜ now (row .exit) ≡ kept (bitsTold t (length (now (row .entry))) (length (now (classes .entry)))) (patternsTold (now (f .entry)) t) (now (row .entry)) ⌝ }
+    ensures classes { λ _. ⌜ now (classes .exit) ≡ kept (bitsTold t (length (now (row .entry))) (length (now (classes .entry)))) (classesTold (now (f .entry)) t) (now (classes .entry)) ⌝ }
+{
+    let code = t.code;
+    let s = t.s;
+    if !is_bits(code) {
+        return refusing(Rule::CodeKind);
+    }
+    if row.len() != s {
+        return refusing(Rule::RowLength);
+    }
+    if classes.len() != s {
+        return refusing(Rule::RowLength);
+    }
+    let p = t.p;
+    let b = t.b;
+    let d = t.d;
+    sample::read_bits(code, &f[p + b..p + b + d], block::is_high(f), row, classes);
+    Verdict::Accepted
+}
+
+pub fn bits(buffer: &[u8], length: usize, trace: i32, row: &mut [u64], classes: &mut [u8]) -> Verdict
+    ensures answer { λ r. ⌜ r ≡ bitsAnswer (now (buffer .entry)) length trace (lib.ListN.length (now (row .entry))) (lib.ListN.length (now (classes .entry))) ⌝ }
+    ensures row { λ _. ⌜ now (row .exit) ≡ patternsLeft (now (buffer .entry)) length trace (now (row .entry)) (now (classes .entry)) ⌝ }
+    ensures classes { λ _. ⌜ now (classes .exit) ≡ classesLeft (now (buffer .entry)) length trace (now (row .entry)) (now (classes .entry)) ⌝ }
+{
+    let a = trace_block(buffer, length, trace);
+    match a {
+        TraceAnswer::Refused(r) => Verdict::Refused(r),
+        TraceAnswer::Is(t) => bits_of(&buffer[..length], t, row, classes),
+    }
+}
