@@ -3,7 +3,7 @@
 use mathlib.Core.Path.{_≡_, refl}
 use mathlib.Core.Bool.{Bool, true, false}
 use mathlib.Core.List.{List, [], _∷_, _++_}
-use Prim.Native.Nat.{ℕ, zero, suc, _+_, _-_, _*_, _^_, _≤_, _<_}
+use Prim.Native.Nat.{ℕ, zero, suc, _-_, _*_, _^_, _≤_, _<_}
 use native.Mathlib.Nat.{lt-of-not-le}
 use native.Mathlib.Decide.{decLe}
 use native.Mathlib.Omega.{arith}
@@ -28,10 +28,10 @@ use Rattle.sheet.specs.Spelling.{among, Terminators, terminators-end, area-spel
 use Rattle.block.specs.Head.{control, highFirst, stringEnd, lineEnd}
 use Rattle.writer.specs.Layout.{Trace, Samples, Samples.integers, Samples.patterns, count, fitting, samplesData, orderMark, plainEnds, nul, lineFeed, fileBlock, startImage, traceBlock, blockBytes, dataBytes, traceBytes}
 use Rattle.writer.specs.Answers.{newBytes, grown}
-use Rattle.growth.specs.Added.{Added, Started}
+use Rattle.writer.specs.Shown.{Added, Started}
 use Rattle.growth.specs.Frame.{put-bytes, grown-bytes}
 use Rattle.growth.specs.Grows.{Grows, grown-grows}
-use Rattle.growth.specs.NewTrace.{never, kinded}
+use Rattle.writer.specs.LayoutLaws.{never, kinded}
 use Rattle.growth.specs.Ends.{keeps-terminators}
 
 -- ---- characters

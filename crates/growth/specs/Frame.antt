@@ -1,11 +1,11 @@
 -- What an addition leaves in the lent buffer: "This and every other writer leave the bytes past what they write" (document 01, "What we write"). Only N's two
 -- bytes, the four of slot N, and those from the old end to the new end may differ.
 -- Assumes nothing.
-use mathlib.Core.Path.{_≡_, refl, sym, ap, _∙_}
-use mathlib.Core.Bool.{Bool, true, false}
+use mathlib.Core.Path.{_≡_, sym, ap, _∙_}
+use mathlib.Core.Bool.{Bool, true}
 use mathlib.Core.List.{List, [], _∷_, _++_}
 use mathlib.Core.Logic.{_⊎_, ⊎-elim}
-use Prim.Native.Nat.{ℕ, zero, suc, _+_, _-_, _*_, _≤_, _<_}
+use Prim.Native.Nat.{ℕ, zero, suc, _+_, _*_, _≤_, _<_}
 use native.Mathlib.Omega.{arith}
 use lib.ListN.{length, getD, take, drop, set}
 use lib.Seq.{length-take-le, getD-take, getD-drop}
@@ -15,20 +15,11 @@ use Rattle.word.specs.Put.{put, length-put, drop-put-after, take-put, take-put-
 use Rattle.word.specs.Round.{round4}
 use Rattle.word.specs.Word.{wordAt, bytesOf}
 use Rattle.word.specs.WordLaws.{length-bytesOf, bytesOf-bytes, word-small, word-put, word-put-after}
-use Rattle.refusal.specs.declared.Refusal.{Refusal}
-use Rattle.refusal.specs.Rows.{pick}
-use Rattle.refusal.specs.declared.Rule.the-variants.{Length}
-use Rattle.refusal.specs.declared.Verdict.the-variants.{Accepted}
-use Rattle.block.specs.Head.{highFirst, roomOf, countOf, refused}
-use Rattle.block.specs.HeadLaws.{Headed}
-use Rattle.block.specs.Image.{imageOf, badLength, checkOf}
-use Rattle.block.specs.ImageLaws.{refused-not, long-enough}
-use Rattle.block.specs.Accepted.{image-headed}
+use Rattle.block.specs.Head.{highFirst, roomOf, countOf}
 use Rattle.writer.specs.Layout.{Trace}
-use Rattle.writer.specs.declared.Written.the-variants.{To, Refused}
-use Rattle.writer.specs.Answers.{newBytes, addAnswer, addLeft, grown}
-use Rattle.growth.specs.Added.{Added}
-use Rattle.growth.specs.TraceBytes.{length-newBytes}
+use Rattle.writer.specs.Answers.{newBytes, grown}
+use Rattle.writer.specs.Shown.{placed, Added}
+use Rattle.writer.specs.LayoutLaws.{length-newBytes}
 
 -- ---- one store, byte by byte
 
@@ -125,16 +116,6 @@ module _ (high : Bool) (xs new : List ℕ) (n k at c : ℕ) (apart : 36 + 4 * k 
       ∙ ⊎-elim (λ h. byte-before new xs n i h) (λ h. byte-after new xs n i h) r
 
 -- ---- an addition
-
--- what row 1 and rows 2 to 7 have shown
-pub placed : (grow : Bool) (xs : List ℕ) (n : ℕ) → checkOf grow xs n ≡ Accepted → ((32 ≤ n) × (n ≤ 67108864) × (n ≤ length xs)) × Headed grow (take n xs)
-unfolding checkOf
-placed grow xs n e = go (badLength (length xs) n) refl e
-  where
-    go : (w : Bool) → badLength (length xs) n ≡ w → pick w (refused Length 0) (imageOf grow (take n xs)) ≡ Accepted
-        → ((32 ≤ n) × (n ≤ 67108864) × (n ≤ length xs)) × Headed grow (take n xs)
-    go true q h = absurd (refused-not _ h)
-    go false q h = (long-enough (length xs) n q, image-headed grow (take n xs) h)
 
 -- where the three stores lie: the count, the free slot, which ends within the pointer room, and the free end of the buffer
 pub record Lies (xs : List ℕ) (n : ℕ) (x : Trace) (end : ℕ) : Type 0 where
@@ -240,12 +221,3 @@ module _ {xs : List ℕ} {n : ℕ} {x : Trace} {end : ℕ} (h : Added xs n x end
       let w : take end (put xs n new) ≡ f ++ new = rw (l .ends) at (take-put-end new xs n (omega (arith, l .ends, h .in-buffer))) in
       take-put end c (put (put xs n new) (32 + 4 * countOf f) p) 6
       ∙ ap (λ (r : List ℕ). put r 6 c) (take-put end p (put xs n new) (32 + 4 * countOf f) ∙ ap (λ (r : List ℕ). put r (32 + 4 * countOf f) p) w)
-
--- the lent buffer at the end: grown where a length is answered, and "a refusal .. changes no caller's memory"
-pub left-added : (xs : List ℕ) (n : ℕ) (x : Trace) (end : ℕ) → addAnswer xs n x ≡ To end → addLeft xs n x ≡ grown xs n x
-unfolding addLeft
-left-added xs n x end e = rw e
-
-pub left-refused : (xs : List ℕ) (n : ℕ) (x : Trace) (r : Refusal) → addAnswer xs n x ≡ Refused r → addLeft xs n x ≡ xs
-unfolding addLeft
-left-refused xs n x r e = rw e

@@ -22,7 +22,7 @@ use Rattle.block.specs.Keeps.{Keeps}
 use Rattle.block.specs.Accepted.{accepted-keeps}
 use Rattle.writer.specs.Layout.{Trace, fitting, unfit, traceSize, traceBytes}
 use Rattle.writer.specs.Answers.{newBytes, newLength, grown}
-use Rattle.growth.specs.Added.{Added}
+use Rattle.writer.specs.Shown.{Added}
 use Rattle.growth.specs.Frame.{lies, length-grown, grown-front, grown-middle, grown-rest, grown-new, grown-count, grown-pointer}
 
 pub record Grows (f g : List ℕ) (x : Trace) : Type 0 where

@@ -1,5 +1,3 @@
-pub mod Added
-pub mod TraceBytes
 pub mod Frame
 pub mod Grows
 pub mod Kept
@@ -9,5 +7,4 @@ pub mod StillKeeps
 pub mod Answered
 pub mod StillRead
 pub mod ReadsLast
-pub mod Start
 pub mod AllBytes

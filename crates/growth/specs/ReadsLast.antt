@@ -34,11 +34,12 @@ use Rattle.reader.specs.Questions.{whoseOf, areaOf, areaAsked, traceAnswer, dat
 use Rattle.writer.specs.Layout.{Trace, Samples.integers, Samples.patterns, fitting, unfit, samplesData, blockBytes, dataBytes}
 use Rattle.writer.specs.Layout as layout
 use Rattle.writer.specs.Answers.{grown}
-use Rattle.growth.specs.Added.{Added}
+use Rattle.writer.specs.Shown.{Added}
 use Rattle.growth.specs.Frame.{lies}
 use Rattle.growth.specs.Grows.{Grows, grown-grows}
 use Rattle.growth.specs.Kept.{high-kept, count-grown}
-use Rattle.growth.specs.NewTrace.{never, has-new}
+use Rattle.writer.specs.LayoutLaws.{never}
+use Rattle.growth.specs.NewTrace.{has-new}
 use Rattle.growth.specs.StillKeeps.{new-spelled, grown-accepted}
 use Rattle.growth.specs.Answered.{AnswersBy, answered}
 

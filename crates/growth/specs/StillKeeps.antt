@@ -26,11 +26,12 @@ use Rattle.block.specs.Keeps.{traceAt, endBefore, stringsEnd, KeepsTrace, Keeps
 use Rattle.block.specs.Accepted.{keeps-accepted}
 use Rattle.writer.specs.Layout.{Trace, count}
 use Rattle.writer.specs.Answers.{grown}
-use Rattle.growth.specs.Added.{Added}
+use Rattle.writer.specs.Shown.{Added}
 use Rattle.growth.specs.Frame.{length-grown}
 use Rattle.growth.specs.Grows.{Grows, grown-grows}
 use Rattle.growth.specs.Kept.{longer, low-kept, second-kept, high-kept, revision-kept, room-kept, count-grown, size-kept, string-end-kept, line-end-kept, trace-at-kept, trace-at-new, part-kept, trace-kept}
-use Rattle.growth.specs.NewTrace.{kinded, room-enough, has-new}
+use Rattle.writer.specs.LayoutLaws.{kinded, room-enough}
+use Rattle.growth.specs.NewTrace.{has-new}
 use Rattle.growth.specs.Ends.{keeps-line-end}
 
 -- ---- more bytes behind an area that spells strings are ignored, as "what follows in the area is ignored"

@@ -16,36 +16,30 @@ use Rattle.word.specs.Round.{round4}
 use Rattle.word.specs.Word.{bytesOf}
 use Rattle.word.specs.WordLaws.{length-bytesOf, word-small}
 use Rattle.word.specs.Bytes.{Bytes, bytes-take}
-use Rattle.refusal.specs.Rows.{pick}
 use Rattle.refusal.specs.Table.{refusal}
 use Rattle.refusal.specs.declared.Refusal.{Refusal}
 use Rattle.refusal.specs.declared.Rule.the-variants.{NoSlot, EntryCode, NoRoom, StartValues}
 use Rattle.refusal.specs.declared.Part.the-variants.{File}
-use Rattle.refusal.specs.declared.Verdict.{Verdict}
 use Rattle.refusal.specs.declared.Verdict.the-variants as verdict
-use Rattle.sample.specs.declared.Fit.{Fit}
-use Rattle.sample.specs.declared.Fit.the-variants.{All, At}
+use Rattle.sample.specs.declared.Fit.the-variants.{All}
 use Rattle.sample.specs.Needed.{needed, room}
 use Rattle.sample.specs.Sample.{integersAsked, bitsAsked}
 use Rattle.sample.specs.Unfit.{unfitIntegers, unfitPatterns}
 use Rattle.sample.specs.Write.{integersData, bitsData}
-use Rattle.sheet.specs.declared.Measured.{Measured}
 use Rattle.sheet.specs.declared.Measured.the-variants as measured
 use Rattle.sheet.specs.Area.{areaOf, areaSize, measuredOf}
 use Rattle.sheet.specs.Sizes.{length-area}
 use Rattle.sheet.specs.Spelling.{measured-size}
 use Rattle.block.specs.Head.{highFirst, roomOf, countOf, terminatorAt, stringEnd, lineEnd, goodTerminator}
 use Rattle.block.specs.HeadLaws.{good-most, neither}
-use Rattle.block.specs.Image.{imageOf, badLength, checkOf, fileBlockOf}
+use Rattle.block.specs.Image.{checkOf, fileBlockOf}
 use Rattle.block.specs.declared.FileBlock.{FileBlock}
-use Rattle.block.specs.ImageLaws.{long-enough}
-use Rattle.block.specs.Accepted.{image-headed}
 use Rattle.writer.specs.declared.Written.{Written}
 use Rattle.writer.specs.declared.Written.the-variants.{To, Refused}
 use Rattle.writer.specs.Layout.{orderMark, plainEnds, nul, lineFeed, fileBlock, startImage, startSize, Trace, Samples, integers, patterns, ofIntegers, ofPatterns, count, fitting, unfit, samplesData, traceBlock, dataBytes, traceSize, traceBytes}
 use Rattle.writer.specs.LayoutLaws.{length-mark, length-fileBlock, length-traceBlock, kinded, room-enough}
 use Rattle.writer.specs.Shown.{placed, opened, samples-fit}
-use Rattle.writer.specs.Answers.{refuse, within, onWritten, badStart, startAnswer, startLeft, onVerdict, noSlot, openedOf, onFit, samplesOf, newLength, addAnswer, newBytes, grown, addLeft}
+use Rattle.writer.specs.Answers.{refuse, within, onWritten, badStart, startAnswer, startLeft, openedOf, onFit, samplesOf, newLength, addAnswer, newBytes, grown, addLeft}
 
 -- ---- a start
 
