@@ -176,13 +176,10 @@ module _ {xs : List ℕ} {n : ℕ} {x : Trace} {end : ℕ} (by : Bytes xs) (h : 
   pub strings-answers-last : AnswersBy (grown xs n x) end (pos (countOf (take n xs))) (stringsOf (lineEnd (take n xs)) (x .sheet))
   strings-answers-last =
       let w = grown-grows by h in
-      let s = has-new w in
       let f : List ℕ = take n xs in
       let g : List ℕ = take end (grown xs n x) in
-      let a : ℕ = traceAt g (countOf f) + 32 in
-      let e : ℕ = dataAt (highFirst g) g (traceAt g (countOf f)) in
-      answered (grown xs n x) end (pos (countOf f)) a e (stringsOf (lineEnd f) (x .sheet)) taken (last-area w)
-      (omega (arith, s .at, s .begins)) (omega (arith, s .begins, w .size)) (new-spelled w)
+      answered (grown xs n x) end (pos (countOf f)) (stringsOf (lineEnd f) (x .sheet)) taken
+      (record { a = traceAt g (countOf f) + 32; e = dataAt (highFirst g) g (traceAt g (countOf f)); area = last-area w; spells = new-spelled w })
 
   -- rows of the given length are taken, and filled with what was given
   pub integers-answer-last : (row : List ℤ) → x .samples ≡ integers row → integersAnswer (grown xs n x) end (pos (countOf (take n xs))) (length row) ≡ Accepted

@@ -33,7 +33,7 @@ use Rattle.writer.specs.Answers.{grown}
 use Rattle.writer.specs.Shown.{placed, Added}
 use Rattle.growth.specs.Grows.{Grows, grown-grows}
 use Rattle.growth.specs.Kept.{behind-room, longer, high-kept, room-kept, count-grown, size-kept, string-end-kept, trace-at-kept, part-kept, trace-kept}
-use Rattle.growth.specs.StillKeeps.{strings-end-grown, file-spelled-kept, grows-keeps, grown-accepted}
+use Rattle.growth.specs.StillKeeps.{strings-end-grown, file-spelled-kept, grown-accepted}
 use Rattle.growth.specs.Answered.{value-there, AnswersBy, answered}
 
 -- the number of a part names the file or a trace that was there, or nothing
@@ -277,14 +277,9 @@ pub strings-answers-kept : {xs : List ℕ} {n : ℕ} {x : Trace} {end : ℕ} {ss
 unfolding whoseOf areaOf
 strings-answers-kept {xs} {n} {x} {end} {ss} by h s =
     let w = grown-grows by h in
-    let k = grows-keeps w in
-    let f : List ℕ = take n xs in
     let g : List ℕ = take end (grown xs n x) in
-    let some : 0 < countOf g = omega (arith, count-grown w) in
-    let t = k .traces 0 some in
-    let i : dataAt (highFirst g) g (traceAt g 0) + dataSize (highFirst g) g (traceAt g 0) ≤ length g = t .inside in
-    answered (grown xs n x) end (negsuc 0) (32 + roomOf g) (traceAt g 0) ss (grown-accepted false by h) refl
-    (behind-room false g k 0 some) (omega arith) (rw (strings-end-grown w) at (file-spelled-kept w s))
+    answered (grown xs n x) end (negsuc 0) ss (grown-accepted false by h)
+    (record { a = 32 + roomOf g; e = traceAt g 0; area = refl; spells = rw (strings-end-grown w) at (file-spelled-kept w s) })
 
 -- the file's block says one trace more, and nothing else
 pub file-answer-grown : {xs : List ℕ} {n : ℕ} {x : Trace} {end : ℕ} → Bytes xs → Added xs n x end
