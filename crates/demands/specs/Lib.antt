@@ -1,0 +1,3 @@
+pub mod FirstRow
+pub mod FileRows
+pub mod WriterRows

@@ -6,5 +6,6 @@ pub mod Ends
 pub mod StillKeeps
 pub mod Answered
 pub mod StillRead
+pub mod TraceReads
 pub mod ReadsLast
 pub mod AllBytes

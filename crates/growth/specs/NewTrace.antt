@@ -3,7 +3,6 @@
 -- end").
 -- Assumes nothing.
 use mathlib.Core.Path.{_≡_, sym, ap, _∙_}
-use mathlib.Core.Bool.{Bool}
 use mathlib.Core.List.{List}
 use Prim.Native.Nat.{ℕ, _+_}
 use native.Mathlib.Omega.{arith}
@@ -35,18 +34,24 @@ pub record HasNew (f g : List ℕ) (x : Trace) : Type 0 where
   pub samples : part (dataAt (highFirst g) g (traceAt g (countOf f))) (endAt (highFirst g) g (traceAt g (countOf f))) g
       ≡ samplesData (x .code) (highFirst f) (x .samples)
 
+pub stands-new : {f g : List ℕ} {x : Trace} → Grows f g x → Stands (highFirst f) (stringEnd f) (lineEnd f) g (round4 (length f)) x
+stands-new {f} {g} {x} w =
+    let t : List ℕ = stringEnd f in
+    let u : List ℕ = lineEnd f in
+    let p : ℕ = round4 (length f) in
+    let long : length g ≡ p + traceSize t u x = w .size in
+    let bytes : part p (p + traceSize t u x) g ≡ traceBytes (highFirst f) t u x = ap (λ (j : ℕ). part p j g) (sym long) ∙ w .trace in
+    stands (highFirst f) t u g p x (areaSize t u (x .sheet)) (w .sized) (w .kind) (omega (arith, w .most)) (omega arith) bytes
+
 pub has-new : {f g : List ℕ} {x : Trace} → Grows f g x → HasNew f g x
 unfolding endAt
 has-new {f} {g} {x} w =
     let t : List ℕ = stringEnd f in
     let u : List ℕ = lineEnd f in
-    let o : Bool = highFirst f in
     let p : ℕ = round4 (length f) in
-    let h : highFirst g ≡ o = high-kept w in
+    let h : highFirst g ≡ highFirst f = high-kept w in
     let e : traceAt g (countOf f) ≡ p = trace-at-new w in
-    let long : length g ≡ p + traceSize t u x = w .size in
-    let bytes : part p (p + traceSize t u x) g ≡ traceBytes o t u x = ap (λ (j : ℕ). part p j g) (sym long) ∙ w .trace in
-    let s : Stands o t u g p x = stands o t u g p x (areaSize t u (x .sheet)) (w .sized) (w .kind) (omega (arith, w .most)) (omega arith) bytes in
+    let s = stands-new w in
     let last : p + blockBytes t u x + dataBytes x ≡ p + traceSize t u x = omega arith in
     record {
       at = e;
@@ -56,7 +61,7 @@ has-new {f} {g} {x} w =
       count = rw (e, h) (s .number);
       code = rw e (s .code);
       begins = rw (e, h, s .block);
-      ends = rw (e, h, s .block, s .bytes) (last ∙ sym long);
+      ends = rw (e, h, s .block, s .bytes) (last ∙ sym (w .size));
       strings = rw (e, h, s .block) (s .area);
       samples = rw (e, h, s .block, s .bytes) (ap (λ (j : ℕ). part (p + blockBytes t u x) j g) last ∙ s .samples);
     }
