@@ -78,8 +78,15 @@ strings-first zero high t u p prev l at = refl
 strings-first (suc m) high t u p prev l at =
     let o : ℕ = offset high l in
     let b : List ℕ = body t o l in
-    frame-first (ltb (length l) 2) (eqb o 0) (ltb o (3 + length t)) (ltb (length l) o) (not (same (part (o - length t) o l) t)) t u prev l p at o _ _
-    (judged-first (eqb (keyLen b) 0) (not (all keyChar (keyOf b))) (not (valueOk u (keyOf b) (valueOf b))) (not (rises prev (keyOf b))) p at o (keyLen b) _ _
+    let next : ℕ → ℕ → Verdict = λ i n. stringsFrom m high t u p (take n (drop 2 l)) (drop i l) (at + i) in
+    let more : List Verdict = stringRows m high t u p (take (keyLen b) (drop 2 l)) (drop o l) (at + o) in
+    frame-first (ltb (length l) 2) (eqb o 0) (ltb o (3 + length t)) (ltb (length l) o) (not (same (part (o - length t) o l) t)) t u prev l p at o next
+    (row (eqb (keyLen b) 0) Character p at
+    ∷ row (not (all keyChar (keyOf b))) Character p at
+    ∷ row (not (valueOk u (keyOf b) (valueOf b))) Character p at
+    ∷ row (not (rises prev (keyOf b))) KeywordOrder p at
+    ∷ more)
+    (judged-first (eqb (keyLen b) 0) (not (all keyChar (keyOf b))) (not (valueOk u (keyOf b) (valueOf b))) (not (rises prev (keyOf b))) p at o (keyLen b) next more
     (strings-first m high t u p (take (keyLen b) (drop 2 l)) (drop o l) (at + o)))
 
 pick-first : (w : Bool) (v : Verdict) (vs : List Verdict) → v ≡ firstOf vs → pick w Accepted v ≡ firstOf (pick w [] vs)
@@ -90,7 +97,8 @@ pick-first false v vs h = h
 area-first : (high : Bool) (t u f : List ℕ) (p : Part) (a e : ℕ) → areaOf high t u f p a e ≡ firstOf (areaRows high t u f p a e)
 unfolding areaOf stringsOf
 area-first high t u f p a e =
-    pick-first (eqb (length (part a e f)) 0) _ _ (strings-first (length (part a e f)) high t u p [] (part a e f) a)
+    pick-first (eqb (length (part a e f)) 0) (stringsFrom (length (part a e f)) high t u p [] (part a e f) a)
+    (stringRows (length (part a e f)) high t u p [] (part a e f) a) (strings-first (length (part a e f)) high t u p [] (part a e f) a)
 
 -- ---- the traces, so many of them from k on, behind what ends at prev: of each 8, then 9 to 13 (`blockRows` of `block`), then its strings
 abbrev pub pointerTest : Bool → List ℕ → ℕ → ℕ → Verdict
@@ -159,12 +167,12 @@ rest-first high t u f m n =
     let ss : List Verdict = areaRows high t u f File (32 + m) p in
     let ts : List Verdict = traceRows high t u f n 0 (32 + m) in
     let v : Verdict = pointerTest high f 0 (32 + m) in
-    either (eqb n 0) (area-first high t u f File (32 + m) (length f))
+    either (eqb n 0) (areaRows high t u f File (32 + m) (length f)) (v ∷ (ss ++ ts)) (area-first high t u f File (32 + m) (length f))
     (rw (area-first high t u f File (32 + m) p, traces-first high t u f n 0 (32 + m)) (ap (andThen v) (sym (first-more ss ts)) ∙ sym (first-next v (ss ++ ts))))
   where
-    either : (w : Bool) {a b : Verdict} {as bs : List Verdict} → a ≡ firstOf as → b ≡ firstOf bs → pick w a b ≡ firstOf (pick w as bs)
-    either true h k = h
-    either false h k = k
+    either : (w : Bool) {a b : Verdict} (ls rs : List Verdict) → a ≡ firstOf ls → b ≡ firstOf rs → pick w a b ≡ firstOf (pick w ls rs)
+    either true ls rs h k = h
+    either false ls rs h k = k
 
 image-first : (grow : Bool) (f : List ℕ) → imageOf grow f ≡ firstOf (imageRows grow f)
 unfolding imageOf

@@ -72,8 +72,10 @@ unfolding checkFrom lineRows stepOf judgedOf
 lines-first zero prev s at = sym first-nothing
 lines-first (suc m) prev s at =
     let l : List ℕ = lineOf s in
+    let next : ℕ → ℕ → Verdict = λ i w. checkFrom m (take w s) (drop (i + 1) s) (at + i + 1) in
     line-first (eqb (length s) 0) (leb (length s) (lineLen s)) (eqb (keyLen l) 0) (not (eqb (getD l (keyLen l) 0) 9)) (not (all plain (valueOf l)))
-    (spaced (valueOf l) && not (continues prev (keyOf l))) (not (continues prev (keyOf l) || rises prev (keyOf l))) at (keyLen l) (lineLen s) _ _
+    (spaced (valueOf l) && not (continues prev (keyOf l))) (not (continues prev (keyOf l) || rises prev (keyOf l))) at (keyLen l) (lineLen s) next
+    (lineRows m (take (keyLen l) s) (drop (lineLen s + 1) s) (at + lineLen s + 1))
     (lines-first m (take (keyLen l) s) (drop (lineLen s + 1) s) (at + lineLen s + 1))
 
 -- a sheet's rows, and else what comes behind them
