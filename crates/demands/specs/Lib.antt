@@ -1,3 +1,4 @@
 pub mod FirstRow
 pub mod FileRows
 pub mod WriterRows
+pub mod QuestionRows
