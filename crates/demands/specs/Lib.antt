@@ -4,3 +4,4 @@ pub mod WriterRows
 pub mod QuestionRows
 pub mod Answers
 pub mod ListReads
+pub mod Reading
