@@ -5,3 +5,5 @@ pub mod QuestionRows
 pub mod Answers
 pub mod ListReads
 pub mod Reading
+pub mod Growing
+pub mod One
