@@ -7,3 +7,5 @@ pub mod ListReads
 pub mod Reading
 pub mod Growing
 pub mod One
+pub mod Excluded
+pub mod Worked
