@@ -22,6 +22,7 @@ use Rattle.writer.specs.Answers.{startAnswer, startLeft, newLength, addAnswer, 
 use Rattle.writer.specs.Shown as shown
 use Rattle.demands.specs.FirstRow.{NoneMet, Met, firstOf, refused-by-the-first, accepted-where-none-is-met}
 use Rattle.demands.specs.FileRows.{checkRows, check-answers-first}
+use Rattle.demands.specs.QuestionRows.{integersRows, bitsRows, integers-answer-first, bits-answer-first}
 use Rattle.demands.specs.WriterRows.{startRows, addRows, start-answers-first, addition-answers-first}
 
 -- ---- "input that meets rows of the refusal table gets the first of them in its order, with its place; no other input is refused"
@@ -72,6 +73,19 @@ addition-refuses-by-the-first xs n x = writes (addRows xs n x) (newLength (take 
 
 pub addition-accepts-where-none : (xs : List ℕ) (n : ℕ) (x : Trace) → (addAnswer xs n x ≡ written.To (newLength (take n xs) n x)) ↔ NoneMet (addRows xs n x)
 addition-accepts-where-none xs n x = writes (addRows xs n x) (newLength (take n xs) n x) (addAnswer xs n x) (addition-answers-first xs n x) .1
+
+-- Rules out a row of samples that is refused for another reason, or filled where it must not be.
+pub integers-refused-by-the-first : (xs : List ℕ) (n : ℕ) (z : ℤ) (s : ℕ) (r : Refusal) → (integersAnswer xs n z s ≡ Refused r) ↔ Met (integersRows xs n z s) r
+integers-refused-by-the-first xs n z s r = rw (integers-answer-first xs n z s) (refused-by-the-first (integersRows xs n z s) r)
+
+pub integers-accepted-where-none : (xs : List ℕ) (n : ℕ) (z : ℤ) (s : ℕ) → (integersAnswer xs n z s ≡ Accepted) ↔ NoneMet (integersRows xs n z s)
+integers-accepted-where-none xs n z s = rw (integers-answer-first xs n z s) (accepted-where-none-is-met (integersRows xs n z s))
+
+pub bits-refused-by-the-first : (xs : List ℕ) (n : ℕ) (z : ℤ) (s c : ℕ) (r : Refusal) → (bitsAnswer xs n z s c ≡ Refused r) ↔ Met (bitsRows xs n z s c) r
+bits-refused-by-the-first xs n z s c r = rw (bits-answer-first xs n z s c) (refused-by-the-first (bitsRows xs n z s c) r)
+
+pub bits-accepted-where-none : (xs : List ℕ) (n : ℕ) (z : ℤ) (s c : ℕ) → (bitsAnswer xs n z s c ≡ Accepted) ↔ NoneMet (bitsRows xs n z s c)
+bits-accepted-where-none xs n z s c = rw (bits-answer-first xs n z s c) (accepted-where-none-is-met (bitsRows xs n z s c))
 
 -- ---- "after a refusal no byte or sample of the caller's buffers has changed". Check and questions on blocks, strings and numbers are lent no memory that
 -- they may change. Rules out a writer that stores before its last row, and a reader that fills a row in part.

@@ -37,7 +37,7 @@ use Rattle.afresh.specs.Calls.{after, answersOf, acceptedOf, start-grows, calls
 use Rattle.afresh.specs.Stands.{noTrace, file-traces}
 use Rattle.afresh.specs.FileLaws.{file-fronted}
 use Rattle.afresh.specs.Afresh.{lengths, Writable, start-accepted, none-refused, written-afresh, afresh-accepted, accepted-writable}
-use Rattle.afresh.specs.Worked.{units, shot, worked-good, worked-writable}
+use Rattle.afresh.specs.Worked.{units, shot, worked-sizes, worked-good, worked-writable}
 use Rattle.demands.specs.ListReads.{list-file-block}
 
 -- ---- "a reader that refuses all files, or answers the same for all"
@@ -102,6 +102,16 @@ pub no-good-list-refused : (xs : List ℕ) (order slots : ℕ) (sheet : List ℕ
     → (startAnswer xs order slots sheet ≡ To (startSize slots sheet))
     × (answersOf (startLeft xs order slots sheet) (startSize slots sheet) ts ≡ lengths (startSize slots sheet) ts)
 no-good-list-refused xs order slots sheet ts w = (start-accepted xs order slots sheet ts w, none-refused xs order slots sheet ts w)
+
+-- such a list is document 01's: the start answers 56, the addition 108, in every buffer that has room
+pub a-list-is-written : (xs : List ℕ) → 108 ≤ length xs
+    → (startAnswer xs 0 1 units ≡ To 56) × (answersOf (startLeft xs 0 1 units) 56 (shot ∷ []) ≡ To 108 ∷ [])
+unfolding lengths
+a-list-is-written xs h =
+    let r = no-good-list-refused xs 0 1 units (shot ∷ []) (worked-writable xs h) in
+    let s = worked-sizes .0 in
+    let t : traceSize nul lineFeed shot ≡ 52 = omega (arith, worked-sizes .1, worked-sizes .2) in
+    (rw s at (r .0), (rw (s, t) at (r .1)))
 
 -- ---- "an addition that writes nothing yet answers a length": where a length is answered N is one more, and the buffer is not what it was
 

@@ -23,7 +23,7 @@ use Rattle.block.specs.Head.{highFirst, roomOf, countOf, stringEnd, lineEnd}
 use Rattle.block.specs.Image.{checkOf}
 use Rattle.block.specs.Keeps.{stringsEnd}
 use Rattle.reader.specs.declared.FileAnswer.the-variants as file
-use Rattle.reader.specs.Questions.{fileAnswer, traceAnswer, countAnswer, nthAnswer, keywordAnswer, valueAnswer, numberAnswer, doubleAnswer, locationAnswer, integersAnswer, bitsAnswer, integersLeft, patternsLeft, classesLeft}
+use Rattle.reader.specs.Questions.{fileAnswer, traceAnswer, countAnswer, nthAnswer, findAnswer, keywordAnswer, valueAnswer, numberAnswer, doubleAnswer, locationAnswer, integersAnswer, bitsAnswer, integersLeft, patternsLeft, classesLeft}
 use Rattle.writer.specs.declared.Written.the-variants.{To}
 use Rattle.writer.specs.Layout.{startSize, startImage, Trace}
 use Rattle.writer.specs.Answers.{startAnswer, startLeft, newBytes, addAnswer, addLeft}
@@ -115,6 +115,7 @@ pub record AnsweredAlike (ys : List ℕ) (m : ℕ) (xs : List ℕ) (n : ℕ) (z 
   pub block : traceAnswer ys m z ≡ traceAnswer xs n z
   pub many : countAnswer ys m z ≡ countAnswer xs n z
   pub nth : (i : ℕ) → nthAnswer ys m z i ≡ nthAnswer xs n z i
+  pub found : (key : List ℕ) → findAnswer ys m z key ≡ findAnswer xs n z key
   pub keyword : (key : List ℕ) → keywordAnswer ys m z key ≡ keywordAnswer xs n z key
   pub value : (key : List ℕ) → valueAnswer ys m z key ≡ valueAnswer xs n z key
   pub number : (key : List ℕ) → numberAnswer ys m z key ≡ numberAnswer xs n z key
@@ -135,6 +136,7 @@ earlier-read-as-before xs n x end to by ok z old =
       block = still.trace-answer-kept by h ok z old;
       many = still.count-answer-kept by h ok z old;
       nth = λ i. still.nth-answer-kept by h ok z i old;
+      found = λ key. still.find-answer-kept by h ok z key old;
       keyword = λ key. still.keyword-answer-kept by h ok z key old;
       value = λ key. still.value-answer-kept by h ok z key old;
       number = λ key. still.number-answer-kept by h ok z key old;

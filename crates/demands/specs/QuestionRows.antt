@@ -45,7 +45,8 @@ use Rattle.reader.specs.declared.CountAnswer.the-variants as count
 use Rattle.reader.specs.declared.StringAnswer.{StringAnswer}
 use Rattle.reader.specs.declared.StringAnswer.the-variants as string
 use Rattle.reader.specs.declared.KeywordAnswer.the-variants as keyword
-use Rattle.reader.specs.Questions.{asked, noTrace, whoseOf, areaOf, areaAsked, onArea, onTrace, fileFacts, fileAnswer, traceAnswer, placesIn, countAnswer, there, nthAnswer, findAnswer, yesOrNo, keywordAnswer, valueThere, valueAnswer, onString, numberAnswer, doubleAnswer, locationAnswer, codeAt, countAt, ofIntegers, ofBits, integersRows, bitsRows, integersAnswer, bitsAnswer, traceNumber}
+use Rattle.reader.specs.Questions as questions
+use Rattle.reader.specs.Questions.{asked, noTrace, whoseOf, areaOf, areaAsked, onArea, onTrace, fileFacts, fileAnswer, traceAnswer, placesIn, countAnswer, there, nthAnswer, findAnswer, yesOrNo, keywordAnswer, valueThere, valueAnswer, onString, numberAnswer, doubleAnswer, locationAnswer, codeAt, countAt, ofIntegers, ofBits, integersAnswer, bitsAnswer, traceNumber}
 use Rattle.growth.specs.Answered.{value-there}
 use Rattle.demands.specs.FirstRow.{row, firstOf, first-nothing, first-row, first-more, asked-more, asked-row, asked-none}
 use Rattle.demands.specs.FileRows.{checkRows, check-answers-first}
@@ -144,7 +145,7 @@ pub nth-answers-first : (xs : List ℕ) (n : ℕ) (z : ℤ) (i : ℕ)
 unfolding nthAnswer
 nth-answers-first xs n z i = part-first string.Refused (λ ps. there (nthOf ps i)) xs n z
 
-find-answers-first : (xs : List ℕ) (n : ℕ) (z : ℤ) (key : List ℕ)
+pub find-answers-first : (xs : List ℕ) (n : ℕ) (z : ℤ) (key : List ℕ)
     → findAnswer xs n z key ≡ asked string.Refused (firstOf (partRows xs n z)) (there (foundAsked (take n xs) z key))
 unfolding findAnswer
 find-answers-first xs n z key = part-first string.Refused (λ ps. there (findOf (take n xs) ps key)) xs n z
@@ -265,35 +266,41 @@ samples-rows xs n z some vs h =
     ∙ then-is-asked (firstOf (traceRows xs n z)) (firstOf vs)
     ∙ one-more Refused (checkRows false xs n) w (firstOf vs))
 
+abbrev pub integersRows : List ℕ → ℕ → ℤ → ℕ → List Verdict
+integersRows xs n z s =
+    traceRows xs n z
+    ++ (row (not (ofIntegers (codeAt (take n xs) (traceNumber z)))) CodeKind File 0 ∷ row (not (eqb s (countAt (take n xs) (traceNumber z)))) RowLength File 0 ∷ [])
+
 -- Rules out integers of a float trace, bits of an integer one, and a row that is filled in part.
-pub integers-answer-first : (xs : List ℕ) (n : ℕ) (z : ℤ) (s : ℕ)
-    → integersAnswer xs n z s
-    ≡ firstOf (traceRows xs n z
-    ++ (row (not (ofIntegers (codeAt (take n xs) (traceNumber z)))) CodeKind File 0 ∷ row (not (eqb s (countAt (take n xs) (traceNumber z)))) RowLength File 0 ∷ []))
-unfolding integersAnswer integersRows
+pub integers-answer-first : (xs : List ℕ) (n : ℕ) (z : ℤ) (s : ℕ) → integersAnswer xs n z s ≡ firstOf (integersRows xs n z s)
+unfolding integersAnswer questions.integersRows
 integers-answer-first xs n z s =
     let f : List ℕ = take n xs in
     let k : ℕ = traceNumber z in
     let a : Bool = not (ofIntegers (codeAt f k)) in
     let b : Bool = not (eqb s (countAt f k)) in
-    samples-rows xs n z (λ i. integersRows f i s) (row a CodeKind File 0 ∷ row b RowLength File 0 ∷ [])
-    (sym (first-row a CodeKind File 0 (row b RowLength File 0 ∷ []) ∙ ap (pick a (Refused (refusal CodeKind File 0))) (first-row b RowLength File 0 [] ∙ ap (pick b (Refused (refusal RowLength File 0))) first-nothing)))
+    samples-rows xs n z (λ i. questions.integersRows f i s) (row a CodeKind File 0 ∷ row b RowLength File 0 ∷ [])
+    (sym
+    (first-row a CodeKind File 0 (row b RowLength File 0 ∷ [])
+    ∙ ap (pick a (Refused (refusal CodeKind File 0))) (first-row b RowLength File 0 [] ∙ ap (pick b (Refused (refusal RowLength File 0))) first-nothing)))
 
-pub bits-answer-first : (xs : List ℕ) (n : ℕ) (z : ℤ) (s c : ℕ)
-    → bitsAnswer xs n z s c
-    ≡ firstOf (traceRows xs n z
+abbrev pub bitsRows : List ℕ → ℕ → ℤ → ℕ → ℕ → List Verdict
+bitsRows xs n z s c =
+    traceRows xs n z
     ++ (row (not (ofBits (codeAt (take n xs) (traceNumber z)))) CodeKind File 0
     ∷ row (not (eqb s (countAt (take n xs) (traceNumber z)))) RowLength File 0
     ∷ row (not (eqb c (countAt (take n xs) (traceNumber z)))) RowLength File 0
-    ∷ []))
-unfolding bitsAnswer bitsRows
+    ∷ [])
+
+pub bits-answer-first : (xs : List ℕ) (n : ℕ) (z : ℤ) (s c : ℕ) → bitsAnswer xs n z s c ≡ firstOf (bitsRows xs n z s c)
+unfolding bitsAnswer questions.bitsRows
 bits-answer-first xs n z s c =
     let f : List ℕ = take n xs in
     let k : ℕ = traceNumber z in
     let a : Bool = not (ofBits (codeAt f k)) in
     let b : Bool = not (eqb s (countAt f k)) in
     let d : Bool = not (eqb c (countAt f k)) in
-    samples-rows xs n z (λ i. bitsRows f i s c) (row a CodeKind File 0 ∷ row b RowLength File 0 ∷ row d RowLength File 0 ∷ [])
+    samples-rows xs n z (λ i. questions.bitsRows f i s c) (row a CodeKind File 0 ∷ row b RowLength File 0 ∷ row d RowLength File 0 ∷ [])
     (sym
     (first-row a CodeKind File 0 (row b RowLength File 0 ∷ row d RowLength File 0 ∷ [])
     ∙ ap (pick a (Refused (refusal CodeKind File 0)))
