@@ -3,7 +3,7 @@
 -- and later only raises N (3); invented N, S or length (2)." Each is excluded here, by a corollary of that name.
 -- Assumes nothing.
 use mathlib.Core.Path.{_≡_, refl, sym, ap, _∙_}
-use mathlib.Core.Bool.{Bool, false}
+use mathlib.Core.Bool.{false}
 use mathlib.Core.List.{List, [], _∷_}
 use Prim.Native.Nat.{ℕ, _+_, _*_, _≤_, _<_}
 use native.Mathlib.Omega.{arith}
@@ -18,7 +18,6 @@ use Rattle.sample.specs.Needed.{needed, room}
 use Rattle.text.specs.Runs.{run, same}
 use Rattle.sheet.specs.Lines.{lineLen, keyLen, linesFrom, linesOf}
 use Rattle.sheet.specs.Area.{joined, stringsOf, textSize, areaSize}
-use Rattle.block.specs.declared.TraceBlock.{TraceBlock}
 use Rattle.block.specs.Head.{highFirst, roomOf, countOf, stringEnd, lineEnd}
 use Rattle.block.specs.Image.{pointerOf, blockSize, dataSize, sampleCount, formatCode, checkOf, traceBlockOf}
 use Rattle.reader.specs.declared.FileAnswer.{FileAnswer}
@@ -32,7 +31,7 @@ use Rattle.writer.specs.Shown.{added, add-left}
 use Rattle.growth.specs.Frame.{lies, grown-count}
 use Rattle.growth.specs.Grows.{grown-grows}
 use Rattle.growth.specs.Kept.{count-grown}
-use Rattle.afresh.specs.FileOf.{sizes, fileOf, fileSize}
+use Rattle.afresh.specs.FileOf.{sizes, fileSize}
 use Rattle.afresh.specs.Calls.{after, answersOf, acceptedOf, start-grows, calls-afresh}
 use Rattle.afresh.specs.Stands.{noTrace, file-traces}
 use Rattle.afresh.specs.FileLaws.{file-fronted}
@@ -57,8 +56,7 @@ pub not-all-files-refused : (xs : List ℕ) (order slots : ℕ) (sheet : List �
 not-all-files-refused xs order slots sheet ts w some =
     let h = written-afresh xs order slots sheet ts w .holds in
     let s = h .size in
-    let m = w .most in
-    (
+    let m = w .most in (
       afresh-accepted xs order slots sheet ts w false (λ z. absurd (omega arith)),
       list-file-block h (w .some) (w .measures) (omega arith) some,
     )
@@ -121,12 +119,11 @@ unfolding countOf
 an-addition-writes xs n x end by to =
     let h = added xs n x end to in
     let f : List ℕ = take n xs in
-    let same : wordAt 2 (highFirst f) f 6 ≡ wordAt 2 (highFirst f) xs 6 = word-take 2 (highFirst f) n xs 6 (omega (arith, lies h .some)) in
-    (
+    let same : wordAt 2 (highFirst f) f 6 ≡ wordAt 2 (highFirst f) xs 6 = word-take 2 (highFirst f) n xs 6 (omega (arith, lies h .some)) in (
       rw (add-left xs n x end to) (count-grown (grown-grows by h)),
       λ e.
-      (let g : wordAt 2 (highFirst f) xs 6 ≡ wordAt 2 (highFirst f) f 6 + 1 = ap (λ (l : List ℕ). wordAt 2 (highFirst f) l 6) (sym e ∙ add-left xs n x end to) ∙ grown-count h by in
-      omega arith),
+          (let g : wordAt 2 (highFirst f) xs 6 ≡ wordAt 2 (highFirst f) f 6 + 1 = ap (λ (l : List ℕ). wordAt 2 (highFirst f) l 6) (sym e ∙ add-left xs n x end to) ∙ grown-count h by in
+          omega arith),
     )
 
 -- ---- "one that writes the first trace and later only raises N": after any calls each accepted trace stands in the image, with all its bytes, at its own place

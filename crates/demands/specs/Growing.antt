@@ -3,18 +3,17 @@
 -- any image with N=0, an accepted addition changes only the trace count, one free pointer and the bytes from the old end to the new end; the file's strings
 -- and every earlier trace read as before and the new one reads last."
 -- Assumes nothing.
-use mathlib.Core.Path.{_≡_, refl, sym, ap, _∙_}
-use mathlib.Core.Bool.{Bool, true, false}
+use mathlib.Core.Path.{_≡_, sym, _∙_}
+use mathlib.Core.Bool.{Bool, false}
 use mathlib.Core.List.{List}
 use mathlib.Core.Logic.{_⊎_}
 use Prim.Native.Nat.{ℕ, _+_, _*_, _≤_, _<_}
 use native.Mathlib.Omega.{arith}
-use lib.IntN.{ℤ, pos, negsuc}
+use lib.IntN.{ℤ, negsuc}
 use lib.ListN.{length, getD, take, drop}
 use lib.Dec.{eqb}
 use Rattle.word.specs.Bytes.{Bytes}
 use Rattle.word.specs.Part.{part}
-use Rattle.word.specs.Put.{put}
 use Rattle.word.specs.Round.{round4}
 use Rattle.word.specs.Word.{wordAt}
 use Rattle.refusal.specs.declared.Verdict.the-variants.{Accepted}
@@ -25,11 +24,11 @@ use Rattle.block.specs.Keeps.{stringsEnd}
 use Rattle.reader.specs.declared.FileAnswer.the-variants as file
 use Rattle.reader.specs.Questions.{fileAnswer, traceAnswer, countAnswer, nthAnswer, findAnswer, keywordAnswer, valueAnswer, numberAnswer, doubleAnswer, locationAnswer, integersAnswer, bitsAnswer, integersLeft, patternsLeft, classesLeft}
 use Rattle.writer.specs.declared.Written.the-variants.{To}
-use Rattle.writer.specs.Layout.{startSize, startImage, Trace}
+use Rattle.writer.specs.Layout.{startSize, Trace}
 use Rattle.writer.specs.Answers.{startAnswer, startLeft, newBytes, addAnswer, addLeft}
 use Rattle.writer.specs.Shown.{started, added, add-left, start-left}
 use Rattle.growth.specs.Answered.{AnswersBy}
-use Rattle.growth.specs.Frame.{length-grown, grown-behind, grown-byte, grown-new, grown-count, grown-pointer}
+use Rattle.growth.specs.Frame.{length-grown, grown-byte, grown-new, grown-count, grown-pointer}
 use Rattle.growth.specs.StillKeeps.{grown-accepted}
 use Rattle.growth.specs.StillRead as still
 use Rattle.growth.specs.TraceReads.{ReadsAs}

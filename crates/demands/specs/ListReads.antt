@@ -1,6 +1,6 @@
 -- The file of a list reads as the list: N, each trace's block, strings and samples, and the file's strings, in either order.
 -- Assumes nothing.
-use mathlib.Core.Path.{_≡_, refl, ap, _∙_}
+use mathlib.Core.Path.{_≡_, refl}
 use mathlib.Core.Bool.{Bool, false}
 use mathlib.Core.List.{List}
 use Prim.Native.Nat.{ℕ, _+_, _*_, _≤_, _<_}
@@ -18,7 +18,7 @@ use Rattle.block.specs.Keeps.{traceAt}
 use Rattle.reader.specs.declared.FileAnswer.the-variants as file
 use Rattle.reader.specs.Questions.{fileAnswer}
 use Rattle.reader.specs.Listed.{file-area}
-use Rattle.writer.specs.Layout.{nul, lineFeed, startSize, Trace}
+use Rattle.writer.specs.Layout.{nul, lineFeed, Trace}
 use Rattle.growth.specs.Answered.{AnswersBy, answered}
 use Rattle.growth.specs.TraceReads.{Standing, ReadsAs, reads-as}
 use Rattle.afresh.specs.FileOf.{fileOf, fileSize, Measures, AllGood}

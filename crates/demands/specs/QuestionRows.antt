@@ -25,7 +25,6 @@ use Rattle.text.specs.declared.Found.{Found}
 use Rattle.text.specs.declared.Found.the-variants.{Nothing, Is}
 use Rattle.text.specs.Strings.{nthOf, findOf, valueFound}
 use Rattle.decimal.specs.declared.Decimal.{Decimal}
-use Rattle.decimal.specs.declared.NumberAnswer.{NumberAnswer}
 use Rattle.decimal.specs.declared.NumberAnswer.the-variants as number
 use Rattle.decimal.specs.declared.DoubleAnswer.the-variants as double
 use Rattle.decimal.specs.declared.LocationAnswer.{LocationAnswer}
@@ -37,12 +36,9 @@ use Rattle.decimal.specs.Location.{valueCount, absent, coordinates, onDouble, o
 use Rattle.block.specs.Head.{highFirst, countOf}
 use Rattle.block.specs.Image.{andThen, checkOf, traceBlockOf}
 use Rattle.reader.specs.declared.Whose.the-variants.{One, Nobody}
-use Rattle.reader.specs.declared.Area.{Area}
-use Rattle.reader.specs.declared.Area.the-variants.{Outside, From}
 use Rattle.reader.specs.declared.FileAnswer.the-variants as file
 use Rattle.reader.specs.declared.TraceAnswer.the-variants as trace
 use Rattle.reader.specs.declared.CountAnswer.the-variants as count
-use Rattle.reader.specs.declared.StringAnswer.{StringAnswer}
 use Rattle.reader.specs.declared.StringAnswer.the-variants as string
 use Rattle.reader.specs.declared.KeywordAnswer.the-variants as keyword
 use Rattle.reader.specs.Questions as questions

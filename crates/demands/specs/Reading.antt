@@ -2,10 +2,10 @@
 -- samples are the paper's; what we write reads back as what was given, save the low bits that 20-bit samples cannot hold."
 -- Assumes nothing.
 use mathlib.Core.Path.{_≡_, refl, sym, ap, _∙_}
-use mathlib.Core.Bool.{Bool, true, false, _&&_}
+use mathlib.Core.Bool.{Bool, true, false}
 use mathlib.Core.List.{List, [], _∷_, _++_, map}
 use mathlib.Core.Logic.{_↔_}
-use Prim.Native.Nat.{ℕ, zero, suc, _+_, _*_, _/_, _%_, _^_, _≤_, _<_}
+use Prim.Native.Nat.{ℕ, _+_, _*_, _/_, _%_, _^_, _≤_, _<_}
 use native.Mathlib.Omega.{arith}
 use lib.IntN.{ℤ, pos, negsuc, natAbs, _-ℤ_}
 use lib.ListN.{length, getD, take}
@@ -34,9 +34,9 @@ use Rattle.decimal.specs.Agreed.{parts-unique, is-number, no-number, too-long}
 use Rattle.decimal.specs.Marks.{comma, comma-double}
 use Rattle.decimal.specs.LocationMarks.{comma-location}
 use Rattle.decimal.specs.Rounded.{text-rounded-once}
-use Rattle.sample.specs.Needed.{byCode, width}
+use Rattle.sample.specs.Needed.{width}
 use Rattle.sample.specs.Run.{run}
-use Rattle.sample.specs.Sample.{patternOf, twos, exponentIn, ones, scaled, groupSample, sampleOf, classOf}
+use Rattle.sample.specs.Sample.{patternOf, twos, exponentIn, scaled, groupSample, sampleOf, classOf}
 use Rattle.sample.specs.Classes.{valueClass, codeOf, class-ieee}
 use Rattle.sample.specs.Write.{exponentOf}
 use Rattle.sample.specs.Cut.{cut, cut-near, cut-exact}
@@ -55,7 +55,7 @@ use Rattle.reader.specs.Questions.{fileAnswer, codeAt, countAt, ofIntegers, ofB
 use Rattle.reader.specs.Listed.{Lists, file-lists, trace-lists, lists-once}
 use Rattle.reader.specs.Lent.{integers-read, bits-read}
 use Rattle.writer.specs.declared.Written.the-variants.{To}
-use Rattle.writer.specs.Layout.{nul, lineFeed, startSize, Trace}
+use Rattle.writer.specs.Layout.{nul, lineFeed, Trace}
 use Rattle.writer.specs.Answers.{startAnswer, startLeft, addAnswer, addLeft}
 use Rattle.writer.specs.Shown.{started, added, add-left}
 use Rattle.growth.specs.Answered.{AnswersBy, answered}

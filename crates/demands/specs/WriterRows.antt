@@ -10,7 +10,6 @@ use lib.ListN.{length, getD, take, drop}
 use lib.Dec.{ltb, leb, eqb}
 use Rattle.refusal.specs.declared.Rule.the-variants.{NoSlot, SheetLine, SheetOrder, AreaSize, EntryCode, SampleRange, NoRoom, StartValues}
 use Rattle.refusal.specs.declared.Part.the-variants.{File}
-use Rattle.refusal.specs.declared.Refusal.{Refusal}
 use Rattle.refusal.specs.declared.Verdict.{Verdict}
 use Rattle.refusal.specs.declared.Verdict.the-variants.{Accepted, Refused}
 use Rattle.refusal.specs.Table.{refusal}
@@ -25,7 +24,6 @@ use Rattle.sheet.specs.Lines.{plain, lineLen, lineOf, keyLen, keyOf, valueOf, s
 use Rattle.sheet.specs.Area as area
 use Rattle.sheet.specs.Area.{areaSize, measuredOf}
 use Rattle.block.specs.Head.{roomOf, countOf, stringEnd, lineEnd}
-use Rattle.block.specs.Image.{andThen, checkOf}
 use Rattle.reader.specs.Questions.{asked}
 use Rattle.writer.specs.declared.Written.{Written}
 use Rattle.writer.specs.declared.Written.the-variants as written
