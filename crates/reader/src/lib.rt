@@ -393,13 +393,7 @@ fn bits_of(f: &[u8], t: TraceBlock, row: &mut [u64], classes: &mut [u8]) -> Verd
     Verdict::Accepted
 }
 
-pub fn bits(
-    buffer: &[u8],
-    length: usize,
-    trace: i32,
-    row: &mut [u64],
-    classes: &mut [u8],
-) -> Verdict
+pub fn bits(buffer: &[u8], length: usize, trace: i32, row: &mut [u64], classes: &mut [u8]) -> Verdict
     ensures answer { λ r. ⌜ r ≡ bitsAnswer (now (buffer .entry)) length trace (lib.ListN.length (now (row .entry))) (lib.ListN.length (now (classes .entry))) ⌝ }
     ensures row { λ _. ⌜ now (row .exit) ≡ patternsLeft (now (buffer .entry)) length trace (now (row .entry)) (now (classes .entry)) ⌝ }
     ensures classes { λ _. ⌜ now (classes .exit) ≡ classesLeft (now (buffer .entry)) length trace (now (row .entry)) (now (classes .entry)) ⌝ }
