@@ -31,11 +31,11 @@ use Rattle.afresh.specs.Step.{Holds}
 use Rattle.afresh.specs.Stands.{noTrace, Traced, file-traces}
 
 -- 0Ah is no character of a value
-line-end : LineEnd lineFeed
-line-end = (omega arith, refl)
+pub feed-ends : LineEnd lineFeed
+feed-ends = (omega arith, refl)
 
 spelled : (high : Bool) (sheet : List ℕ) → Measures sheet → Spells high nul lineFeed (stringsOf lineFeed sheet) (areaOf high nul lineFeed sheet)
-spelled high sheet m = area-spells high nul lineFeed sheet (m .0) line-end (m .1)
+spelled high sheet m = area-spells high nul lineFeed sheet (m .0) feed-ends (m .1)
 
 -- ---- a trace
 keeps-trace : (high : Bool) (f : List ℕ) (k p : ℕ) (x : Trace) → highFirst f ≡ high → stringEnd f ≡ nul → lineEnd f ≡ lineFeed → pointerOf high f k ≡ p

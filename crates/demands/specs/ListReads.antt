@@ -1,6 +1,6 @@
 -- The file of a list reads as the list: N, each trace's block, strings and samples, and the file's strings, in either order.
 -- Assumes nothing.
-use mathlib.Core.Path.{_≡_, refl}
+use mathlib.Core.Path.{_≡_}
 use mathlib.Core.Bool.{Bool, false}
 use mathlib.Core.List.{List}
 use Prim.Native.Nat.{ℕ, _+_, _*_, _≤_, _<_}
@@ -11,7 +11,7 @@ use Rattle.refusal.specs.declared.Verdict.the-variants.{Accepted}
 use Rattle.word.specs.Part.{part}
 use Rattle.text.specs.Spelled.{Spells}
 use Rattle.sheet.specs.Area.{stringsOf}
-use Rattle.sheet.specs.Spelling.{LineEnd, area-spells}
+use Rattle.sheet.specs.Spelling.{area-spells}
 use Rattle.block.specs.Head.{highFirst, roomOf, stringEnd, lineEnd}
 use Rattle.block.specs.Image.{checkOf}
 use Rattle.block.specs.Keeps.{traceAt}
@@ -25,10 +25,7 @@ use Rattle.afresh.specs.FileOf.{fileOf, fileSize, Measures, AllGood}
 use Rattle.afresh.specs.FileLaws.{size-none, file-fronted}
 use Rattle.afresh.specs.Step.{Holds}
 use Rattle.afresh.specs.Stands.{noTrace, file-traces}
-use Rattle.afresh.specs.Kept.{file-strings, file-accepted}
-
-feed-ends : LineEnd lineFeed
-feed-ends = (omega arith, refl)
+use Rattle.afresh.specs.Kept.{feed-ends, file-strings, file-accepted}
 
 -- trace k stands in the file of a list
 file-standing : (high : Bool) (slots : ℕ) (sheet : List ℕ) (ts : List Trace) (k : ℕ) → slots ≤ 16383 → length ts ≤ slots → AllGood ts

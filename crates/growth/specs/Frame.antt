@@ -14,11 +14,11 @@ use Rattle.word.specs.Bytes.{Bytes, bytes-take}
 use Rattle.word.specs.Put.{put, length-put, drop-put-after, take-put, take-put-before, take-put-end, part-put, part-put-before, part-put-after}
 use Rattle.word.specs.Round.{round4}
 use Rattle.word.specs.Word.{wordAt, bytesOf}
-use Rattle.word.specs.WordLaws.{length-bytesOf, bytesOf-bytes, word-small, word-put, word-put-after}
+use Rattle.word.specs.WordLaws.{length-bytesOf, bytesOf-bytes, word-put, word-put-after}
 use Rattle.block.specs.Head.{highFirst, roomOf, countOf}
 use Rattle.writer.specs.Layout.{Trace}
 use Rattle.writer.specs.Answers.{newBytes, grown}
-use Rattle.writer.specs.Shown.{placed, Added}
+use Rattle.writer.specs.Shown.{room-small, placed, Added}
 use Rattle.writer.specs.LayoutLaws.{length-newBytes}
 
 -- ---- one store, byte by byte
@@ -138,10 +138,6 @@ lies {xs} {n} {x} {end} h =
       slot = omega arith;
       ends = length-newBytes (take n xs) n x (h .kind) ∙ h .new;
     }
-
-room-small : (f : List ℕ) → Bytes f → roomOf f < 65536
-unfolding roomOf
-room-small f by = word-small 2 (highFirst f) f 4 by
 
 module _ {xs : List ℕ} {n : ℕ} {x : Trace} {end : ℕ} (h : Added xs n x end) where
   pub length-grown : length (grown xs n x) ≡ length xs

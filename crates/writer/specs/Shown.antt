@@ -4,12 +4,14 @@
 use mathlib.Core.Path.{_≡_, refl, sym, ap, _∙_}
 use mathlib.Core.Bool.{Bool, true, false, not, _||_}
 use mathlib.Core.List.{List}
-use Prim.Native.Nat.{ℕ, _+_, _*_, _≤_}
+use Prim.Native.Nat.{ℕ, _+_, _*_, _≤_, _<_}
 use native.Mathlib.Omega.{arith}
 use lib.ListN.{length, take}
 use lib.Dec.{ltb, eqb}
 use borrow.Author.Tests.{le-ltb, ltb-false, not-false}
+use Rattle.word.specs.Bytes.{Bytes}
 use Rattle.word.specs.Put.{put}
+use Rattle.word.specs.WordLaws.{word-small}
 use Rattle.refusal.specs.declared.Refusal.{Refusal}
 use Rattle.refusal.specs.declared.Rule.the-variants.{Length, NoSlot, EntryCode, NoRoom, StartValues}
 use Rattle.refusal.specs.declared.Part.the-variants.{File}
@@ -23,7 +25,7 @@ use Rattle.sheet.specs.declared.Measured.{Measured}
 use Rattle.sheet.specs.declared.Measured.the-variants as measured
 use Rattle.sheet.specs.Area.{areaSize, measuredOf}
 use Rattle.sheet.specs.Spelling.{measured-size}
-use Rattle.block.specs.Head.{roomOf, countOf, stringEnd, lineEnd, refused}
+use Rattle.block.specs.Head.{highFirst, roomOf, countOf, stringEnd, lineEnd, refused}
 use Rattle.block.specs.HeadLaws.{Headed, neither, join-neither}
 use Rattle.block.specs.Image.{imageOf, badLength, checkOf}
 use Rattle.block.specs.ImageLaws.{refused-not, long-enough}
@@ -88,6 +90,11 @@ pub as-area : (t u s : List ℕ) (b : ℕ) → measuredOf t u s ≡ measured.Siz
 as-area t u s b e = e ∙ ap measured.Size (sym (measured-size t u s b e .1))
 
 -- ---- what each step has shown
+
+-- M is a number of two bytes
+pub room-small : (f : List ℕ) → Bytes f → roomOf f < 65536
+unfolding roomOf
+room-small f by = word-small 2 (highFirst f) f 4 by
 
 -- row 1 and rows 2 to 7
 pub placed : (grow : Bool) (xs : List ℕ) (n : ℕ) → checkOf grow xs n ≡ verdict.Accepted

@@ -14,7 +14,7 @@ use Rattle.word.specs.Part.{part, part-first, part-none}
 use Rattle.word.specs.Put.{put, put-append, length-put}
 use Rattle.word.specs.Round.{round4}
 use Rattle.word.specs.Word.{bytesOf}
-use Rattle.word.specs.WordLaws.{length-bytesOf, word-small}
+use Rattle.word.specs.WordLaws.{length-bytesOf}
 use Rattle.word.specs.Bytes.{Bytes, bytes-take}
 use Rattle.refusal.specs.Table.{refusal}
 use Rattle.refusal.specs.declared.Refusal.{Refusal}
@@ -38,7 +38,7 @@ use Rattle.writer.specs.declared.Written.{Written}
 use Rattle.writer.specs.declared.Written.the-variants.{To, Refused}
 use Rattle.writer.specs.Layout.{orderMark, plainEnds, nul, lineFeed, fileBlock, startImage, startSize, Trace, Samples, integers, patterns, ofIntegers, ofPatterns, count, fitting, unfit, samplesData, traceBlock, dataBytes, traceSize, traceBytes}
 use Rattle.writer.specs.LayoutLaws.{length-mark, length-fileBlock, length-traceBlock, kinded, room-enough}
-use Rattle.writer.specs.Shown.{placed, opened, samples-fit}
+use Rattle.writer.specs.Shown.{room-small, placed, opened, samples-fit}
 use Rattle.writer.specs.Answers.{refuse, within, onWritten, badStart, startAnswer, startLeft, openedOf, onFit, samplesOf, newLength, addAnswer, newBytes, grown, addLeft}
 
 -- ---- a start
@@ -433,10 +433,6 @@ pub record Growing (xs : List ℕ) (n : ℕ) (sheet : List ℕ) (size : ℕ) (x 
   pub held : unfit (x .code) (x .samples) ≡ All
   pub few : count (x .samples) ≤ 67108864
   pub inside : round4 n + (32 + size + room (x .code) (count (x .samples))) ≤ length xs
-
-room-small : (f : List ℕ) → Bytes f → roomOf f < 65536
-unfolding roomOf
-room-small f by = word-small 2 (highFirst f) f 4 by
 
 pub growing : (xs : List ℕ) (n size : ℕ) (x : Trace) (end : ℕ) → Bytes xs → openedOf xs n (x .sheet) ≡ measured.Size size
     → samplesOf (x .code) (x .samples) ≡ verdict.Accepted → count (x .samples) ≤ 67108864
