@@ -33,8 +33,6 @@ NoneMet (v ∷ vs) = (v ≡ Accepted) × NoneMet vs
 abbrev pub Met : List Verdict → Refusal → Type 0
 Met vs r = (before after : List Verdict) × (vs ≡ before ++ (Refused r ∷ after)) × NoneMet before
 
--- "input that meets rows of the refusal table gets the first of them in its order, with its place". Rules out a check that answers a later row, or another
--- place.
 met-is-first : (vs : List Verdict) (r : Refusal) → firstOf vs ≡ Refused r → Met vs r
 unfolding firstOf
 met-is-first [] r e = absurd (refused-not r (sym e))
@@ -48,10 +46,11 @@ unfolding firstOf
 first-is-met [] after r n = refl
 first-is-met (v ∷ before) after r n = rw (n .0) (first-is-met before after r (n .1))
 
+-- "input that meets rows of the refusal table gets the first of them in its order, with its place". Rules out a check that answers a later row, or another
+-- place.
 pub refused-by-the-first : (vs : List Verdict) (r : Refusal) → (firstOf vs ≡ Refused r) ↔ Met vs r
 refused-by-the-first vs r = (met-is-first vs r, λ m. rw (m .2) (first-is-met (m .0) (m .1) r (m .3)))
 
--- "no other input is refused". Rules out a refusal that no row gives.
 passed-met-none : (vs : List Verdict) → firstOf vs ≡ Accepted → NoneMet vs
 unfolding firstOf
 passed-met-none [] e = tt
@@ -63,6 +62,7 @@ unfolding firstOf
 met-none-passed [] n = refl
 met-none-passed (v ∷ vs) n = rw (n .0) (met-none-passed vs (n .1))
 
+-- "no other input is refused". Rules out a refusal that no row gives.
 pub accepted-where-none-is-met : (vs : List Verdict) → (firstOf vs ≡ Accepted) ↔ NoneMet vs
 accepted-where-none-is-met vs = (passed-met-none vs, met-none-passed vs)
 

@@ -89,6 +89,7 @@ on-trace none some (pos k) n = go (ltb k n)
 on-trace none some (negsuc zero) n = refl
 on-trace none some (negsuc (suc k)) n = refl
 
+-- Rules out a trace that is not there.
 pub trace-answers-first : (xs : List ℕ) (n : ℕ) (z : ℤ)
     → traceAnswer xs n z ≡ asked trace.Refused (firstOf (traceRows xs n z)) (trace.Is (traceBlockOf (highFirst (take n xs)) (take n xs) (traceNumber z)))
 unfolding traceAnswer
@@ -131,6 +132,7 @@ part-first bad some xs n z =
     ∙ ap (asked bad (firstOf (checkRows false xs n))) (on-area (bad noTrace) some f z)
     ∙ sym (one-more bad (checkRows false xs n) (not (isPart z (countOf f))) (some (placesAsked f z)))
 
+-- Rules out strings of no part, and of a file that the check refuses.
 pub count-answers-first : (xs : List ℕ) (n : ℕ) (z : ℤ)
     → countAnswer xs n z ≡ asked count.Refused (firstOf (partRows xs n z)) (count.Is (length (placesAsked (take n xs) z)))
 unfolding countAnswer
@@ -146,7 +148,7 @@ pub find-answers-first : (xs : List ℕ) (n : ℕ) (z : ℤ) (key : List ℕ)
 unfolding findAnswer
 find-answers-first xs n z key = part-first string.Refused (λ ps. there (findOf (take n xs) ps key)) xs n z
 
--- "one answers yes, no or the refusal"
+-- "one answers yes, no or the refusal". Rules out a no where the file is broken.
 pub keyword-answers-first : (xs : List ℕ) (n : ℕ) (z : ℤ) (key : List ℕ)
     → keywordAnswer xs n z key ≡ asked keyword.Refused (firstOf (partRows xs n z)) (yesOrNo (there (foundAsked (take n xs) z key)))
 unfolding keywordAnswer
@@ -156,7 +158,8 @@ keyword-answers-first xs n z key = ap yesOrNo (find-answers-first xs n z key) �
     go Accepted = refl
     go (Refused r) = refl
 
--- "the other answers the value as the caller's own bytes, not a copy, and for a no or a refusal the empty part at the start of the lent buffer"
+-- "the other answers the value as the caller's own bytes, not a copy, and for a no or a refusal the empty part at the start of the lent buffer".
+-- Rules out bytes of a file that was refused.
 pub value-answers-first : (xs : List ℕ) (n : ℕ) (z : ℤ) (key : List ℕ)
     → valueAnswer xs n z key ≡ asked (λ r. []) (firstOf (partRows xs n z)) (valueFound (take n xs) (foundAsked (take n xs) z key))
 unfolding valueAnswer
@@ -196,7 +199,7 @@ unfolding locationAnswer
 location-answers-first = made-first location.Refused locationOf
 
 -- ---- "20 no number, 21 too many digits, 22 not within the double case, 23 neither one nor three values: 23 first, then value by value; place is the
--- value's start in the text"
+-- value's start in the text". Rules out a double of what is no number, and a location whose values are judged before they are counted.
 
 first-append : {A : Type 0} (rs qs : Rows A) (a : A) → first (rs ++ qs) a ≡ first rs (first qs a)
 first-append [] qs a = refl
