@@ -3,13 +3,13 @@
 -- any image with N=0, an accepted addition changes only the trace count, one free pointer and the bytes from the old end to the new end; the file's strings
 -- and every earlier trace read as before and the new one reads last."
 -- Assumes nothing.
-use mathlib.Core.Path.{_≡_, sym, _∙_}
+use mathlib.Core.Path.{_≡_, refl, sym, _∙_}
 use mathlib.Core.Bool.{Bool, false}
-use mathlib.Core.List.{List}
+use mathlib.Core.List.{List, [], _∷_}
 use mathlib.Core.Logic.{_⊎_}
 use Prim.Native.Nat.{ℕ, _+_, _*_, _≤_, _<_}
 use native.Mathlib.Omega.{arith}
-use lib.IntN.{ℤ, negsuc}
+use lib.IntN.{ℤ, pos, negsuc}
 use lib.ListN.{length, getD, take, drop}
 use lib.Dec.{eqb}
 use Rattle.word.specs.Bytes.{Bytes}
@@ -23,18 +23,21 @@ use Rattle.block.specs.Image.{checkOf}
 use Rattle.block.specs.Keeps.{stringsEnd}
 use Rattle.reader.specs.declared.FileAnswer.the-variants as file
 use Rattle.reader.specs.Questions.{fileAnswer, traceAnswer, countAnswer, nthAnswer, findAnswer, keywordAnswer, valueAnswer, numberAnswer, doubleAnswer, locationAnswer, integersAnswer, bitsAnswer, integersLeft, patternsLeft, classesLeft}
-use Rattle.writer.specs.declared.Written.the-variants.{To}
+use Rattle.writer.specs.declared.Written.{Written}
+use Rattle.writer.specs.declared.Written.the-variants.{To, Refused}
 use Rattle.writer.specs.Layout.{startSize, Trace}
 use Rattle.writer.specs.Answers.{startAnswer, startLeft, newBytes, addAnswer, addLeft}
 use Rattle.writer.specs.Shown.{started, added, add-left, start-left}
 use Rattle.growth.specs.Answered.{AnswersBy}
 use Rattle.growth.specs.Frame.{length-grown, grown-byte, grown-new, grown-count, grown-pointer}
+use Rattle.growth.specs.Grows.{grown-grows}
+use Rattle.growth.specs.Kept.{count-grown}
 use Rattle.growth.specs.StillKeeps.{grown-accepted}
 use Rattle.growth.specs.StillRead as still
 use Rattle.growth.specs.TraceReads.{ReadsAs}
 use Rattle.growth.specs.AllBytes.{grown-are-bytes, start-are-bytes}
 use Rattle.afresh.specs.FileOf.{fileOf, fileSize}
-use Rattle.afresh.specs.Calls.{after, answersOf, acceptedOf, after-accepted, start-grows, calls-afresh}
+use Rattle.afresh.specs.Calls.{after, answersOf, acceptedOf, after-to, after-refused, after-accepted, start-grows, calls-afresh}
 use Rattle.afresh.specs.Afresh.{lengths, Writable, none-refused, image-afresh, accepted-writable}
 use Rattle.demands.specs.Reading.{new-trace-reads-back}
 
@@ -147,6 +150,69 @@ earlier-read-as-before xs n x end to by ok z old =
       patterns-left = λ row classes. still.patterns-left-kept by h ok z row classes old;
       classes-left = λ row classes. still.classes-left-kept by h ok z row classes old;
     })
+
+-- and any further calls, refused ones in between included, leave those answers too
+alike-still : (xs : List ℕ) (n : ℕ) (z : ℤ) → AnsweredAlike xs n xs n z
+alike-still xs n z =
+    record {
+      block = refl;
+      many = refl;
+      nth = λ i. refl;
+      found = λ key. refl;
+      keyword = λ key. refl;
+      value = λ key. refl;
+      number = λ key. refl;
+      double = λ key. refl;
+      location = λ key. refl;
+      integers = λ s. refl;
+      integers-left = λ row. refl;
+      bits = λ s c. refl;
+      patterns-left = λ row classes. refl;
+      classes-left = λ row classes. refl;
+    }
+
+alike-again : {zs : List ℕ} {p : ℕ} {ys : List ℕ} {m : ℕ} {xs : List ℕ} {n : ℕ} {z : ℤ} → AnsweredAlike zs p ys m z → AnsweredAlike ys m xs n z
+    → AnsweredAlike zs p xs n z
+alike-again a b =
+    record {
+      block = a .block ∙ b .block;
+      many = a .many ∙ b .many;
+      nth = λ i. a .nth i ∙ b .nth i;
+      found = λ key. a .found key ∙ b .found key;
+      keyword = λ key. a .keyword key ∙ b .keyword key;
+      value = λ key. a .value key ∙ b .value key;
+      number = λ key. a .number key ∙ b .number key;
+      double = λ key. a .double key ∙ b .double key;
+      location = λ key. a .location key ∙ b .location key;
+      integers = λ s. a .integers s ∙ b .integers s;
+      integers-left = λ row. a .integers-left row ∙ b .integers-left row;
+      bits = λ s c. a .bits s c ∙ b .bits s c;
+      patterns-left = λ row classes. a .patterns-left row classes ∙ b .patterns-left row classes;
+      classes-left = λ row classes. a .classes-left row classes ∙ b .classes-left row classes;
+    }
+
+old-still : (z : ℤ) (n m : ℕ) → n ≤ m → still.Old z n → still.Old z m
+old-still (pos k) n m l o = omega arith
+old-still (negsuc k) n m l o = tt
+
+pub earlier-read-as-before-always : (calls : List Trace) (xs : List ℕ) (n : ℕ) → Bytes xs → checkOf false xs n ≡ Accepted → (z : ℤ)
+    → still.Old z (countOf (take n xs)) → AnsweredAlike (after xs n calls .0) (after xs n calls .1) xs n z
+unfolding after
+earlier-read-as-before-always [] xs n by ok z old = alike-still xs n z
+earlier-read-as-before-always (x ∷ calls) xs n by ok z old = go (addAnswer xs n x) refl (earlier-read-as-before-always calls)
+  where
+    go : (w : Written) → addAnswer xs n x ≡ w
+        → ((ys : List ℕ) (m : ℕ) → Bytes ys → checkOf false ys m ≡ Accepted → (y : ℤ) → still.Old y (countOf (take m ys))
+        → AnsweredAlike (after ys m calls .0) (after ys m calls .1) ys m y)
+        → AnsweredAlike (after xs n (x ∷ calls) .0) (after xs n (x ∷ calls) .1) xs n z
+    go (To end) h more =
+        let c : countOf (take end (addLeft xs n x)) ≡ countOf (take n xs) + 1 = rw (add-left xs n x end h) (count-grown (grown-grows by (added xs n x end h))) in
+        rw (after-to xs n x calls end h)
+        (alike-again
+        (more (addLeft xs n x) end (grown-buffer-is-of-bytes xs n x end h by) (grown-file-is-accepted xs n x end h by false) z
+        (old-still z (countOf (take n xs)) (countOf (take end (addLeft xs n x))) (omega arith) old))
+        (earlier-read-as-before xs n x end h by ok z old))
+    go (Refused r) h more = rw (after-refused xs n x calls r h) (more xs n by ok z old)
 
 -- the file's strings also where there was no trace, so that no reader took the image: they are those that its bytes spelled to its end
 pub file-strings-read-as-before : (xs : List ℕ) (n : ℕ) (x : Trace) (end : ℕ) (ss : List Str) → addAnswer xs n x ≡ To end → Bytes xs
