@@ -14,7 +14,7 @@ use Rattle.refusal.specs.declared.Verdict.{Verdict}
 use Rattle.refusal.specs.declared.Verdict.the-variants.{Accepted, Refused}
 use Rattle.block.specs.Image.{checkOf}
 use Rattle.reader.specs.Questions.{asked, integersAnswer, bitsAnswer, integersLeft, patternsLeft, classesLeft}
-use Rattle.reader.specs.Lent.{integers-kept, bits-kept}
+use Rattle.reader.specs.Answers.{integers-kept, bits-kept}
 use Rattle.writer.specs.declared.Written.the-variants as written
 use Rattle.writer.specs.Layout.{startSize, Trace}
 use Rattle.writer.specs.Answers.{startAnswer, startLeft, newLength, addAnswer, addLeft}

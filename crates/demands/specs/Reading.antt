@@ -53,7 +53,7 @@ use Rattle.block.specs.Accepted.{accepted-keeps, keeps-accepted}
 use Rattle.reader.specs.declared.FileAnswer.the-variants as file
 use Rattle.reader.specs.Questions.{fileAnswer, codeAt, countAt, ofIntegers, ofBits, dataOf, samplesOf, patternsOf, classesOf, integersAnswer, bitsAnswer, integersLeft, patternsLeft, classesLeft, numberAnswer, doubleAnswer, locationAnswer}
 use Rattle.reader.specs.Listed.{Lists, file-lists, trace-lists, lists-once}
-use Rattle.reader.specs.Lent.{integers-read, bits-read}
+use Rattle.reader.specs.Answers.{integers-read, bits-read}
 use Rattle.writer.specs.declared.Written.the-variants.{To}
 use Rattle.writer.specs.Layout.{nul, lineFeed, Trace}
 use Rattle.writer.specs.Answers.{startAnswer, startLeft, addAnswer, addLeft}

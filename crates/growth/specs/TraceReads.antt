@@ -30,7 +30,7 @@ use Rattle.block.specs.Keeps.{traceAt}
 use Rattle.reader.specs.declared.TraceAnswer.the-variants as trace
 use Rattle.reader.specs.Questions.{traceAnswer, dataOf, codeAt, countAt, ofIntegers, integersAnswer, bitsAnswer, samplesOf, patternsOf, classesOf, integersLeft, patternsLeft, classesLeft}
 use Rattle.reader.specs.Listed.{whose-one, trace-area}
-use Rattle.reader.specs.Lent.{integers-read, bits-read}
+use Rattle.reader.specs.Answers.{integers-read, bits-read}
 use Rattle.writer.specs.Layout.{Trace, Samples.integers, Samples.patterns, fitting, unfit, samplesData, blockBytes, dataBytes, traceSize}
 use Rattle.writer.specs.Layout as layout
 use Rattle.writer.specs.LayoutLaws.{never, Stands}
