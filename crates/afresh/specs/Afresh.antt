@@ -8,7 +8,7 @@ use Prim.Native.Nat.{ℕ, _+_, _*_, _≤_, _<_}
 use native.Mathlib.Omega.{arith}
 use lib.ListN.{length, take}
 use lib.Dec.{eqb}
-use Rattle.sheet.specs.Area.{measuredOf}
+use Rattle.sheet.specs.Area.{areaSize, measuredOf}
 use Rattle.sheet.specs.declared.Measured.the-variants.{Size}
 use Rattle.refusal.specs.declared.Verdict.the-variants.{Accepted}
 use Rattle.block.specs.Image.{checkOf}
@@ -18,8 +18,8 @@ use Rattle.writer.specs.declared.Written.the-variants.{To, Refused}
 use Rattle.writer.specs.Layout.{nul, lineFeed, startSize, Trace, traceSize}
 use Rattle.writer.specs.Answers.{startAnswer, startLeft, addAnswer, addLeft}
 use Rattle.afresh.specs.FileOf.{sizes, fileOf, fileSize, Measures, Good, AllGood}
-use Rattle.afresh.specs.FileLaws.{length-more, fronted}
-use Rattle.afresh.specs.Shown.{Started, started, start-answers, Added, added, add-answers}
+use Rattle.afresh.specs.FileLaws.{length-more, file-fronted}
+use Rattle.writer.specs.Shown.{as-area, Started, started, starts, Added, added, adds}
 use Rattle.afresh.specs.Step.{Holds, start-past, start-afresh, new-end, add-afresh, add-past}
 use Rattle.afresh.specs.Calls.{lengthLeft, after, answersOf, acceptedOf, answers-to, accepted-to, Grew, start-grows}
 use Rattle.afresh.specs.Kept.{file-accepted}
@@ -34,22 +34,24 @@ module _ (high : Bool) (slots : ℕ) (sheet : List ℕ) (some : 1 ≤ slots) (me
   pub add-accepted : (ts : List Trace) (xs : List ℕ) (n : ℕ) (x : Trace) → Holds high slots sheet ts xs n → Good x → length ts < slots
       → n + traceSize nul lineFeed x ≤ length xs → n + traceSize nul lineFeed x ≤ 67108864 → addAnswer xs n x ≡ To (n + traceSize nul lineFeed x)
   add-accepted ts xs n x is g slot fits most =
-      let f = fronted high slots sheet ts (is .few) (is .slotted) in
+      let f = file-fronted high slots sheet ts (is .few) (is .slotted) in
       let e = new-end high slots sheet ts xs n x is in
       let c : countOf (take n xs) ≡ length ts = ap countOf (is .image) ∙ f .count in
       let r : roomOf (take n xs) ≡ 4 * slots = ap roomOf (is .image) ∙ f .room in
-      let m : measuredOf (stringEnd (take n xs)) (lineEnd (take n xs)) (x .sheet) ≡ Size (g .measures .0) = rw (is .image, f .strings, f .lines) (g .measures .1) in
-      let a : Added xs n x =
+      let g' = g .measures in
+      let m : measuredOf (stringEnd (take n xs)) (lineEnd (take n xs)) (x .sheet) ≡ Size (g' .0) = rw (is .image, f .strings, f .lines) (g' .1) in
+      let a : Added xs n x (n + traceSize nul lineFeed x) =
       record {
-        checked = file-accepted true high slots sheet ts xs n is some measures (omega arith) (λ z. refl);
-        free = omega arith;
-        measures = (g .measures .0, m);
+        accepted = file-accepted true high slots sheet ts xs n is some measures (omega arith) (λ z. refl);
+        slot = omega arith;
+        sized = as-area (stringEnd (take n xs)) (lineEnd (take n xs)) (x .sheet) (g' .0) m;
         kind = g .kind;
         held = g .held;
-        fits = rw e fits;
-        most = rw e most;
+        new = e;
+        in-buffer = fits;
+        in-maximum = most;
       } in
-      add-answers xs n x a ∙ ap To e
+      adds xs n x (n + traceSize nul lineFeed x) a
 
   -- and so is every list of them
   pub goes-on : (calls ts : List Trace) (xs : List ℕ) (n : ℕ) → Holds high slots sheet ts xs n → AllGood calls → length ts + length calls ≤ slots
@@ -78,16 +80,24 @@ pub record Writable (xs : List ℕ) (order slots : ℕ) (sheet : List ℕ) (ts :
   pub most : fileSize slots sheet ts ≤ 67108864
 
 module _ (xs : List ℕ) (order slots : ℕ) (sheet : List ℕ) (ts : List Trace) (w : Writable xs order slots sheet ts) where
-  can-start : Started xs order slots sheet
+  can-start : Started xs order slots sheet (startSize slots sheet)
   unfolding fileSize
   can-start =
       let fits = w .fits in
       let most = w .most in
-      record { either = w .either; some = w .some; few = w .few; measures = w .measures; fits = omega arith; most = omega arith }
+      record {
+        either = w .either;
+        some = w .some;
+        few = w .few;
+        sized = as-area nul lineFeed sheet (w .measures .0) (w .measures .1);
+        new = refl;
+        in-buffer = omega arith;
+        in-maximum = omega arith;
+      }
 
   -- the start answers the length of its image
   pub start-accepted : startAnswer xs order slots sheet ≡ To (startSize slots sheet)
-  start-accepted = start-answers xs order slots sheet can-start
+  start-accepted = starts xs order slots sheet (startSize slots sheet) can-start
 
   abbrev begun : List ℕ
   begun = startLeft xs order slots sheet
@@ -137,28 +147,23 @@ after-most (x ∷ calls) xs n h = go (addAnswer xs n x) refl (after-most calls)
     go : (v : Written) → addAnswer xs n x ≡ v → ((ys : List ℕ) (m : ℕ) → m ≤ 67108864 → after ys m calls .1 ≤ 67108864)
         → after (addLeft xs n x) (lengthLeft (addAnswer xs n x) n) calls .1 ≤ 67108864
     go (To end) e more =
-        let a = added xs n x end e in
-        let m = a .1 .most in
-        let s = a .0 in
-        rw e (more (addLeft xs n x) end (omega arith))
+        rw e (more (addLeft xs n x) end (added xs n x end e .in-maximum))
     go (Refused r) e more = rw e (more (addLeft xs n x) n h)
 
 pub accepted-writable : (xs : List ℕ) (order slots : ℕ) (sheet : List ℕ) (e : ℕ) → startAnswer xs order slots sheet ≡ To e → (calls : List Trace)
     → Writable xs order slots sheet (acceptedOf (startLeft xs order slots sheet) e calls)
 accepted-writable xs order slots sheet e to calls =
     let s = started xs order slots sheet e to in
-    let begins = s .0 in
-    let small = s .1 .most in
     let g = start-grows xs order slots sheet e to calls in
     let size = g .holds .size in
     let within = g .holds .fits in
     let kept = g .size in
-    let most = after-most calls (startLeft xs order slots sheet) e (omega arith) in
+    let most = after-most calls (startLeft xs order slots sheet) e (s .in-maximum) in
     record {
-      either = s .1 .either;
-      some = s .1 .some;
-      few = s .1 .few;
-      measures = s .1 .measures;
+      either = s .either;
+      some = s .some;
+      few = s .few;
+      measures = (areaSize nul lineFeed sheet, s .sized);
       good = g .holds .good;
       slotted = g .holds .slotted;
       fits = omega arith;

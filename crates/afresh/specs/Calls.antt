@@ -15,7 +15,7 @@ use Rattle.writer.specs.declared.Written.the-variants.{To, Refused}
 use Rattle.writer.specs.Layout.{Trace}
 use Rattle.writer.specs.Answers.{startAnswer, startLeft, onWritten, addAnswer, addLeft}
 use Rattle.afresh.specs.FileOf.{fileOf, fileSize}
-use Rattle.afresh.specs.Shown.{add-refused}
+use Rattle.writer.specs.Shown.{add-refused}
 use Rattle.afresh.specs.Step.{Holds, start-afresh, start-past, add-end, add-past, add-afresh}
 
 -- ---- calls one behind the other, each given the bytes and the length that the calls before it left

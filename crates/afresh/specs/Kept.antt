@@ -25,25 +25,25 @@ use Rattle.block.specs.Keeps.{traceAt, endBefore, stringsEnd, KeepsTrace, Keeps
 use Rattle.block.specs.Accepted.{keeps-accepted}
 use Rattle.writer.specs.Layout.{nul, lineFeed, fileBlock, startSize, Trace, count}
 use Rattle.afresh.specs.FileOf.{pointers, blocks, fileOf, fileSize, Measures, Good, AllGood}
-use Rattle.afresh.specs.FileLaws.{length-fileBlock, length-pointers, length-file, area-whole, room-whole, file-whole, size-none, size-low, Fronted, fronted}
+use Rattle.writer.specs.LayoutLaws.{length-fileBlock, Fronted, kinded, room-enough, area-whole, Stands}
+use Rattle.afresh.specs.FileLaws.{length-pointers, length-file, file-whole, size-none, size-low, file-fronted}
 use Rattle.afresh.specs.Step.{Holds}
-use Rattle.afresh.specs.Stands.{kinds, needed-room, Stands, noTrace, Traced, file-traces}
+use Rattle.afresh.specs.Stands.{noTrace, Traced, file-traces}
 
 -- 0Ah is no character of a value
-line-end : LineEnd lineFeed
-line-end = (omega arith, refl)
+pub feed-ends : LineEnd lineFeed
+feed-ends = (omega arith, refl)
 
 spelled : (high : Bool) (sheet : List ℕ) → Measures sheet → Spells high nul lineFeed (stringsOf lineFeed sheet) (areaOf high nul lineFeed sheet)
-spelled high sheet m = area-spells high nul lineFeed sheet (m .0) line-end (m .1)
+spelled high sheet m = area-spells high nul lineFeed sheet (m .0) feed-ends (m .1)
 
 -- ---- a trace
 keeps-trace : (high : Bool) (f : List ℕ) (k p : ℕ) (x : Trace) → highFirst f ≡ high → stringEnd f ≡ nul → lineEnd f ≡ lineFeed → pointerOf high f k ≡ p
-    → Stands high f p x → Good x → p % 4 ≡ 0 → endBefore f k ≤ p → KeepsTrace f k
+    → Stands high nul lineFeed f p x → Good x → p % 4 ≡ 0 → endBefore f k ≤ p → KeepsTrace f k
 keeps-trace high f k p x o s l at h g w b =
     let a = area-whole nul lineFeed (x .sheet) in
-    let d = room-whole (x .code) (count (x .samples)) in
-    let c = kinds (x .code) (x .samples) (g .kind) in
-    let n = needed-room (x .code) (count (x .samples)) in
+    let d = room-enough (x .code) (count (x .samples)) in
+    let c = kinded (x .code) (x .samples) (g .kind) in
     let i = h .inside in
     record {
       aligned = rw (o, at) w;
@@ -51,11 +51,11 @@ keeps-trace high f k p x o s l at h g w b =
       mark = rw (o, at) (h .mark);
       least = rw (o, at, h .block) (omega arith);
       whole = rw (o, at, h .block) (omega arith);
-      samples-whole = rw (o, at, h .bytes) d;
+      samples-whole = rw (o, at, h .bytes) (d .1);
       inside = rw (o, at, h .block, h .bytes) (omega arith);
-      code = rw (o, at, h .code) (c .0, c .1);
-      groups = rw (o, at, h .code, h .number) (c .2);
-      samples = rw (o, at, h .code, h .number, h .bytes) n;
+      code = rw (o, at, h .code) (c .least, c .most);
+      groups = rw (o, at, h .code, h .number) (c .groups);
+      samples = rw (o, at, h .code, h .number, h .bytes) (d .0);
       strings = (stringsOf lineFeed (x .sheet), rw (o, s, l, at, h .block, h .area) (spelled high (x .sheet) (g .measures)));
     }
 
@@ -95,8 +95,8 @@ module _ (high : Bool) (slots : ℕ) (sheet : List ℕ) (ts : List Trace) (some 
   abbrev file : List ℕ
   file = fileOf high slots sheet ts
 
-  front : Fronted high slots (length ts) file
-  front = fronted high slots sheet ts few slotted
+  front : Fronted high (4 * slots) (length ts) file
+  front = file-fronted high slots sheet ts few slotted
 
   long : length file ≡ fileSize slots sheet ts
   long = length-file high slots sheet ts slotted good

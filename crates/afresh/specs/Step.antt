@@ -12,14 +12,15 @@ use Rattle.word.specs.Put.{put, length-put, take-put, drop-put-after, put-among
 use Rattle.word.specs.Round.{round4, round4-same}
 use Rattle.word.specs.Word.{bytesOf}
 use Rattle.word.specs.WordLaws.{length-bytesOf}
-use Rattle.sheet.specs.Area.{areaOf}
+use Rattle.sheet.specs.Area.{areaOf, areaSize}
 use Rattle.block.specs.Head.{roomOf, countOf}
 use Rattle.writer.specs.declared.Written.the-variants.{To}
 use Rattle.writer.specs.Layout.{plainEnds, nul, lineFeed, fileBlock, startImage, startSize, Trace, traceSize, traceBytes}
 use Rattle.writer.specs.Answers.{startAnswer, startLeft, newLength, newBytes, addAnswer, grown, addLeft}
 use Rattle.afresh.specs.FileOf.{sizes, pointers, blocks, fileOf, fileSize, Good, AllGood}
-use Rattle.afresh.specs.FileLaws.{frontOf, length-front, around-count, length-fileBlock, length-trace, file-whole, length-pointers, length-file, file-none, size-none, size-low, pointers-more, blocks-more, length-more, size-more, good-append, Fronted, fronted}
-use Rattle.afresh.specs.Shown.{started, start-leaves, Added, added, add-leaves}
+use Rattle.writer.specs.LayoutLaws.{frontOf, length-front, around-count, length-fileBlock, length-startImage, Fronted, length-traceBytes}
+use Rattle.writer.specs.Shown.{started, start-left, Added, added, add-left}
+use Rattle.afresh.specs.FileLaws.{file-whole, length-pointers, file-none, size-none, size-low, pointers-more, blocks-more, length-more, size-more, good-append, file-fronted}
 
 -- the first n bytes of a buffer are the file of a list: what a call is given that goes on with it
 pub record Holds (high : Bool) (slots : ℕ) (sheet : List ℕ) (ts : List Trace) (xs : List ℕ) (n : ℕ) : Type 0 where
@@ -34,33 +35,29 @@ pub record Holds (high : Bool) (slots : ℕ) (sheet : List ℕ) (ts : List Trace
 
 module _ (xs : List ℕ) (order slots : ℕ) (sheet : List ℕ) (e : ℕ) (to : startAnswer xs order slots sheet ≡ To e) where
   length-start : length (startImage (eqb order 1) slots sheet) ≡ e
-  length-start =
-      sym (ap length (file-none (eqb order 1) slots sheet))
-      ∙ length-file (eqb order 1) slots sheet [] (omega arith) tt
-      ∙ size-none slots sheet
-      ∙ sym (started xs order slots sheet e to .0)
+  length-start = length-startImage (eqb order 1) slots sheet ∙ started xs order slots sheet e to .new
 
   -- "This and every other writer leave the bytes past what they write"
   pub start-past : (drop e (startLeft xs order slots sheet) ≡ drop e xs) × (length (startLeft xs order slots sheet) ≡ length xs)
   start-past =
       let l = length-start in
-      rw (start-leaves xs order slots sheet e to)
+      rw (start-left xs order slots sheet e to)
       (drop-put-after e (startImage (eqb order 1) slots sheet) xs 0 (omega arith), length-put xs 0 (startImage (eqb order 1) slots sheet))
 
   pub start-afresh : Holds (eqb order 1) slots sheet [] (startLeft xs order slots sheet) e
   start-afresh =
       let l = length-start in
       let s = started xs order slots sheet e to in
-      let z = s .1 .fits in
+      let z = s .in-buffer in
       let k : 0 + length (startImage (eqb order 1) slots sheet) ≡ e = omega arith in
       let i = take-put-end (startImage (eqb order 1) slots sheet) xs 0 (omega arith) in
       record {
-        image = rw (start-leaves xs order slots sheet e to) ((rw k at i) ∙ sym (file-none (eqb order 1) slots sheet));
-        size = s .0 ∙ sym (size-none slots sheet);
+        image = rw (start-left xs order slots sheet e to) ((rw k at i) ∙ sym (file-none (eqb order 1) slots sheet));
+        size = sym (s .new) ∙ sym (size-none slots sheet);
         fits = omega (arith, start-past .1);
         good = tt;
         slotted = omega arith;
-        few = s .1 .few;
+        few = s .few;
       }
 
 -- ---- an addition
@@ -123,8 +120,8 @@ file-more high slots sheet ts x h =
     ∙ sym (rw (length-more ts x, pointers-more high (startSize slots sheet) ts x, blocks-more high ts x))
 
 module _ (high : Bool) (slots : ℕ) (sheet : List ℕ) (ts : List Trace) (xs : List ℕ) (n : ℕ) (x : Trace) (is : Holds high slots sheet ts xs n) where
-  front : Fronted high slots (length ts) (fileOf high slots sheet ts)
-  front = fronted high slots sheet ts (is .few) (is .slotted)
+  front : Fronted high (4 * slots) (length ts) (fileOf high slots sheet ts)
+  front = file-fronted high slots sheet ts (is .few) (is .slotted)
 
   -- n is a multiple of 4: "The new trace begins at the old length rounded up to 4" without a gap
   whole : round4 n ≡ n
@@ -141,13 +138,13 @@ module _ (high : Bool) (slots : ℕ) (sheet : List ℕ) (ts : List Trace) (xs : 
 
   -- what an accepted addition has shown of the trace and of the slots, said of the list
   module _ (end : ℕ) (to : addAnswer xs n x ≡ To end) where
-    shown : Added xs n x
-    shown = added xs n x end to .1
+    shown : Added xs n x end
+    shown = added xs n x end to
 
     good-new : Good x
     good-new =
         record {
-          measures = (shown .measures .0, rw (is .image, front .strings, front .lines) at (shown .measures .1));
+          measures = (areaSize nul lineFeed (x .sheet), rw (is .image, front .strings, front .lines) at (shown .sized));
           kind = shown .kind;
           held = shown .held;
         }
@@ -156,24 +153,24 @@ module _ (high : Bool) (slots : ℕ) (sheet : List ℕ) (ts : List Trace) (xs : 
     slot-free =
         let a : countOf (take n xs) ≡ length ts = ap countOf (is .image) ∙ front .count in
         let b : roomOf (take n xs) ≡ 4 * slots = ap roomOf (is .image) ∙ front .room in
-        let c = shown .free in
+        let c = shown .slot in
         omega arith
 
     pub add-end : end ≡ n + traceSize nul lineFeed x
-    add-end = added xs n x end to .0 ∙ new-end
+    add-end = sym (shown .new) ∙ new-end
 
     add-room : n + traceSize nul lineFeed x ≤ length xs
-    add-room = rw new-end at (shown .fits)
+    add-room = let e = add-end in let r = shown .in-buffer in omega arith
 
     left-as : addLeft xs n x
         ≡ put (put (put xs n (traceBytes high nul lineFeed x)) (32 + 4 * length ts) (bytesOf 4 high n)) 6 (bytesOf 2 high (length ts + 1))
-    left-as = add-leaves xs n x end to ∙ grown-at
+    left-as = add-left xs n x end to ∙ grown-at
 
     -- "This and every other writer leave the bytes past what they write"
     pub add-past : (drop end (addLeft xs n x) ≡ drop end xs) × (length (addLeft xs n x) ≡ length xs)
     add-past =
         let t = traceBytes high nul lineFeed x in
-        let l : length t ≡ traceSize nul lineFeed x = length-trace high nul lineFeed x (shown .kind) in
+        let l : length t ≡ traceSize nul lineFeed x = length-traceBytes high nul lineFeed x (shown .kind) in
         let s = add-end in
         let w = is .size in
         let low = size-low slots sheet ts in
@@ -191,7 +188,7 @@ module _ (high : Bool) (slots : ℕ) (sheet : List ℕ) (ts : List Trace) (xs : 
     pub add-afresh : Holds high slots sheet (ts ++ (x ∷ [])) (addLeft xs n x) end
     add-afresh =
         let t = traceBytes high nul lineFeed x in
-        let l : length t ≡ traceSize nul lineFeed x = length-trace high nul lineFeed x (shown .kind) in
+        let l : length t ≡ traceSize nul lineFeed x = length-traceBytes high nul lineFeed x (shown .kind) in
         let r = add-room in
         let s = add-end in
         let e : end ≡ n + length t = omega arith in

@@ -9,5 +9,4 @@ pub mod Agreed
 pub mod Marks
 pub mod Meaning
 pub mod Rounded
-pub mod Worked
 pub mod LocationMarks

@@ -9,4 +9,3 @@ pub mod WriteLaws
 pub mod Back
 pub mod Cut
 pub mod Classes
-pub mod Worked

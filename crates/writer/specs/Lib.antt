@@ -1,3 +1,5 @@
 pub mod Layout
 pub mod Answers
+pub mod LayoutLaws
+pub mod Shown
 pub mod Writes

@@ -14,42 +14,34 @@ use Rattle.word.specs.Part.{part, part-first, part-none}
 use Rattle.word.specs.Put.{put, put-append, length-put}
 use Rattle.word.specs.Round.{round4}
 use Rattle.word.specs.Word.{bytesOf}
-use Rattle.word.specs.WordLaws.{length-bytesOf, word-small}
+use Rattle.word.specs.WordLaws.{length-bytesOf}
 use Rattle.word.specs.Bytes.{Bytes, bytes-take}
-use Rattle.refusal.specs.Rows.{pick}
 use Rattle.refusal.specs.Table.{refusal}
 use Rattle.refusal.specs.declared.Refusal.{Refusal}
 use Rattle.refusal.specs.declared.Rule.the-variants.{NoSlot, EntryCode, NoRoom, StartValues}
 use Rattle.refusal.specs.declared.Part.the-variants.{File}
-use Rattle.refusal.specs.declared.Verdict.{Verdict}
 use Rattle.refusal.specs.declared.Verdict.the-variants as verdict
-use Rattle.sample.specs.declared.Fit.{Fit}
-use Rattle.sample.specs.declared.Fit.the-variants.{All, At}
+use Rattle.sample.specs.declared.Fit.the-variants.{All}
 use Rattle.sample.specs.Needed.{needed, room}
 use Rattle.sample.specs.Sample.{integersAsked, bitsAsked}
 use Rattle.sample.specs.Unfit.{unfitIntegers, unfitPatterns}
 use Rattle.sample.specs.Write.{integersData, bitsData}
-use Rattle.sheet.specs.declared.Measured.{Measured}
 use Rattle.sheet.specs.declared.Measured.the-variants as measured
 use Rattle.sheet.specs.Area.{areaOf, areaSize, measuredOf}
 use Rattle.sheet.specs.Sizes.{length-area}
 use Rattle.sheet.specs.Spelling.{measured-size}
 use Rattle.block.specs.Head.{highFirst, roomOf, countOf, terminatorAt, stringEnd, lineEnd, goodTerminator}
 use Rattle.block.specs.HeadLaws.{good-most, neither}
-use Rattle.block.specs.Image.{imageOf, badLength, checkOf, fileBlockOf}
+use Rattle.block.specs.Image.{checkOf, fileBlockOf}
 use Rattle.block.specs.declared.FileBlock.{FileBlock}
-use Rattle.block.specs.ImageLaws.{long-enough}
-use Rattle.block.specs.Accepted.{image-headed}
 use Rattle.writer.specs.declared.Written.{Written}
 use Rattle.writer.specs.declared.Written.the-variants.{To, Refused}
 use Rattle.writer.specs.Layout.{orderMark, plainEnds, nul, lineFeed, fileBlock, startImage, startSize, Trace, Samples, integers, patterns, ofIntegers, ofPatterns, count, fitting, unfit, samplesData, traceBlock, dataBytes, traceSize, traceBytes}
-use Rattle.writer.specs.Answers.{refuse, within, onWritten, badStart, startAnswer, startLeft, onVerdict, noSlot, openedOf, onFit, samplesOf, newLength, addAnswer, newBytes, grown, addLeft}
+use Rattle.writer.specs.LayoutLaws.{length-mark, length-fileBlock, length-traceBlock, kinded, room-enough}
+use Rattle.writer.specs.Shown.{room-small, placed, opened, samples-fit}
+use Rattle.writer.specs.Answers.{refuse, within, onWritten, badStart, startAnswer, startLeft, openedOf, onFit, samplesOf, newLength, addAnswer, newBytes, grown, addLeft}
 
 -- ---- a start
-
-length-mark : (high : Bool) → length (orderMark high) ≡ 2
-length-mark true = refl
-length-mark false = refl
 
 pub ends-put : (xs : List ℕ) → put (put xs 8 (1 ∷ 0 ∷ 0 ∷ 1 ∷ 10 ∷ 0 ∷ [])) 14 (replicate 18 0) ≡ put xs 8 plainEnds
 ends-put xs = sym (put-append (1 ∷ 0 ∷ 0 ∷ 1 ∷ 10 ∷ 0 ∷ []) (replicate 18 0) xs 8)
@@ -69,11 +61,6 @@ file-block-put high m xs =
       length-bytesOf 2 high 0,
     ))
 
-pub length-file-block : (high : Bool) (m n : ℕ) → length (fileBlock high m n) ≡ 32
-unfolding fileBlock
-length-file-block high m n =
-    simp (length-append, length-mark, length-bytesOf)
-
 pub start-put : (high : Bool) (slots : ℕ) (sheet xs : List ℕ)
     → put (put (put xs 0 (fileBlock high (4 * slots) 0)) 32 (replicate (32 + 4 * slots - 32) 0)) (32 + 4 * slots) (areaOf high nul lineFeed sheet)
     ≡ put xs 0 (startImage high slots sheet)
@@ -82,7 +69,7 @@ start-put high slots sheet xs =
     let e : 32 + 4 * slots - 32 ≡ 4 * slots = omega arith in
     sym (rw (
       put-append (fileBlock high (4 * slots) 0) (replicate (4 * slots) 0 ++ areaOf high nul lineFeed sheet) xs 0,
-      length-file-block high (4 * slots) 0,
+      length-fileBlock high (4 * slots) 0,
       put-append (replicate (4 * slots) 0) (areaOf high nul lineFeed sheet),
       length-replicate {A = ℕ} (4 * slots) 0,
       e,
@@ -144,14 +131,10 @@ block-put high b d s code xs =
     )
     (put-append (code ∷ []) (replicate 19 0) _ 12))
 
-pub length-block : (high : Bool) (b d s code : ℕ) → length (traceBlock high b d s code) ≡ 32
-unfolding traceBlock
-length-block high b d s code = simp (length-append, length-bytesOf)
-
 pub head-put : (high : Bool) (b d s code : ℕ) (t u sheet xs : List ℕ)
     → put (put xs 0 (traceBlock high b d s code)) 32 (areaOf high t u sheet) ≡ put xs 0 (traceBlock high b d s code ++ areaOf high t u sheet)
 head-put high b d s code t u sheet xs =
-    sym (rw (put-append (traceBlock high b d s code) (areaOf high t u sheet) xs 0, length-block high b d s code))
+    sym (rw (put-append (traceBlock high b d s code) (areaOf high t u sheet) xs 0, length-traceBlock high b d s code))
 
 -- ---- what must hold of a trace before its bytes are written, and of a buffer before it grows
 
@@ -171,7 +154,7 @@ trace-put high t u size x xs m =
     let a : areaSize t u (x .sheet) ≡ size = measured-size t u (x .sheet) size m .1 in
     let h : List ℕ = traceBlock high (32 + size) (dataBytes x) (count (x .samples)) (x .code) in
     let l : length (h ++ areaOf high t u (x .sheet)) ≡ 32 + size =
-    length-append h (areaOf high t u (x .sheet)) ∙ ap₂ (λ (i j : ℕ). i + j) (length-block high (32 + size) (dataBytes x) (count (x .samples)) (x .code)) (length-area high t u (x .sheet) ∙ a) in
+    length-append h (areaOf high t u (x .sheet)) ∙ ap₂ (λ (i j : ℕ). i + j) (length-traceBlock high (32 + size) (dataBytes x) (count (x .samples)) (x .code)) (length-area high t u (x .sheet) ∙ a) in
     let z : 0 + (32 + size) ≡ 32 + size = omega arith in
     sym (rw (
       a,
@@ -181,64 +164,7 @@ trace-put high t u size x xs m =
       z,
     ))
 
--- ---- what the rows before the samples have shown
-
--- `asked` in two steps: a verdict that refuses, and one that does not
-verdict-opened : (v : Verdict) (m : Measured) (size : ℕ) → onVerdict v m ≡ measured.Size size → (v ≡ verdict.Accepted) × (m ≡ measured.Size size)
-verdict-opened verdict.Accepted m size e = (refl, e)
-verdict-opened (verdict.Refused r) m size e = let z : _≡_ {A = ℕ} 0 1 = cc in absurd (omega arith)
-
-free-opened : (b : Bool) (r : Refusal) (m : Measured) (size : ℕ) → pick b (measured.Refused r) m ≡ measured.Size size → (b ≡ false) × (m ≡ measured.Size size)
-free-opened true r m size e = let z : _≡_ {A = ℕ} 0 1 = cc in absurd (omega arith)
-free-opened false r m size e = (refl, e)
-
-pub record Opened (xs : List ℕ) (n : ℕ) (sheet : List ℕ) (size : ℕ) : Type 0 where
-  pub accepted : checkOf true xs n ≡ verdict.Accepted
-  pub image : imageOf true (take n xs) ≡ verdict.Accepted
-  pub low : 32 ≤ n
-  pub most : n ≤ 67108864
-  pub within : n ≤ length xs
-  pub slot : 4 * countOf (take n xs) + 4 ≤ roomOf (take n xs)
-  pub room : 32 + roomOf (take n xs) ≤ n
-  pub string : (0 < getD (take n xs) 8 0) × (getD (take n xs) 8 0 ≤ 2)
-  pub line : (0 < getD (take n xs) 11 0) × (getD (take n xs) 11 0 ≤ 2)
-  pub measured : measuredOf (stringEnd (take n xs)) (lineEnd (take n xs)) sheet ≡ measured.Size size
-
--- a length that passes row 1, and the image that is checked then
-pub checked : (grow : Bool) (xs : List ℕ) (n : ℕ) → checkOf grow xs n ≡ verdict.Accepted
-    → (badLength (length xs) n ≡ false) × (imageOf grow (take n xs) ≡ verdict.Accepted)
-unfolding checkOf
-checked grow xs n e = go (badLength (length xs) n) refl e
-  where
-    go : (w : Bool) → badLength (length xs) n ≡ w → pick w (verdict.Refused (refusal Rattle.refusal.specs.declared.Rule.the-variants.Length File 0)) (imageOf grow (take n xs)) ≡ verdict.Accepted
-        → (badLength (length xs) n ≡ false) × (imageOf grow (take n xs) ≡ verdict.Accepted)
-    go true h k = let z : _≡_ {A = ℕ} 0 1 = cc in absurd (omega arith)
-    go false h k = (h, k)
-
-pub opened : (xs : List ℕ) (n : ℕ) (sheet : List ℕ) (size : ℕ) → openedOf xs n sheet ≡ measured.Size size → Opened xs n sheet size
-unfolding openedOf
-opened xs n sheet size e =
-    let v = verdict-opened (checkOf true xs n) _ size e in
-    let s = free-opened (noSlot (roomOf (take n xs)) (countOf (take n xs))) _ _ size (v .1) in
-    let c = checked true xs n (v .0) in
-    let l = long-enough (length xs) n (c .0) in
-    let h = image-headed true (take n xs) (c .1) in
-    let k : length (take n xs) ≡ n = length-take-le n xs (l .2) in
-    let f : 32 + roomOf (take n xs) ≤ length (take n xs) = h .fits in
-    record {
-      accepted = v .0;
-      image = c .1;
-      low = l .0;
-      most = l .1;
-      within = l .2;
-      slot = ltb-false _ _ (s .0);
-      room = omega arith;
-      string = good-most (take n xs) 8 (h .strings);
-      line = good-most (take n xs) 11 (h .lines);
-      measured = s .1;
-    }
-
--- the terminators as the code takes them out of the buffer
+-- ---- the terminators as the code takes them out of the buffer
 pub end-taken : (xs : List ℕ) (n at : ℕ) → at + 3 ≤ n → n ≤ length xs → getD (take n xs) at 0 ≤ 2
     → take (getD xs at 0) (getD xs (at + 1) 0 ∷ getD xs (at + 2) 0 ∷ []) ≡ terminatorAt (take n xs) at
 unfolding terminatorAt
@@ -257,29 +183,7 @@ end-taken xs n at h k small =
     let g : at + 1 + getD f at 0 - (at + 1) ≡ getD f at 0 = omega arith in
     rw (← a, ← b, ← c, ← p2, d, g) (take-take (getD f at 0) 2 (drop (at + 1) f) small)
 
--- ---- samples: a code that fits is 1 to 5, and each sample has a byte at least and 8 at most
-
-pub fitting-code : (code : ℕ) (x : Samples) → fitting code x ≡ true → (1 ≤ code) × (code ≤ 5)
-unfolding fitting
-fitting-code zero (integers row) h = let z : _≡_ {A = ℕ} 0 1 = cc in absurd (omega arith)
-fitting-code zero (patterns row) h = let z : _≡_ {A = ℕ} 0 1 = cc in absurd (omega arith)
-fitting-code (suc zero) x h = (omega arith, omega arith)
-fitting-code (suc (suc zero)) x h = (omega arith, omega arith)
-fitting-code (suc (suc (suc zero))) x h = (omega arith, omega arith)
-fitting-code (suc (suc (suc (suc zero)))) x h = (omega arith, omega arith)
-fitting-code (suc (suc (suc (suc (suc zero))))) x h = (omega arith, omega arith)
-fitting-code (suc (suc (suc (suc (suc (suc c)))))) (integers row) h = let z : _≡_ {A = ℕ} 0 1 = cc in absurd (omega arith)
-fitting-code (suc (suc (suc (suc (suc (suc c)))))) (patterns row) h = let z : _≡_ {A = ℕ} 0 1 = cc in absurd (omega arith)
-
-pub room-least : (code s : ℕ) → 1 ≤ code → code ≤ 5 → s ≤ room code s
-unfolding room needed
-room-least zero s h k = absurd (omega arith)
-room-least (suc zero) s h k = omega arith
-room-least (suc (suc zero)) s h k = omega arith
-room-least (suc (suc (suc zero))) s h k = omega arith
-room-least (suc (suc (suc (suc zero)))) s h k = omega arith
-room-least (suc (suc (suc (suc (suc zero))))) s h k = omega arith
-room-least (suc (suc (suc (suc (suc (suc c)))))) s h k = absurd (omega arith)
+-- ---- samples: each has 8 bytes at most
 
 pub room-most : (code s : ℕ) → room code s ≤ 8 * s + 3
 unfolding room needed
@@ -290,17 +194,6 @@ room-most (suc (suc (suc zero))) s = omega arith
 room-most (suc (suc (suc (suc zero)))) s = omega arith
 room-most (suc (suc (suc (suc (suc zero))))) s = omega arith
 room-most (suc (suc (suc (suc (suc (suc c)))))) s = omega arith
-
--- rows 28 and 29 are not met
-pub samples-fit : (code : ℕ) (x : Samples) → samplesOf code x ≡ verdict.Accepted → (fitting code x ≡ true) × (unfit code x ≡ All)
-unfolding samplesOf
-samples-fit code x e = go (fitting code x) refl (unfit code x) refl e
-  where
-    go : (w : Bool) → fitting code x ≡ w → (v : Fit) → unfit code x ≡ v → pick (not w) (verdict.Refused (refusal EntryCode File 0)) (onFit v) ≡ verdict.Accepted
-        → (fitting code x ≡ true) × (unfit code x ≡ All)
-    go true h All k d = (h, k)
-    go true h (At i) k d = let z : _≡_ {A = ℕ} 0 1 = cc in absurd (omega arith)
-    go false h v k d = let z : _≡_ {A = ℕ} 0 1 = cc in absurd (omega arith)
 
 -- ---- an addition's answers, with what is left in the buffer
 
@@ -453,9 +346,9 @@ pub record Checked (xs : List ℕ) (n : ℕ) : Type 0 where
 
 pub accepted : (xs : List ℕ) (n : ℕ) → checkOf true xs n ≡ verdict.Accepted → Checked xs n
 accepted xs n e =
-    let c = checked true xs n e in
-    let l = long-enough (length xs) n (c .0) in
-    let h = image-headed true (take n xs) (c .1) in
+    let p = placed true xs n e in
+    let l = p .0 in
+    let h = p .1 in
     let k : length (take n xs) ≡ n = length-take-le n xs (l .2) in
     let f : 32 + roomOf (take n xs) ≤ length (take n xs) = h .fits in
     record { low = l .0; most = l .1; within = l .2; size = k; room = omega arith; count = h .count; strings = h .strings; lines = h .lines }
@@ -541,10 +434,6 @@ pub record Growing (xs : List ℕ) (n : ℕ) (sheet : List ℕ) (size : ℕ) (x 
   pub few : count (x .samples) ≤ 67108864
   pub inside : round4 n + (32 + size + room (x .code) (count (x .samples))) ≤ length xs
 
-room-small : (f : List ℕ) → Bytes f → roomOf f < 65536
-unfolding roomOf
-room-small f by = word-small 2 (highFirst f) f 4 by
-
 pub growing : (xs : List ℕ) (n size : ℕ) (x : Trace) (end : ℕ) → Bytes xs → openedOf xs n (x .sheet) ≡ measured.Size size
     → samplesOf (x .code) (x .samples) ≡ verdict.Accepted → count (x .samples) ≤ 67108864
     → end ≡ round4 n + (32 + size + room (x .code) (count (x .samples))) → end ≤ length xs → Growing xs n (x .sheet) size x
@@ -552,20 +441,20 @@ growing xs n size x end by e fit few q h =
     let f = samples-fit (x .code) (x .samples) fit in
     let o = opened xs n (x .sheet) size e in
     let a = accepted xs n (o .accepted) in
-    let low : 32 ≤ n = o .low in
-    let l : n ≤ length xs = o .within in
-    let s : getD (take n xs) 8 0 ≤ 2 = o .string .1 in
-    let v : getD (take n xs) 11 0 ≤ 2 = o .line .1 in
+    let low : 32 ≤ n = a .low in
+    let l : n ≤ length xs = a .within in
+    let s : getD (take n xs) 8 0 ≤ 2 = good-most (take n xs) 8 (a .strings) .1 in
+    let v : getD (take n xs) 11 0 ≤ 2 = good-most (take n xs) 11 (a .lines) .1 in
     let r : roomOf (take n xs) < 65536 = room-small (take n xs) (bytes-take n xs by) in
     record {
       plain =
           record {
             low = low;
-            most = o .most;
+            most = a .most;
             within = l;
             size = a .size;
             round = omega arith;
-            slot = omega (arith, o .slot, o .room);
+            slot = omega (arith, o .slot, a .room);
             few = omega (arith, o .slot);
             string = rw (getD-take n xs 8 0 (omega arith)) at s;
             line = rw (getD-take n xs 11 0 (omega arith)) at v;
@@ -612,8 +501,8 @@ pub add-long : (xs : List ℕ) (n : ℕ) (x : Trace) (size : ℕ) → openedOf x
     → (refuse NoRoom 0 ≡ addAnswer xs n x) × (xs ≡ addLeft xs n x)
 unfolding newLength
 add-long xs n x size o fit h =
-    let c = fitting-code (x .code) (x .samples) (samples-fit (x .code) (x .samples) fit .0) in
-    let l = room-least (x .code) (count (x .samples)) (c .0) (c .1) in
+    let c = kinded (x .code) (x .samples) (samples-fit (x .code) (x .samples) fit .0) .each in
+    let l = room-enough (x .code) (count (x .samples)) .0 in
     let e : ℕ = round4 n + traceSize (stringEnd (take n xs)) (lineEnd (take n xs)) x in
     add-full xs n x size o fit e refl (or-second (ltb (length xs) e) (ltb 67108864 e) (lt-ltb 67108864 e (omega arith)))
   where

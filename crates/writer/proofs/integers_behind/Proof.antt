@@ -2,7 +2,9 @@
 use mathlib.Core.Path.{sym, _∙_}
 use lib.ListN.{length}
 use Rattle.writer.specs.Layout.{ofIntegers, count}
-use Rattle.writer.specs.Writes.{opened, add-unfit, add-long, add-full, add-fits, new-end, samples-fit, fitting-code, growing}
+use Rattle.writer.specs.LayoutLaws.{kinded}
+use Rattle.writer.specs.Shown.{opened, samples-fit}
+use Rattle.writer.specs.Writes.{add-unfit, add-long, add-full, add-fits, new-end, growing}
 use Rattle.block.specs.HeadLaws.{neither}
 use Rattle.word.specs.Bytes.{each-bytes}
 use borrow.Author.Tests.{ltb-false}
@@ -23,7 +25,7 @@ integers-behind-spec =
     (λ c. search needs)
     (λ c κs. search needs)
     (λ c. let a = add-long (c .before .before .before .before .before .before .before .args .buffer .now) (c .before .before .before .before .before .before .before .args .length) (ofIntegers (c .before .before .before .before .before .before .before .args .sheet .now) (c .before .before .before .before .before .before .before .args .code) (c .before .before .before .before .before .before .before .args .row .now)) (c .before .before .before .before .before .before .before .args .size) (c .before .before .before .before .before .before .before .pre) (sym (c .before .before .before .before .integers-fit .ensures) ∙ c .before .before .enum-told .given .1) (c .before .if1 .taken) in (c .refusing .ensures ∙ a .0, a .1))
-    (λ c. let k = fitting-code _ _ (samples-fit _ _ (sym (c .before .before .before .integers-fit .ensures) ∙ c .before .enum-told .given .1) .0) in omega (arith, k .1))
+    (λ c. let k = kinded _ _ (samples-fit _ _ (sym (c .before .before .before .integers-fit .ensures) ∙ c .before .enum-told .given .1) .0) in omega (arith, k .most))
     (λ c. search needs)
     (λ c κs. let o = opened _ _ _ _ (c .before .before .before .before .before .before .pre) in (o .most, measured-size _ _ _ _ (o .measured) .2))
     (λ c κs. search needs)

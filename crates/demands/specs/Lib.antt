@@ -1,0 +1,11 @@
+pub mod FirstRow
+pub mod FileRows
+pub mod WriterRows
+pub mod QuestionRows
+pub mod Answers
+pub mod ListReads
+pub mod Reading
+pub mod Growing
+pub mod One
+pub mod Excluded
+pub mod Worked

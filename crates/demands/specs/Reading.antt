@@ -1,0 +1,215 @@
+-- Demand 2: "Reading agrees with the 1990 paper as document 01 fixes it: a file is accepted exactly when it keeps those rules, and its strings, numbers and
+-- samples are the paper's; what we write reads back as what was given, save the low bits that 20-bit samples cannot hold."
+-- Assumes nothing.
+use mathlib.Core.Path.{_≡_, refl, sym, ap, _∙_}
+use mathlib.Core.Bool.{Bool, true, false}
+use mathlib.Core.List.{List, [], _∷_, _++_, map}
+use mathlib.Core.Logic.{_↔_}
+use Prim.Native.Nat.{ℕ, _+_, _*_, _/_, _%_, _^_, _≤_, _<_}
+use native.Mathlib.Omega.{arith}
+use lib.IntN.{ℤ, pos, negsuc, natAbs, _-ℤ_}
+use lib.ListN.{length, getD, take}
+use lib.Ieee as ieee
+use lib.Ieee.{Float, Format, binary64, round}
+use Rattle.word.specs.Bytes.{Bytes}
+use Rattle.word.specs.Part.{part}
+use Rattle.word.specs.Round.{round4}
+use Rattle.word.specs.Word.{wordAt}
+use Rattle.refusal.specs.declared.Rule.the-variants.{NoNumber}
+use Rattle.refusal.specs.declared.Part.the-variants.{File}
+use Rattle.refusal.specs.declared.Verdict.the-variants.{Accepted}
+use Rattle.refusal.specs.Table.{refusal}
+use Rattle.text.specs.Spelled.{Str, valueOfKey}
+use Rattle.decimal.specs.declared.Decimal.{Decimal}
+use Rattle.decimal.specs.declared.Coordinates.{Coordinates}
+use Rattle.decimal.specs.declared.NumberAnswer.the-variants as number
+use Rattle.decimal.specs.declared.DoubleAnswer.the-variants as double
+use Rattle.decimal.specs.declared.LocationAnswer.the-variants as location
+use Rattle.decimal.specs.Grammar.{Parts, Writes, Short, over, under}
+use Rattle.decimal.specs.Number.{decimalOf, noNumber, tooLong, numberOf}
+use Rattle.decimal.specs.Double.{doubleOf}
+use Rattle.decimal.specs.Location.{locationOf}
+use Rattle.decimal.specs.Meaning.{Means, number-means}
+use Rattle.decimal.specs.Agreed.{parts-unique, is-number, no-number, too-long}
+use Rattle.decimal.specs.Marks.{comma, comma-double}
+use Rattle.decimal.specs.LocationMarks.{comma-location}
+use Rattle.decimal.specs.Rounded.{text-rounded-once}
+use Rattle.sample.specs.Needed.{width}
+use Rattle.sample.specs.Run.{run}
+use Rattle.sample.specs.Sample.{patternOf, twos, exponentIn, scaled, groupSample, sampleOf, classOf}
+use Rattle.sample.specs.Classes.{valueClass, codeOf, class-ieee}
+use Rattle.sample.specs.Write.{exponentOf}
+use Rattle.sample.specs.Cut.{cut, cut-near, cut-exact}
+use Rattle.sheet.specs.declared.Measured.the-variants.{Size}
+use Rattle.sheet.specs.Lines.{linesOf}
+use Rattle.sheet.specs.Area.{joined, areaSize, stringsOf, measuredOf}
+use Rattle.sheet.specs.Paper.{sheetOf, GoodLines, accepted-lines}
+use Rattle.sheet.specs.Spelling.{measured-size}
+use Rattle.sheet.specs.Meaning.{Parted, lines-parted}
+use Rattle.block.specs.Head.{highFirst, countOf}
+use Rattle.block.specs.Image.{dataAt, endAt, checkOf}
+use Rattle.block.specs.Keeps.{traceAt, Keeps}
+use Rattle.block.specs.Accepted.{accepted-keeps, keeps-accepted}
+use Rattle.reader.specs.declared.FileAnswer.the-variants as file
+use Rattle.reader.specs.Questions.{fileAnswer, codeAt, countAt, ofIntegers, ofBits, dataOf, samplesOf, patternsOf, classesOf, integersAnswer, bitsAnswer, integersLeft, patternsLeft, classesLeft, numberAnswer, doubleAnswer, locationAnswer}
+use Rattle.reader.specs.Listed.{Lists, file-lists, trace-lists, lists-once}
+use Rattle.reader.specs.Answers.{integers-read, bits-read}
+use Rattle.writer.specs.declared.Written.the-variants.{To}
+use Rattle.writer.specs.Layout.{nul, lineFeed, Trace}
+use Rattle.writer.specs.Answers.{startAnswer, startLeft, addAnswer, addLeft}
+use Rattle.writer.specs.Shown.{started, added, add-left}
+use Rattle.growth.specs.Answered.{AnswersBy, answered}
+use Rattle.growth.specs.TraceReads.{readBack, ReadsAs}
+use Rattle.growth.specs.ReadsLast.{reads-last}
+use Rattle.afresh.specs.FileOf.{fileSize}
+use Rattle.afresh.specs.Calls.{after, acceptedOf, start-grows}
+use Rattle.afresh.specs.Stands.{noTrace}
+use Rattle.afresh.specs.Afresh.{accepted-writable}
+use Rattle.demands.specs.ListReads.{list-reads, list-file-block, list-file-strings}
+
+-- ---- "a file is accepted exactly when it keeps those rules": for every buffer of bytes and every length. Rules out a reader that refuses all files, and one
+-- that takes a broken one.
+
+pub accepted-exactly-when-kept : (xs : List ℕ) (n : ℕ) → Bytes xs → (checkOf false xs n ≡ Accepted) ↔ ((n ≤ length xs) × Keeps false (take n xs))
+accepted-exactly-when-kept xs n by = (accepted-keeps false xs n by, λ k. keeps-accepted false xs n (k .0) (k .1))
+
+-- the same of an image that an addition takes, which may have no trace
+pub taken-exactly-when-kept : (xs : List ℕ) (n : ℕ) → Bytes xs → (checkOf true xs n ≡ Accepted) ↔ ((n ≤ length xs) × Keeps true (take n xs))
+taken-exactly-when-kept xs n by = (accepted-keeps true xs n by, λ k. keeps-accepted true xs n (k .0) (k .1))
+
+-- ---- "its strings .. are the paper's": each part of an accepted file has one list of strings, which its bytes spell (`Spells`), and every question on it is
+-- answered by that list. Rules out a reader that skips, doubles, reorders or invents a string.
+
+pub strings-of-the-file : (xs : List ℕ) (n : ℕ) → Bytes xs → checkOf false xs n ≡ Accepted
+    → (ss : List Str) × Lists (take n xs) (negsuc 0) ss × AnswersBy xs n (negsuc 0) ss
+strings-of-the-file xs n by ok = let l = file-lists xs n by ok in (l .0, l .1, answered xs n (negsuc 0) (l .0) ok (l .1))
+
+pub strings-of-a-trace : (xs : List ℕ) (n k : ℕ) → Bytes xs → checkOf false xs n ≡ Accepted → k < countOf (take n xs)
+    → (ss : List Str) × Lists (take n xs) (pos k) ss × AnswersBy xs n (pos k) ss
+strings-of-a-trace xs n k by ok low = let l = trace-lists xs n k by ok low in (l .0, l .1, answered xs n (pos k) (l .0) ok (l .1))
+
+pub one-list-of-strings : (f : List ℕ) (z : ℤ) (ss rs : List Str) → Lists f z ss → Lists f z rs → ss ≡ rs
+one-list-of-strings = lists-once
+
+-- ---- "its .. numbers .. are the paper's"
+
+-- a number is what the grammar writes, with not too many digits. Rules out a reader that takes more or fewer texts than document 01's.
+pub number-exactly-when-written : (t : List ℕ) (n : Decimal) → (numberOf t ≡ number.Is n) ↔ ((p : Parts) × Writes p t × Short p × (n ≡ decimalOf p))
+number-exactly-when-written = is-number
+
+pub no-number-exactly-when-unwritten : (t : List ℕ) → (numberOf t ≡ noNumber) ↔ ((p : Parts) → Writes p t → ⊥)
+no-number-exactly-when-unwritten = no-number
+
+pub too-many-digits-exactly : (t : List ℕ) → (numberOf t ≡ tooLong) ↔ ((p : Parts) × Writes p t × (Short p → ⊥))
+too-many-digits-exactly = too-long
+
+-- and it has the value that its text writes. Rules out a shifted point or power, and a lost digit.
+pub number-means-its-text : (t : List ℕ) (n : Decimal) → numberOf t ≡ number.Is n → (p : Parts) × Writes p t × Means n p
+number-means-its-text = number-means
+
+pub one-way-to-write : (p q : Parts) (t : List ℕ) → Writes p t → Writes q t → p ≡ q
+one-way-to-write = parts-unique
+
+-- "No comma": a value with one is no number, no double and no location. Rules out "Dropping a comma".
+pub never-with-a-comma : (xs : List ℕ) (n : ℕ) (z : ℤ) (ss : List Str) → AnswersBy xs n z ss → (key before after : List ℕ)
+    → valueOfKey ss key ≡ before ++ (44 ∷ after)
+    → (numberAnswer xs n z key ≡ noNumber)
+    × (doubleAnswer xs n z key ≡ double.Refused (refusal NoNumber File 0))
+    × ((l : Coordinates) → locationAnswer xs n z key ≡ location.Is l → ⊥)
+never-with-a-comma xs n z ss a key before after e = (
+  a .number key ∙ ap numberOf e ∙ comma before after,
+  a .double key ∙ ap doubleOf e ∙ comma-double before after,
+  λ l h. comma-location before after l (sym (ap locationOf e) ∙ sym (a .location key) ∙ h),
+)
+
+-- "multiplied or divided once": a double is the text's value, rounded once. Rules out two roundings, and a value next to the nearest.
+pub double-rounded-once : (xs : List ℕ) (n : ℕ) (z : ℤ) (ss : List Str) → AnswersBy xs n z ss → (key : List ℕ) (p : Parts) → Writes p (valueOfKey ss key)
+    → (x : Float) → doubleAnswer xs n z key ≡ double.Is x → x ≡ round binary64 (decimalOf p .minus) (over p) (under p)
+double-rounded-once xs n z ss a key p w x e = text-rounded-once p (valueOfKey ss key) w x (sym (a .double key) ∙ e)
+
+-- ---- "its .. samples are the paper's"
+
+-- the formats, as figures B-1 to B-5 have them. Rules out "Two's complement in code 3" and "Reversing all ten bytes of a group".
+pub samples-by-format : (high : Bool) (block : List ℕ) (i : ℕ)
+    → (sampleOf 1 high block i ≡ twos 32768 (wordAt 2 high block (2 * i)))
+    × (sampleOf 2 high block i ≡ twos 2147483648 (wordAt 4 high block (4 * i)))
+    × (sampleOf 3 high block i ≡ scaled (wordAt 2 high block (i / 4 * 10) / 2 ^ (4 * (i % 4)) % 16) (wordAt 2 high block (i / 4 * 10 + 2 * (i % 4 + 1))))
+    × (patternOf 4 high block i ≡ wordAt 4 high block (4 * i))
+    × (patternOf 5 high block i ≡ wordAt 8 high block (8 * i))
+unfolding sampleOf patternOf width groupSample exponentIn
+samples-by-format high block i = (refl, refl, refl, refl, refl)
+
+-- they are those of the trace's own D bytes from p+B, S of them. Rules out "Using B as the data's file position" and "Taking S from D".
+pub samples-of-the-data : (f : List ℕ) (k : ℕ)
+    → (dataOf f k ≡ part (dataAt (highFirst f) f (traceAt f k)) (endAt (highFirst f) f (traceAt f k)) f)
+    × (samplesOf f k ≡ run (sampleOf (codeAt f k) (highFirst f) (dataOf f k)) 0 (countAt f k))
+    × (patternsOf f k ≡ run (patternOf (codeAt f k) (highFirst f) (dataOf f k)) 0 (countAt f k))
+unfolding dataOf samplesOf patternsOf
+samples-of-the-data f k = (refl, refl, refl)
+
+-- and are left in a row of S elements
+pub integers-are-read : (xs : List ℕ) (n k : ℕ) → checkOf false xs n ≡ Accepted → k < countOf (take n xs) → (row : List ℤ)
+    → ofIntegers (codeAt (take n xs) k) ≡ true → length row ≡ countAt (take n xs) k
+    → (integersAnswer xs n (pos k) (length row) ≡ Accepted) × (integersLeft xs n (pos k) row ≡ samplesOf (take n xs) k)
+integers-are-read = integers-read
+
+pub bits-are-read : (xs : List ℕ) (n k : ℕ) → checkOf false xs n ≡ Accepted → k < countOf (take n xs) → (row classes : List ℕ)
+    → ofBits (codeAt (take n xs) k) ≡ true → length row ≡ countAt (take n xs) k → length classes ≡ countAt (take n xs) k
+    → (bitsAnswer xs n (pos k) (length row) (length classes) ≡ Accepted)
+    × (patternsLeft xs n (pos k) row classes ≡ patternsOf (take n xs) k)
+    × (classesLeft xs n (pos k) row classes ≡ classesOf (take n xs) k)
+bits-are-read = bits-read
+
+-- classes are IEEE 754's
+pub classes-are-ieee : (f : Format) (n : ℕ) → classOf (codeOf f) n ≡ valueClass f (ieee.ofBits f n)
+classes-are-ieee = class-ieee
+
+-- ---- "what we write reads back as what was given, save the low bits that 20-bit samples cannot hold"
+
+-- a sheet that is let through is its lines, one way, and its strings are those lines', NOTE lines joined
+pub strings-are-the-lines : (t u s : List ℕ) (n : ℕ) → measuredOf t u s ≡ Size n
+    → (s ≡ sheetOf (linesOf s)) × GoodLines [] (linesOf s) × (stringsOf u s ≡ joined u (linesOf s)) × Parted u (linesOf s)
+unfolding stringsOf
+strings-are-the-lines t u s n e =
+    let l = accepted-lines s (measured-size t u s n e .0) in
+    (l .0, l .1, refl, lines-parted u (linesOf s) (l .1))
+
+-- the new trace, on any image that an addition takes. Rules out an addition that writes nothing, or writes what reads otherwise.
+pub new-trace-reads-back : (xs : List ℕ) (n : ℕ) (x : Trace) (end : ℕ) → Bytes xs → addAnswer xs n x ≡ To end
+    → ReadsAs (addLeft xs n x) end (countOf (take n xs)) (round4 n) x
+new-trace-reads-back xs n x end by e = rw (add-left xs n x end e) (reads-last by (added xs n x end e))
+
+-- every trace of a file that was started and added to, refused calls in between included, and the file itself. Rules out one that loses an earlier trace.
+module _ (xs : List ℕ) (order slots : ℕ) (sheet : List ℕ) (e : ℕ) (to : startAnswer xs order slots sheet ≡ To e) (calls : List Trace) where
+  abbrev left : List ℕ × ℕ
+  left = after (startLeft xs order slots sheet) e calls
+
+  abbrev given : List Trace
+  given = acceptedOf (startLeft xs order slots sheet) e calls
+
+  most : left .1 ≤ 67108864
+  most = let w = accepted-writable xs order slots sheet e to calls .most in let s = start-grows xs order slots sheet e to calls .holds .size in omega arith
+
+  pub every-trace-reads-back : (k : ℕ) → k < length given → ReadsAs (left .0) (left .1) k (fileSize slots sheet (take k given)) (getD given k noTrace)
+  every-trace-reads-back k low =
+      let s = started xs order slots sheet e to in
+      list-reads (start-grows xs order slots sheet e to calls .holds) (s .some) (areaSize nul lineFeed sheet, s .sized) most k low
+
+  pub file-block-reads-back : 0 < length given
+      → fileAnswer (left .0) (left .1) ≡ file.Is (record { high = lib.Dec.eqb order 1; m = 4 * slots; n = length given; strings = 1; lines = 1 })
+  file-block-reads-back low =
+      let s = started xs order slots sheet e to in
+      list-file-block (start-grows xs order slots sheet e to calls .holds) (s .some) (areaSize nul lineFeed sheet, s .sized) most low
+
+  pub file-strings-read-back : 0 < length given → AnswersBy (left .0) (left .1) (negsuc 0) (stringsOf lineFeed sheet)
+  file-strings-read-back low =
+      let s = started xs order slots sheet e to in
+      list-file-strings (start-grows xs order slots sheet e to calls .holds) (s .some) (areaSize nul lineFeed sheet, s .sized) most low
+
+-- what reads back of samples: codes 1 and 2 as they were, and of code 3 each "differs by less than 2 to the exponent, and by nothing up to 32,767". Rules out
+-- rounding, and the loss of a bit that a mantissa holds.
+pub only-low-bits-are-lost : (row : List ℤ)
+    → (readBack 1 row ≡ row) × (readBack 2 row ≡ row) × (readBack 3 row ≡ map cut row)
+    × ((z : ℤ) → natAbs (z -ℤ cut z) < 2 ^ exponentOf z) × ((z : ℤ) → natAbs z ≤ 32767 → cut z ≡ z)
+unfolding readBack
+only-low-bits-are-lost row = (refl, refl, refl, cut-near, cut-exact)

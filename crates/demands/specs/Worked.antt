@@ -1,0 +1,98 @@
+-- Document 01, "Worked values": "Marked * are the ones to prove, as a single statement over a table." The table has every marked value, and the numbers of
+-- "Numbers in values" beside them.
+-- Assumes nothing.
+use mathlib.Core.Path.{_≡_, refl}
+use mathlib.Core.Bool.{Bool, true, false}
+use mathlib.Core.List.{List, [], _∷_}
+use Prim.Native.Nat.{ℕ}
+use lib.IntN.{ℤ, pos, negsuc}
+use lib.ListN.{length, replicate}
+use Rattle.word.specs.Word.{lowFirst, valueOf, wordAt, lowBytes, bytesOf}
+use Rattle.refusal.specs.declared.Verdict.{Verdict}
+use Rattle.refusal.specs.declared.Verdict.the-variants as verdict
+use Rattle.refusal.specs.Table as refusals
+use Rattle.sample.specs.Needed.{needed, width}
+use Rattle.sample.specs.Run as samples
+use Rattle.sample.specs.Sample.{patternOf, twos, exponentIn, ones, scaled, groupSample, sampleOf, integersThere, integersRead}
+use Rattle.sample.specs.Unfit.{firstFrom, unfitInteger, unfitIntegers}
+use Rattle.sample.specs.Write.{smallest, exponentOf, mantissaOf, onesBits, exponentsOf, wordsOf, groupBytes, groups, filledUp, integersData}
+use Rattle.decimal.specs.declared.NumberAnswer.{NumberAnswer}
+use Rattle.decimal.specs.declared.NumberAnswer.the-variants.{Is, Refused}
+use Rattle.decimal.specs.Run.{run}
+use Rattle.decimal.specs.Number.{has, past, worth, value, powerOf, decimalOf, judged, partsOf, numberOf}
+use Rattle.writer.specs.Layout.{Samples.integers, fitting, unfit}
+use Rattle.writer.specs.Answers.{samplesOf}
+
+-- what a worked value says
+pub data Case : Type 0 where
+  reads : ℕ → Bool → List ℕ → List ℤ → Case  -- under a code, in an order (true: high first), these bytes are these samples
+  writes : ℤ → ℕ → ℤ → Case  -- under code 3 this sample has this exponent and this mantissa
+  becomes : ℤ → ℤ → Case  -- written under code 3, in either order, this sample reads back as that one
+  unwritten : ℕ → List ℤ → ℕ → ℕ → Case  -- these samples are refused under a code, by a number at a place
+  number : List ℕ → Bool → ℕ → ℤ → Case  -- this text is a number: minus, coefficient, power
+  unread : List ℕ → ℕ → Case  -- this text is refused by a number
+
+unfoldable pub row-of : ℕ → List ℤ
+row-of n = replicate n (pos 0)
+
+-- a refusal by its number in the table, and its place
+abbrev refusedBy : Verdict → ℕ × ℕ
+refusedBy verdict.Accepted = (0, 0)
+refusedBy (verdict.Refused r) = (refusals.numberOf (r .rule), r .place)
+
+abbrev unreadBy : NumberAnswer → ℕ × ℕ
+unreadBy (Is n) = (0, 0)
+unreadBy (Refused r) = (refusals.numberOf (r .rule), r .place)
+
+unfoldable pub Holds : Case → Type 0
+unfolding row-of
+Holds (reads code high block row) = integersRead code high block (row-of (length row)) ≡ row
+Holds (writes z e m) = (exponentOf z ≡ e) × (mantissaOf z ≡ m)
+Holds (becomes z v) =
+    (integersRead 3 false (integersData 3 false (z ∷ row-of 3)) (row-of 4) ≡ v ∷ row-of 3)
+    × (integersRead 3 true (integersData 3 true (z ∷ row-of 3)) (row-of 4) ≡ v ∷ row-of 3)
+Holds (unwritten code row r at) = refusedBy (samplesOf code (integers row)) ≡ (r, at)
+Holds (number t m c p) = numberOf t ≡ Is (record { minus = m; coefficient = c; power = p })
+Holds (unread t r) = unreadBy (numberOf t) ≡ (r, 0)
+
+unfoldable pub AllHold : List Case → Type 0
+AllHold [] = Unit {0}
+AllHold (c ∷ cs) = Holds c × AllHold cs
+
+unfoldable pub table : List Case
+table =
+    -- *FF FF, code 1: -1, in either order
+    reads 1 false (255 ∷ 255 ∷ []) (negsuc 0 ∷ [])
+    ∷ reads 1 true (255 ∷ 255 ∷ []) (negsuc 0 ∷ [])
+    -- *00 80 low first: -32768
+    ∷ reads 1 false (0 ∷ 128 ∷ []) (negsuc 32767 ∷ [])
+    -- *80 00 00 00 high first, code 2: -2147483648
+    ∷ reads 2 true (128 ∷ 0 ∷ 0 ∷ 0 ∷ []) (negsuc 2147483647 ∷ [])
+    -- *10 F2 01 00 FE FF 05 00 FF 7F, code 3 low first: 1, -2, 20, 1073709056
+    ∷ reads 3 false (16 ∷ 242 ∷ 1 ∷ 0 ∷ 254 ∷ 255 ∷ 5 ∷ 0 ∷ 255 ∷ 127 ∷ []) (pos 1 ∷ negsuc 1 ∷ pos 20 ∷ pos 1073709056 ∷ [])
+    -- *Writing 100000 in code 3: exponent 2, mantissa 25000
+    ∷ writes (pos 100000) 2 (pos 25000)
+    -- *-32769 reads back -32768; *1073741823 reads back 1073709056
+    ∷ becomes (negsuc 32768) (negsuc 32767)
+    ∷ becomes (pos 1073741823) (pos 1073709056)
+    -- *1073741824: refusal 29, here the second of four samples
+    ∷ unwritten 3 (pos 1073741823 ∷ pos 1073741824 ∷ pos 0 ∷ pos 0 ∷ []) 29 1
+    -- *`0.020`: coefficient 20, power -3
+    ∷ number (48 ∷ 46 ∷ 48 ∷ 50 ∷ 48 ∷ []) false 20 (negsuc 2)
+    -- *`0,020`: refusal 20. *`12.`: refusal 20
+    ∷ unread (48 ∷ 44 ∷ 48 ∷ 50 ∷ 48 ∷ []) 20
+    ∷ unread (49 ∷ 50 ∷ 46 ∷ []) 20
+    -- *`-34.6` is coefficient 346, power -1, minus
+    ∷ number (45 ∷ 51 ∷ 52 ∷ 46 ∷ 54 ∷ []) true 346 (negsuc 0)
+    -- `-2.3E6` is minus 23 and power 5; `1.345E24` is a number; zero has sign plus; three digits behind E: refusal 21
+    ∷ number (45 ∷ 50 ∷ 46 ∷ 51 ∷ 69 ∷ 54 ∷ []) true 23 (pos 5)
+    ∷ number (49 ∷ 46 ∷ 51 ∷ 52 ∷ 53 ∷ 69 ∷ 50 ∷ 52 ∷ []) false 1345 (pos 21)
+    ∷ number (45 ∷ 48 ∷ []) false 0 (pos 0)
+    ∷ unread (49 ∷ 69 ∷ 49 ∷ 48 ∷ 48 ∷ []) 21
+    ∷ []
+
+-- Rules out a library that is right in its laws and wrong in a constant.
+pub worked-values : AllHold table
+unfolding AllHold Holds table row-of lowFirst valueOf wordAt lowBytes bytesOf needed width samples.run patternOf twos exponentIn ones scaled groupSample sampleOf integersThere integersRead firstFrom unfitInteger unfitIntegers smallest exponentOf mantissaOf onesBits exponentsOf wordsOf groupBytes groups filledUp integersData samplesOf fitting unfit numberOf partsOf judged decimalOf powerOf value worth past has run
+worked-values =
+    (refl, (refl, (refl, (refl, (refl, ((refl, refl), ((refl, refl), ((refl, refl), (refl, (refl, (refl, (refl, (refl, (refl, (refl, (refl, (refl, tt)))))))))))))))))

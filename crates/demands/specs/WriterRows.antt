@@ -1,0 +1,195 @@
+-- Demand 1, the writers: "Starting: 31 .., 25, 26, 27, 30. Adding: 1 to 17, then 24 .., 25 bad sheet line, 26 sheet order (place: the line's start; line by
+-- line, 25 first), 27 .., 28 .., 29 .. (first index), 30 .." (document 01), each as one list of rows, and the answer is the first of it that is met, or else
+-- the length that the layout has.
+-- Assumes nothing.
+use mathlib.Core.Path.{_≡_, refl, sym, ap, _∙_}
+use mathlib.Core.Bool.{Bool, true, false, not, cond, _&&_, _||_}
+use mathlib.Core.List.{List, [], _∷_, _++_}
+use Prim.Native.Nat.{ℕ, zero, suc, _+_}
+use lib.ListN.{length, getD, take, drop}
+use lib.Dec.{ltb, leb, eqb}
+use Rattle.refusal.specs.declared.Rule.the-variants.{NoSlot, SheetLine, SheetOrder, AreaSize, EntryCode, SampleRange, NoRoom, StartValues}
+use Rattle.refusal.specs.declared.Part.the-variants.{File}
+use Rattle.refusal.specs.declared.Verdict.{Verdict}
+use Rattle.refusal.specs.declared.Verdict.the-variants.{Accepted, Refused}
+use Rattle.refusal.specs.Table.{refusal}
+use Rattle.refusal.specs.Rows.{pick}
+use Rattle.text.specs.Runs.{all}
+use Rattle.text.specs.Order.{rises}
+use Rattle.sample.specs.Unfit.{firstFrom, unfitInteger, unfitPattern, unfitIntegers, unfitPatterns}
+use Rattle.text.specs.declared.Judged.the-variants.{Keyword, Wrong}
+use Rattle.sheet.specs.declared.Step.the-variants.{Bad}
+use Rattle.sheet.specs.declared.Measured.the-variants as measured
+use Rattle.sheet.specs.Lines.{plain, lineLen, lineOf, keyLen, keyOf, valueOf, spaced, continues, judgedOf, onJudged, stepOf, onStep, checkFrom, linesVerdict}
+use Rattle.sheet.specs.Area as area
+use Rattle.sheet.specs.Area.{areaSize, measuredOf}
+use Rattle.block.specs.Head.{roomOf, countOf, stringEnd, lineEnd}
+use Rattle.reader.specs.Questions.{asked}
+use Rattle.writer.specs.declared.Written.{Written}
+use Rattle.writer.specs.declared.Written.the-variants as written
+use Rattle.writer.specs.Layout.{nul, lineFeed, startSize, Trace, Samples, Samples.integers, Samples.patterns, fitting, unfit}
+use Rattle.writer.specs.Answers.{onMeasured, badStart, startAnswer, onVerdict, noSlot, openedOf, onFit, samplesOf, onSamples, newLength, addAnswer}
+use Rattle.demands.specs.FirstRow.{row, firstOf, first-nothing, first-row, asked-more, asked-row, asked-none}
+use Rattle.demands.specs.FileRows.{checkRows, check-answers-first}
+
+-- ---- the lines of a sheet, from one at the place `at` on: 25 "An empty or unfinished line is bad", no keyword, no tab behind it, a value's character, a
+-- value that starts with a space where the line does not continue a NOTE; 26 "sheet order"; then the next line's
+unfoldable pub lineRows : ℕ → List ℕ → List ℕ → ℕ → List Verdict
+lineRows zero prev s at = []
+lineRows (suc m) prev s at =
+    let l = lineOf s in
+    pick (eqb (length s) 0) []
+    (row (leb (length s) (lineLen s)) SheetLine File at
+    ∷ row (eqb (keyLen l) 0) SheetLine File at
+    ∷ row (not (eqb (getD l (keyLen l) 0) 9)) SheetLine File at
+    ∷ row (not (all plain (valueOf l))) SheetLine File at
+    ∷ row (spaced (valueOf l) && not (continues prev (keyOf l))) SheetLine File at
+    ∷ row (not (continues prev (keyOf l) || rises prev (keyOf l))) SheetOrder File at
+    ∷ lineRows m (take (keyLen l) s) (drop (lineLen s + 1) s) (at + lineLen s + 1))
+
+-- all of them, then 27 "area too large"
+abbrev pub sheetRows : List ℕ → List ℕ → List ℕ → List Verdict
+sheetRows t u s = lineRows (length s) [] s 0 ++ (row (ltb 65500 (areaSize t u s)) AreaSize File 0 ∷ [])
+
+line-first : (e a b c d f g : Bool) (at n k : ℕ) (next : ℕ → ℕ → Verdict) (more : List Verdict) → next k n ≡ firstOf more
+    → pick e Accepted (onStep (pick a (Bad (refusal SheetLine File at))
+    (onJudged (pick b (Wrong SheetLine) (pick c (Wrong SheetLine) (pick d (Wrong SheetLine) (pick f (Wrong SheetLine) (pick g (Wrong SheetOrder) (Keyword n)))))) at k)) next)
+    ≡ firstOf (pick e [] (row a SheetLine File at ∷ row b SheetLine File at ∷ row c SheetLine File at ∷ row d SheetLine File at ∷ row f SheetLine File at ∷ row g SheetOrder File at ∷ more))
+unfolding firstOf
+line-first true a b c d f g at n k next more h = refl
+line-first false true b c d f g at n k next more h = refl
+line-first false false true c d f g at n k next more h = refl
+line-first false false false true d f g at n k next more h = refl
+line-first false false false false true f g at n k next more h = refl
+line-first false false false false false true g at n k next more h = refl
+line-first false false false false false false true at n k next more h = refl
+line-first false false false false false false false at n k next more h = h
+
+lines-first : (m : ℕ) (prev s : List ℕ) (at : ℕ) → checkFrom m prev s at ≡ firstOf (lineRows m prev s at)
+unfolding checkFrom lineRows stepOf judgedOf
+lines-first zero prev s at = sym first-nothing
+lines-first (suc m) prev s at =
+    let l : List ℕ = lineOf s in
+    let next : ℕ → ℕ → Verdict = λ i w. checkFrom m (take w s) (drop (i + 1) s) (at + i + 1) in
+    line-first (eqb (length s) 0) (leb (length s) (lineLen s)) (eqb (keyLen l) 0) (not (eqb (getD l (keyLen l) 0) 9)) (not (all plain (valueOf l)))
+    (spaced (valueOf l) && not (continues prev (keyOf l))) (not (continues prev (keyOf l) || rises prev (keyOf l))) at (keyLen l) (lineLen s) next
+    (lineRows m (take (keyLen l) s) (drop (lineLen s + 1) s) (at + lineLen s + 1))
+    (lines-first m (take (keyLen l) s) (drop (lineLen s + 1) s) (at + lineLen s + 1))
+
+-- a sheet's rows, and else what comes behind them
+sheet-first : (t u s : List ℕ) (more : Written) → onMeasured (measuredOf t u s) more ≡ asked written.Refused (firstOf (sheetRows t u s)) more
+unfolding measuredOf linesVerdict
+sheet-first t u s more =
+    rw (lines-first (length s) [] s 0)
+    (go (firstOf (lineRows (length s) [] s 0)) (ltb 65500 (areaSize t u s))
+    ∙ sym (asked-more written.Refused (lineRows (length s) [] s 0) (row (ltb 65500 (areaSize t u s)) AreaSize File 0 ∷ []) more))
+  where
+    go : (v : Verdict) (w : Bool)
+        → onMeasured (area.onVerdict v (pick w (measured.Refused (refusal AreaSize File 0)) (measured.Size (areaSize t u s)))) more
+        ≡ asked written.Refused v (asked written.Refused (firstOf (row w AreaSize File 0 ∷ [])) more)
+    go (Refused r) w = refl
+    go Accepted true = sym (asked-row written.Refused true AreaSize File 0 [] more)
+    go Accepted false = sym (asked-row written.Refused false AreaSize File 0 [] more ∙ asked-none written.Refused more)
+
+-- ---- a start
+
+abbrev pub startRows : List ℕ → ℕ → ℕ → List ℕ → List Verdict
+startRows xs order slots sheet =
+    row (badStart order slots) StartValues File 0
+    ∷ (sheetRows nul lineFeed sheet ++ (row (ltb (length xs) (startSize slots sheet) || ltb 67108864 (startSize slots sheet)) NoRoom File 0 ∷ []))
+
+-- the last row, and else the length
+room-first : (w : Bool) (end : ℕ) → pick w (written.Refused (refusal NoRoom File 0)) (written.To end) ≡ asked written.Refused (firstOf (row w NoRoom File 0 ∷ [])) (written.To end)
+room-first w end =
+    sym (asked-row written.Refused w NoRoom File 0 [] (written.To end) ∙ ap (λ (v : Written). pick w (written.Refused (refusal NoRoom File 0)) v) (asked-none written.Refused (written.To end)))
+
+-- Rules out a start that refuses a list it could take, or takes one that it must refuse, or answers another length.
+pub start-answers-first : (xs : List ℕ) (order slots : ℕ) (sheet : List ℕ)
+    → startAnswer xs order slots sheet ≡ asked written.Refused (firstOf (startRows xs order slots sheet)) (written.To (startSize slots sheet))
+unfolding startAnswer
+start-answers-first xs order slots sheet =
+    let full : Bool = ltb (length xs) (startSize slots sheet) || ltb 67108864 (startSize slots sheet) in
+    let end : Written = written.To (startSize slots sheet) in
+    sym
+    (asked-row written.Refused (badStart order slots) StartValues File 0 (sheetRows nul lineFeed sheet ++ (row full NoRoom File 0 ∷ [])) end
+    ∙ ap (λ (v : Written). pick (badStart order slots) (written.Refused (refusal StartValues File 0)) v)
+    (asked-more written.Refused (sheetRows nul lineFeed sheet) (row full NoRoom File 0 ∷ []) end
+    ∙ ap (asked written.Refused (firstOf (sheetRows nul lineFeed sheet))) (sym (room-first full (startSize slots sheet)))
+    ∙ sym (sheet-first nul lineFeed sheet (pick full (written.Refused (refusal NoRoom File 0)) end))))
+
+-- ---- an addition
+
+-- 29, a row for each sample
+unfoldable pub sampleRows : {A : Type 0} → (A → Bool) → ℕ → List A → List Verdict
+sampleRows bad i [] = []
+sampleRows bad i (z ∷ zs) = row (bad z) SampleRange File i ∷ sampleRows bad (i + 1) zs
+
+unfoldable pub unfitRows : ℕ → Samples → List Verdict
+unfitRows code (integers zs) = sampleRows (unfitInteger code) 0 zs
+unfitRows code (patterns zs) = sampleRows (unfitPattern code) 0 zs
+
+samples-first : {A : Type 0} (bad : A → Bool) (i : ℕ) (zs : List A) → onFit (firstFrom bad i zs) ≡ firstOf (sampleRows bad i zs)
+unfolding firstFrom sampleRows
+samples-first bad i [] = sym first-nothing
+samples-first bad i (z ∷ zs) = go (bad z) (samples-first bad (i + 1) zs)
+  where
+    go : (w : Bool) → onFit (firstFrom bad (i + 1) zs) ≡ firstOf (sampleRows bad (i + 1) zs)
+        → onFit (cond w (Rattle.sample.specs.declared.Fit.the-variants.At i) (firstFrom bad (i + 1) zs)) ≡ firstOf (row w SampleRange File i ∷ sampleRows bad (i + 1) zs)
+    go true h = sym (first-row true SampleRange File i (sampleRows bad (i + 1) zs))
+    go false h = h ∙ sym (first-row false SampleRange File i (sampleRows bad (i + 1) zs))
+
+unfit-first : (code : ℕ) (s : Samples) → onFit (unfit code s) ≡ firstOf (unfitRows code s)
+unfolding unfit unfitRows unfitIntegers unfitPatterns
+unfit-first code (integers zs) = samples-first (unfitInteger code) 0 zs
+unfit-first code (patterns zs) = samples-first (unfitPattern code) 0 zs
+
+abbrev pub addRows : List ℕ → ℕ → Trace → List Verdict
+addRows xs n x =
+    let f = take n xs in
+    let end = newLength f n x in
+    checkRows true xs n
+    ++ (row (noSlot (roomOf f) (countOf f)) NoSlot File 0
+    ∷ (sheetRows (stringEnd f) (lineEnd f) (x .sheet)
+    ++ (row (not (fitting (x .code) (x .samples))) EntryCode File 0
+    ∷ (unfitRows (x .code) (x .samples) ++ (row (ltb (length xs) end || ltb 67108864 end) NoRoom File 0 ∷ [])))))
+
+-- the steps of the definition, one behind the other
+steps : (c : Verdict) (s : Bool) (m : Rattle.sheet.specs.declared.Measured.Measured) (k : Bool) (f : Verdict) (w more : Written)
+    → onMeasured m (pick k (written.Refused (refusal EntryCode File 0)) (asked written.Refused f w)) ≡ more
+    → onMeasured (onVerdict c (pick s (measured.Refused (refusal NoSlot File 0)) m)) (onSamples (pick k (Refused (refusal EntryCode File 0)) f) w)
+    ≡ asked written.Refused c (pick s (written.Refused (refusal NoSlot File 0)) more)
+steps (Refused r) s m k f w more h = refl
+steps Accepted true m k f w more h = refl
+steps Accepted false (measured.Refused r) k f w more h = h
+steps Accepted false (measured.Size b) true f w more h = h
+steps Accepted false (measured.Size b) false Accepted w more h = h
+steps Accepted false (measured.Size b) false (Refused r) w more h = h
+
+-- Rules out an addition that skips a row, takes them in another order, refuses what no row refuses, or answers another length.
+pub addition-answers-first : (xs : List ℕ) (n : ℕ) (x : Trace)
+    → addAnswer xs n x ≡ asked written.Refused (firstOf (addRows xs n x)) (written.To (newLength (take n xs) n x))
+unfolding addAnswer openedOf samplesOf
+addition-answers-first xs n x =
+    let f : List ℕ = take n xs in
+    let end : ℕ = newLength f n x in
+    let full : Bool = ltb (length xs) end || ltb 67108864 end in
+    let new : Written = written.To end in
+    let last : List Verdict = row full NoRoom File 0 ∷ [] in
+    let us : List Verdict = unfitRows (x .code) (x .samples) in
+    let kind : Bool = not (fitting (x .code) (x .samples)) in
+    let ss : List Verdict = sheetRows (stringEnd f) (lineEnd f) (x .sheet) in
+    let slot : Bool = noSlot (roomOf f) (countOf f) in
+    let within : Written = pick full (written.Refused (refusal NoRoom File 0)) new in
+    let tail : asked written.Refused (firstOf (ss ++ (row kind EntryCode File 0 ∷ (us ++ last)))) new
+    ≡ onMeasured (measuredOf (stringEnd f) (lineEnd f) (x .sheet)) (pick kind (written.Refused (refusal EntryCode File 0)) (asked written.Refused (firstOf us) within)) =
+    asked-more written.Refused ss (row kind EntryCode File 0 ∷ (us ++ last)) new
+    ∙ ap (asked written.Refused (firstOf ss))
+    (asked-row written.Refused kind EntryCode File 0 (us ++ last) new
+    ∙ ap (λ (v : Written). pick kind (written.Refused (refusal EntryCode File 0)) v)
+    (asked-more written.Refused us last new ∙ ap (asked written.Refused (firstOf us)) (sym (room-first full end))))
+    ∙ sym (sheet-first (stringEnd f) (lineEnd f) (x .sheet) (pick kind (written.Refused (refusal EntryCode File 0)) (asked written.Refused (firstOf us) within))) in
+    rw (check-answers-first true xs n, unfit-first (x .code) (x .samples))
+    (steps (firstOf (checkRows true xs n)) slot (measuredOf (stringEnd f) (lineEnd f) (x .sheet)) kind (firstOf us) within _ (sym tail)
+    ∙ sym
+    (asked-more written.Refused (checkRows true xs n) (row slot NoSlot File 0 ∷ (ss ++ (row kind EntryCode File 0 ∷ (us ++ last)))) new
+    ∙ ap (asked written.Refused (firstOf (checkRows true xs n))) (asked-row written.Refused slot NoSlot File 0 (ss ++ (row kind EntryCode File 0 ∷ (us ++ last))) new)))

@@ -1,0 +1,1 @@
+// Theorems only: the three demands, over the definitions that the promises cite.

@@ -1,0 +1,240 @@
+-- What is written are bytes, so that the laws of one addition hold of the next: the buffer after a start or an addition is a buffer of bytes again.
+-- Assumes nothing.
+use mathlib.Core.Path.{_≡_, refl}
+use mathlib.Core.Bool.{Bool, true, false}
+use mathlib.Core.List.{List, [], _∷_, _++_}
+use Prim.Native.Nat.{ℕ, zero, suc, _-_, _*_, _^_, _≤_, _<_}
+use native.Mathlib.Nat.{lt-of-not-le}
+use native.Mathlib.Decide.{decLe}
+use native.Mathlib.Omega.{arith}
+use lib.IntN.{ℤ}
+use lib.ListN.{length, replicate}
+use lib.Dec.{leb, eqb}
+use borrow.Author.Tests.{le-leb, lt-leb, ne-eqb, leb-true}
+use Rattle.word.specs.Bytes.{Bytes, bytes-append}
+use Rattle.word.specs.Put.{put}
+use Rattle.word.specs.Round.{round4}
+use Rattle.word.specs.Word.{bytesOf}
+use Rattle.word.specs.WordLaws.{bytesOf-bytes}
+use Rattle.refusal.specs.Rows.{pick}
+use Rattle.text.specs.Chars.{blank, keyChar, valueChar, note, blank-value}
+use Rattle.text.specs.Runs.{all, same, both}
+use Rattle.text.specs.Note.{lines, valueOk, Lines, Lines.done, Lines.char, Lines.line, lines-spelled}
+use Rattle.text.specs.Spelled.{Str, Good, Rising, textOf, sizeOf, written, Spells, Spells.empty, Spells.full}
+use Rattle.sample.specs.Write.{flat, residue, fixedBytes, exponentsOf, mantissaOf, onesBits, wordsOf, groupBytes, groups, filledUp, integersData, bitsData}
+use Rattle.sheet.specs.declared.Measured.the-variants.{Size}
+use Rattle.sheet.specs.Area.{areaOf, areaSize, padding, stringsOf, textSize, measuredOf}
+use Rattle.sheet.specs.Spelling.{among, Terminators, terminators-end, area-spells}
+use Rattle.block.specs.Head.{control, highFirst, stringEnd, lineEnd}
+use Rattle.writer.specs.Layout.{Trace, Samples, Samples.integers, Samples.patterns, count, fitting, samplesData, orderMark, plainEnds, nul, lineFeed, fileBlock, startImage, traceBlock, blockBytes, dataBytes, traceBytes}
+use Rattle.writer.specs.Answers.{newBytes, grown}
+use Rattle.writer.specs.Shown.{Added, Started}
+use Rattle.growth.specs.Frame.{put-bytes, grown-bytes}
+use Rattle.growth.specs.Grows.{Grows, grown-grows}
+use Rattle.writer.specs.LayoutLaws.{never, kinded}
+use Rattle.growth.specs.Ends.{keeps-terminators}
+
+-- ---- characters
+
+key-byte : (b : ℕ) → keyChar b ≡ true → b < 256
+key-byte b h = elim (decLe b 126) [ yes q ↦ omega arith | no q ↦ over (lt-of-not-le q) ]
+  where
+    over : 126 < b → b < 256
+    over l = never (rw (le-leb 33 b (omega arith), lt-leb b 96 (omega arith), le-leb 123 b (omega arith), lt-leb b 126 l) at h)
+
+value-byte : (b : ℕ) → valueChar b ≡ true → b < 256
+value-byte b h = elim (decLe b 126) [ yes q ↦ omega arith | no q ↦ over (lt-of-not-le q) ]
+  where
+    over : 126 < b → b < 256
+    over l = never (rw (le-leb 32 b (omega arith), lt-leb b 126 l, ne-eqb b 9 (omega arith)) at h)
+
+blank-byte : (b : ℕ) → blank b ≡ true → b < 256
+blank-byte b h = value-byte b (blank-value b h)
+
+control-byte : (b : ℕ) → control b ≡ true → b < 256
+control-byte b h = let l = leb-true b 31 (both (leb b 31) _ h .0) in omega arith
+
+all-bytes : (p : ℕ → Bool) → ((b : ℕ) → p b ≡ true → b < 256) → (l : List ℕ) → all p l ≡ true → Bytes l
+unfolding all
+all-bytes p h [] e = tt
+all-bytes p h (b ∷ l) e = let k = both (p b) (all p l) e in (h b (k .0), all-bytes p h l (k .1))
+
+-- ---- strings
+
+lines-bytes : {u v : List ℕ} → Bytes u → Lines u v → Bytes v
+lines-bytes b done = tt
+lines-bytes b (char {b = c} h r) = (value-byte c h, lines-bytes b r)
+lines-bytes {u} b (line {bs} r) = bytes-append u bs b (lines-bytes b r)
+
+value-bytes : (u k v : List ℕ) → 0 < length u → Bytes u → valueOk u k v ≡ true → Bytes v
+unfolding valueOk
+value-bytes [] k v l b h = absurd (omega arith)
+value-bytes (c ∷ u) k v l b h = go (same k note) h
+  where
+    go : (w : Bool) → pick w (lines (c ∷ u) 0 v) (all valueChar v) ≡ true → Bytes v
+    go true e = lines-bytes b (lines-spelled c u 0 v e)
+    go false e = all-bytes valueChar value-byte v e
+
+text-bytes : {t u : List ℕ} {s : Str} → 0 < length u → Bytes u → Good t u s → Bytes (textOf s)
+text-bytes {t} {u} {s} l b g =
+    bytes-append (s .key) (s .gap ++ s .value) (all-bytes keyChar key-byte (s .key) (g .keys))
+    (bytes-append (s .gap) (s .value) (all-bytes blank blank-byte (s .gap) (g .blanks)) (value-bytes u (s .key) (s .value) l b (g .values)))
+
+written-bytes : (high : Bool) (t u prev : List ℕ) (ss : List Str) (rest : List ℕ) → 0 < length u → Bytes t → Bytes u → Bytes rest → Rising t u prev ss
+    → Bytes (written high t ss rest)
+unfolding written
+written-bytes high t u prev [] rest l bt bu br g = bytes-append (bytesOf 2 high 0) rest (bytesOf-bytes 2 high 0) br
+written-bytes high t u prev (s ∷ ss) rest l bt bu br g =
+    bytes-append (bytesOf 2 high (sizeOf t s)) (textOf s ++ (t ++ written high t ss rest)) (bytesOf-bytes 2 high (sizeOf t s))
+    (bytes-append (textOf s) (t ++ written high t ss rest) (text-bytes l bu (g .0))
+    (bytes-append t (written high t ss rest) bt (written-bytes high t u (s .key) ss rest l bt bu br (g .2))))
+
+zeros-bytes : (n : ℕ) → Bytes (replicate n 0)
+zeros-bytes zero = tt
+zeros-bytes (suc n) = (omega arith, zeros-bytes n)
+
+-- an area is written from good strings, and filled up by zeros
+spells-rising : {high : Bool} {t u : List ℕ} {ss : List Str} {l : List ℕ} → Spells high t u ss l → Rising t u [] ss
+spells-rising empty = tt
+spells-rising (full rest g) = g
+
+area-bytes : (high : Bool) (t u s : List ℕ) (n : ℕ) → Terminators t u → measuredOf t u s ≡ Size n → Bytes (areaOf high t u s)
+unfolding areaOf
+area-bytes high t u s n e m =
+    written-bytes high t u [] (stringsOf u s) (padding (textSize t (stringsOf u s))) (omega (arith, e .u-low)) (all-bytes control control-byte t (e .t-chars))
+    (all-bytes control control-byte u (e .u-chars)) (zeros-bytes (round4 (textSize t (stringsOf u s)) - textSize t (stringsOf u s)))
+    (spells-rising (area-spells high t u s n (terminators-end t u e) m))
+
+-- ---- samples
+
+flat-bytes : {A : Type 0} (f : A → List ℕ) → ((x : A) → Bytes (f x)) → (xs : List A) → Bytes (flat f xs)
+unfolding flat
+flat-bytes f h [] = tt
+flat-bytes f h (x ∷ xs) = bytes-append (f x) (flat f xs) (h x) (flat-bytes f h xs)
+
+fixed-bytes : (w : ℕ) (high : Bool) (z : ℤ) → Bytes (fixedBytes w high z)
+unfolding fixedBytes
+fixed-bytes w high z = bytesOf-bytes w high (residue (256 ^ w) z)
+
+words-bytes : (high : Bool) (w a b c d : ℕ) → Bytes (wordsOf high w a b c d)
+unfolding wordsOf
+words-bytes high w a b c d =
+    bytes-append (bytesOf 2 high w) _ (bytesOf-bytes 2 high w)
+    (bytes-append (bytesOf 2 high a) _ (bytesOf-bytes 2 high a)
+    (bytes-append (bytesOf 2 high b) _ (bytesOf-bytes 2 high b)
+    (bytes-append (bytesOf 2 high c) (bytesOf 2 high d) (bytesOf-bytes 2 high c) (bytesOf-bytes 2 high d))))
+
+group-bytes : (high : Bool) (a b c d : ℤ) → Bytes (groupBytes high a b c d)
+unfolding groupBytes
+group-bytes high a b c d =
+    words-bytes high (exponentsOf a b c d) (onesBits (mantissaOf a)) (onesBits (mantissaOf b)) (onesBits (mantissaOf c)) (onesBits (mantissaOf d))
+
+groups-bytes : (high : Bool) (row : List ℤ) → Bytes (groups high row)
+unfolding groups
+groups-bytes high [] = tt
+groups-bytes high (a ∷ []) = tt
+groups-bytes high (a ∷ b ∷ []) = tt
+groups-bytes high (a ∷ b ∷ c ∷ []) = tt
+groups-bytes high (a ∷ b ∷ c ∷ d ∷ row) =
+    bytes-append (groupBytes high a b c d) (groups high row) (group-bytes high a b c d) (groups-bytes high row)
+
+filled-bytes : (bs : List ℕ) → Bytes bs → Bytes (filledUp bs)
+unfolding filledUp
+filled-bytes bs h = bytes-append bs (replicate (round4 (length bs) - length bs) 0) h (zeros-bytes (round4 (length bs) - length bs))
+
+integers-bytes : (code : ℕ) (high : Bool) (row : List ℤ) → Bytes (integersData code high row)
+unfolding integersData
+integers-bytes zero high row = filled-bytes [] tt
+integers-bytes (suc zero) high row = filled-bytes (flat (fixedBytes 2 high) row) (flat-bytes (fixedBytes 2 high) (fixed-bytes 2 high) row)
+integers-bytes (suc (suc zero)) high row = filled-bytes (flat (fixedBytes 4 high) row) (flat-bytes (fixedBytes 4 high) (fixed-bytes 4 high) row)
+integers-bytes (suc (suc (suc zero))) high row = filled-bytes (groups high row) (groups-bytes high row)
+integers-bytes (suc (suc (suc (suc zero)))) high row = filled-bytes [] tt
+integers-bytes (suc (suc (suc (suc (suc zero))))) high row = filled-bytes [] tt
+integers-bytes (suc (suc (suc (suc (suc (suc code)))))) high row = filled-bytes [] tt
+
+bits-bytes : (code : ℕ) (high : Bool) (row : List ℕ) → Bytes (bitsData code high row)
+unfolding bitsData
+bits-bytes zero high row = filled-bytes [] tt
+bits-bytes (suc zero) high row = filled-bytes [] tt
+bits-bytes (suc (suc zero)) high row = filled-bytes [] tt
+bits-bytes (suc (suc (suc zero))) high row = filled-bytes [] tt
+bits-bytes (suc (suc (suc (suc zero)))) high row = filled-bytes (flat (bytesOf 4 high) row) (flat-bytes (bytesOf 4 high) (bytesOf-bytes 4 high) row)
+bits-bytes (suc (suc (suc (suc (suc zero))))) high row = filled-bytes (flat (bytesOf 8 high) row) (flat-bytes (bytesOf 8 high) (bytesOf-bytes 8 high) row)
+bits-bytes (suc (suc (suc (suc (suc (suc code)))))) high row = filled-bytes [] tt
+
+samples-bytes : (code : ℕ) (high : Bool) (s : Samples) → Bytes (samplesData code high s)
+unfolding samplesData
+samples-bytes code high (integers row) = integers-bytes code high row
+samples-bytes code high (patterns row) = bits-bytes code high row
+
+-- ---- a trace, and a file block
+
+trace-block-bytes : (high : Bool) (b d s code : ℕ) → code ≤ 5 → Bytes (traceBlock high b d s code)
+unfolding traceBlock
+trace-block-bytes high b d s code h =
+    bytes-append (bytesOf 2 high 17442) _ (bytesOf-bytes 2 high 17442)
+    (bytes-append (bytesOf 2 high b) _ (bytesOf-bytes 2 high b)
+    (bytes-append (bytesOf 4 high d) _ (bytesOf-bytes 4 high d)
+    (bytes-append (bytesOf 4 high s) (code ∷ replicate 19 0) (bytesOf-bytes 4 high s) (omega arith, zeros-bytes 19))))
+
+pub trace-bytes : (high : Bool) (t u : List ℕ) (x : Trace) (n : ℕ) → Terminators t u → measuredOf t u (x .sheet) ≡ Size n
+    → fitting (x .code) (x .samples) ≡ true → Bytes (traceBytes high t u x)
+unfolding traceBytes
+trace-bytes high t u x n e m k =
+    bytes-append (traceBlock high (blockBytes t u x) (dataBytes x) (count (x .samples)) (x .code)) _
+    (trace-block-bytes high (blockBytes t u x) (dataBytes x) (count (x .samples)) (x .code) (kinded (x .code) (x .samples) k .most))
+    (bytes-append (areaOf high t u (x .sheet)) (samplesData (x .code) high (x .samples)) (area-bytes high t u (x .sheet) n e m)
+    (samples-bytes (x .code) high (x .samples)))
+
+order-bytes : (high : Bool) → Bytes (orderMark high)
+order-bytes true = (omega arith, (omega arith, tt))
+order-bytes false = (omega arith, (omega arith, tt))
+
+plain-bytes : Bytes plainEnds
+plain-bytes = (omega arith, (omega arith, (omega arith, (omega arith, (omega arith, (omega arith, zeros-bytes 18))))))
+
+pub file-block-bytes : (high : Bool) (m n : ℕ) → Bytes (fileBlock high m n)
+unfolding fileBlock
+file-block-bytes high m n =
+    bytes-append (orderMark high) _ (order-bytes high)
+    (bytes-append (bytesOf 2 high 1) _ (bytesOf-bytes 2 high 1)
+    (bytes-append (bytesOf 2 high m) _ (bytesOf-bytes 2 high m) (bytes-append (bytesOf 2 high n) plainEnds (bytesOf-bytes 2 high n) plain-bytes)))
+
+-- ---- the buffer after an addition, and after a start
+
+new-bytes : {f g : List ℕ} {x : Trace} (n : ℕ) → Grows f g x → Bytes (newBytes f n x)
+unfolding newBytes
+new-bytes {f} {g} {x} n w =
+    bytes-append (replicate (round4 n - n) 0) (traceBytes (highFirst f) (stringEnd f) (lineEnd f) x) (zeros-bytes (round4 n - n))
+    (trace-bytes (highFirst f) (stringEnd f) (lineEnd f) x (areaSize (stringEnd f) (lineEnd f) (x .sheet)) (keeps-terminators (w .old)) (w .sized) (w .kind))
+
+pub grown-are-bytes : {xs : List ℕ} {n : ℕ} {x : Trace} {end : ℕ} → Bytes xs → Added xs n x end → Bytes (grown xs n x)
+grown-are-bytes {xs} {n} {x} {end} by h = grown-bytes h by (new-bytes n (grown-grows by h))
+
+plain-pair : Terminators nul lineFeed
+unfolding all
+plain-pair =
+    record {
+      t-low = omega arith;
+      t-high = omega arith;
+      u-low = omega arith;
+      u-high = omega arith;
+      t-chars = refl;
+      u-chars = refl;
+      apart = apart-plain;
+    }
+  where
+    apart-plain : (b : ℕ) → among b nul ≡ true → among b lineFeed ≡ false
+    apart-plain zero e = refl
+    apart-plain (suc b) e = let z : eqb 0 (suc b) ≡ false = ne-eqb 0 (suc b) (omega arith) in never (rw z at e)
+
+pub start-image-bytes : (high : Bool) (slots : ℕ) (sheet : List ℕ) (n : ℕ) → measuredOf nul lineFeed sheet ≡ Size n → Bytes (startImage high slots sheet)
+unfolding startImage
+start-image-bytes high slots sheet n m =
+    bytes-append (fileBlock high (4 * slots) 0) _ (file-block-bytes high (4 * slots) 0)
+    (bytes-append (replicate (4 * slots) 0) (areaOf high nul lineFeed sheet) (zeros-bytes (4 * slots)) (area-bytes high nul lineFeed sheet n plain-pair m))
+
+pub start-are-bytes : {xs : List ℕ} {order slots : ℕ} {sheet : List ℕ} {end : ℕ} → Bytes xs → Started xs order slots sheet end
+    → Bytes (put xs 0 (startImage (eqb order 1) slots sheet))
+start-are-bytes {xs} {order} {slots} {sheet} by h =
+    put-bytes (startImage (eqb order 1) slots sheet) xs 0 (start-image-bytes (eqb order 1) slots sheet (areaSize nul lineFeed sheet) (h .sized)) by

@@ -1,0 +1,54 @@
+-- A part of an accepted file whose bytes spell a list of strings is answered by that list: how many they are, the i-th, whether a keyword is there, its
+-- value, and the value as a number, a double and a location (document 01, "Strings", "Numbers in values").
+-- Assumes nothing.
+use mathlib.Core.Path.{_≡_, refl}
+use mathlib.Core.Bool.{false}
+use mathlib.Core.List.{List}
+use Prim.Native.Nat.{ℕ, _≤_, _<_}
+use lib.IntN.{ℤ}
+use lib.ListN.{length, take}
+use Rattle.refusal.specs.declared.Verdict.the-variants.{Accepted}
+use Rattle.refusal.specs.Rows.{pick}
+use Rattle.text.specs.declared.Place.{Place}
+use Rattle.text.specs.declared.Found.{Found}
+use Rattle.text.specs.declared.Found.the-variants.{Nothing, Is}
+use Rattle.text.specs.Strings.{valueFound}
+use Rattle.text.specs.Spelled.{Str, nthStr, valueOfKey, hasKey}
+use Rattle.decimal.specs.Number.{numberOf}
+use Rattle.decimal.specs.Double.{doubleOf}
+use Rattle.decimal.specs.Location.{locationOf}
+use Rattle.block.specs.Image.{checkOf}
+use Rattle.reader.specs.declared.CountAnswer.the-variants as count
+use Rattle.reader.specs.declared.StringAnswer.the-variants as string
+use Rattle.reader.specs.declared.KeywordAnswer.the-variants.{Yes, No}
+use Rattle.reader.specs.Questions.{countAnswer, there, nthAnswer, keywordAnswer, valueThere, valueAnswer, numberAnswer, doubleAnswer, locationAnswer}
+use Rattle.reader.specs.Listed.{Lists, IsString, listed-count, listed-nth, listed-past, listed-keyword, listed-value, listed-number, listed-double, listed-location}
+
+pub value-there : (f : List ℕ) (y : Found) → valueThere f (there y) ≡ valueFound f y
+unfolding valueFound
+value-there f Nothing = refl
+value-there f (Is s) = refl
+
+-- the answers on part z of the file in the first n bytes of xs
+pub record AnswersBy (xs : List ℕ) (n : ℕ) (z : ℤ) (ss : List Str) : Type 0 where
+  pub many : countAnswer xs n z ≡ count.Is (length ss)
+  pub nth : (i : ℕ) → i < length ss → (s : Place) × (nthAnswer xs n z i ≡ string.There s) × IsString (take n xs) s (nthStr ss i)
+  pub past : (i : ℕ) → length ss ≤ i → nthAnswer xs n z i ≡ string.Absent
+  pub keyword : (key : List ℕ) → keywordAnswer xs n z key ≡ pick (hasKey ss key) Yes No
+  pub value : (key : List ℕ) → valueAnswer xs n z key ≡ valueOfKey ss key
+  pub number : (key : List ℕ) → numberAnswer xs n z key ≡ numberOf (valueOfKey ss key)
+  pub double : (key : List ℕ) → doubleAnswer xs n z key ≡ doubleOf (valueOfKey ss key)
+  pub location : (key : List ℕ) → locationAnswer xs n z key ≡ locationOf (valueOfKey ss key)
+
+pub answered : (xs : List ℕ) (n : ℕ) (z : ℤ) (ss : List Str) → checkOf false xs n ≡ Accepted → Lists (take n xs) z ss → AnswersBy xs n z ss
+answered xs n z ss ok l =
+    record {
+      many = listed-count xs n z ss ok l;
+      nth = listed-nth xs n z ss ok l;
+      past = listed-past xs n z ss ok l;
+      keyword = listed-keyword xs n z ss ok l;
+      value = listed-value xs n z ss ok l;
+      number = listed-number xs n z ss ok l;
+      double = listed-double xs n z ss ok l;
+      location = listed-location xs n z ss ok l;
+    }

@@ -1,0 +1,11 @@
+pub mod Frame
+pub mod Grows
+pub mod Kept
+pub mod NewTrace
+pub mod Ends
+pub mod StillKeeps
+pub mod Answered
+pub mod StillRead
+pub mod TraceReads
+pub mod ReadsLast
+pub mod AllBytes

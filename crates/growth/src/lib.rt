@@ -1,0 +1,1 @@
+// Theorems only: what an addition keeps, what it adds, and what a start writes.
