@@ -1,12 +1,31 @@
-/* SEG-2 shot files, checked by a proved library.
+/* SEG-2 shot files, read and written by a proved library.
  *
- * So far the face has the check; questions, samples and writing follow. Every function
- * answers for all bytes and all numbers, changes no byte of a lent buffer unless it says
- * so, and is proved to do what its comment says (crates/seg2).
+ * Every function answers for all bytes and all numbers: there is no input that it may
+ * not be given, and none on which it crashes, hangs or reads past what it was lent. Each
+ * is proved to answer as its comment says (crates/seg2). The rules and their numbers are
+ * those of the refusal table, which enum seg2_refusal repeats.
  *
- * What a host owes: a pointer that is not null and leads to as many bytes as the size
- * beside it says, for the time of the call. The library keeps no pointer and allocates
- * nothing. size_t has 64 bits. */
+ * What a host owes, for the time of the call:
+ *   - a pointer is not null, also where the size beside it is 0 (any address will do then);
+ *   - it leads to as many elements as the size beside it says: bytes, or samples of a row;
+ *   - a row of int32_t, uint64_t or an answer is aligned as its type asks;
+ *   - memory that the function writes overlaps nothing else that it is lent, and nobody
+ *     else reads or writes it; memory that it reads, nobody writes;
+ *   - size_t has 64 bits.
+ *
+ * The library keeps no pointer and no state, allocates nothing and calls nothing, so any
+ * number of threads may call it. A stack of 32 KiB is enough for every function.
+ *
+ * `buffer` and `size` are the lent memory, `length` says how many of its first bytes are
+ * the file; any length may be given, and one over `size` is refused by 1. A `part` is -1
+ * for the file itself, else a trace, counted from 0. Every question checks the whole file
+ * first, so its refusal may be any row from 1 to 17 before one of its own.
+ *
+ * An answer begins with the refusal: `number` 0, `part` -1 and `place` 0 where there is
+ * none. After a refusal the rest of the answer is 0 and no lent byte has changed. An answer
+ * of more than 16 bytes is written to `answer`, which comes first; the functions whose name
+ * ends in _of return it instead. Six answers share their name with the function that gives
+ * them, so they are written with the word struct, as in C's own `struct stat`. */
 #ifndef SEG2_H
 #define SEG2_H
 
@@ -19,39 +38,381 @@ extern "C" {
 
 /* A file is at most this long. */
 #define SEG2_MAXIMUM_LENGTH 67108864
+/* The strings of one block need at most this many bytes where we write them. */
+#define SEG2_MAXIMUM_AREA 65500
+/* A new file has at most this many pointer slots. */
+#define SEG2_MAXIMUM_SLOTS 16383
 
-/* The numbers of the refusal table that the check gives, in its order of checking. */
-enum seg2_number {
+/* The refusal table, in its order of checking. Beside each row: what `place` is. seg2_text has the words. */
+enum seg2_refusal {
     SEG2_ACCEPTED = 0,
-    SEG2_LENGTH = 1,          /* the length is under 32 bytes, over the maximum, or over the buffer */
-    SEG2_FIRST_BYTES = 2,     /* the first two bytes are not those of a SEG-2 file */
-    SEG2_REVISION = 3,        /* the revision is not 1 */
-    SEG2_POINTER_ROOM = 4,    /* the size of the pointer room is under 4 or no multiple of 4 */
-    SEG2_TRACE_COUNT = 5,     /* the number of traces is 0 or more than the pointer room holds */
-    SEG2_TERMINATOR = 6,      /* a terminator is bad, or the two share a character */
-    SEG2_ROOM_END = 7,        /* the pointer room goes past the end of the file */
-    SEG2_POINTER = 8,         /* a pointer is no multiple of 4, lies before the previous end, or leaves no room for a block */
-    SEG2_TRACE_MARK = 9,      /* no trace block where the pointer leads */
-    SEG2_BLOCK_SIZE = 10,     /* a block's size is under 32, no multiple of 4, or goes past the end */
-    SEG2_DATA_SIZE = 11,      /* a data block's size is no multiple of 4 or goes past the end */
-    SEG2_FORMAT_CODE = 12,    /* the format code is not 1 to 5 */
-    SEG2_SAMPLE_COUNT = 13,   /* the samples do not fit the data block, or are no multiple of 4 under code 3 */
-    SEG2_STRING_OFFSET = 14,  /* a string's offset is missing, too small, or goes past its area */
-    SEG2_STRING_END = 15,     /* the string terminator is not at the string's end */
-    SEG2_CHARACTER = 16,      /* a forbidden character in a keyword or value, or no keyword */
-    SEG2_KEYWORD_ORDER = 17   /* a keyword is out of order */
+    /* the check of a whole file; a place is a byte of the file */
+    SEG2_LENGTH = 1,         /* 0 */
+    SEG2_FIRST_BYTES = 2,    /* 0 */
+    SEG2_REVISION = 3,       /* 2 */
+    SEG2_POINTER_ROOM = 4,   /* 4 */
+    SEG2_TRACE_COUNT = 5,    /* 6 */
+    SEG2_TERMINATOR = 6,     /* 8 for the string terminator, 11 for the line terminator */
+    SEG2_ROOM_END = 7,       /* 4 */
+    SEG2_POINTER = 8,        /* the trace's pointer */
+    SEG2_TRACE_MARK = 9,     /* the trace block */
+    SEG2_BLOCK_SIZE = 10,    /* its size */
+    SEG2_DATA_SIZE = 11,     /* the data's size */
+    SEG2_FORMAT_CODE = 12,   /* the code */
+    SEG2_SAMPLE_COUNT = 13,  /* the sample count */
+    SEG2_STRING_OFFSET = 14, /* the string's offset */
+    SEG2_STRING_END = 15,    /* the string's offset */
+    SEG2_CHARACTER = 16,     /* the string's offset */
+    SEG2_KEYWORD_ORDER = 17, /* the string's offset */
+    /* questions; the part is -1 */
+    SEG2_NO_TRACE = 18,      /* 0 */
+    SEG2_INPUT_SIZE = 19,    /* 0; given by the listing program alone */
+    SEG2_NO_NUMBER = 20,     /* a byte of the value */
+    SEG2_DIGITS = 21,        /* a byte of the value */
+    SEG2_NO_DOUBLE = 22,     /* a byte of the value */
+    SEG2_VALUE_COUNT = 23,   /* 0 */
+    /* writing; the part is -1 */
+    SEG2_NO_SLOT = 24,       /* 0 */
+    SEG2_SHEET_LINE = 25,    /* a byte of the sheet */
+    SEG2_SHEET_ORDER = 26,   /* a byte of the sheet */
+    SEG2_AREA_SIZE = 27,     /* 0 */
+    SEG2_ENTRY_CODE = 28,    /* 0 */
+    SEG2_SAMPLE_RANGE = 29,  /* the sample's index */
+    SEG2_NO_ROOM = 30,       /* 0 */
+    SEG2_START_VALUES = 31,  /* 0 */
+    /* samples; the part is -1 */
+    SEG2_ROW_LENGTH = 32,    /* 0 */
+    SEG2_CODE_KIND = 33      /* 0 */
 };
 
-/* number: 0, or the table's; part: -1 for the file, else the trace; place: a byte position in the file. */
-typedef struct {
+/* Byte orders. */
+enum seg2_order {
+    SEG2_LOW_FIRST = 0,
+    SEG2_HIGH_FIRST = 1
+};
+
+/* Format codes. Samples of the first three travel as int32_t, of the others as bit patterns in uint64_t. */
+enum seg2_code {
+    SEG2_FIXED_16 = 1, /* 16-bit fixed point */
+    SEG2_FIXED_32 = 2, /* 32-bit fixed point */
+    SEG2_FLOAT_20 = 3, /* 20-bit floating point, four samples in ten bytes */
+    SEG2_FLOAT_32 = 4, /* 32-bit floating point, IEEE 754 */
+    SEG2_FLOAT_64 = 5  /* 64-bit floating point, IEEE 754 */
+};
+
+/* Classes of bit patterns. */
+enum seg2_class {
+    SEG2_CLASS_ZERO = 0,
+    SEG2_CLASS_UNDERFLOW = 1,   /* exponent bits 0, fraction not 0 */
+    SEG2_CLASS_NUMBER = 2,
+    SEG2_CLASS_INFINITY = 3,
+    SEG2_CLASS_NOT_A_NUMBER = 4
+};
+
+/* No value beside the refusal. */
+typedef struct seg2_verdict {
     uint32_t number;
     int32_t part;
     size_t place;
 } seg2_verdict;
 
-/* Whether the first `length` bytes of the buffer are a file that keeps the rules: number 0 (part -1, place 0),
- * or the first row of the table that they meet. Any length may be given; one over `size` is refused by 1. */
+/* The file block. The terminators' characters stand in bytes 9 and 12 on. */
+typedef struct seg2_file {
+    uint32_t number;
+    int32_t part;
+    size_t place;
+    uint32_t order;                /* enum seg2_order */
+    size_t pointer_room;           /* M, in bytes: 4 for each pointer slot */
+    size_t trace_count;            /* N */
+    size_t string_terminator_size; /* 1 or 2 */
+    size_t line_terminator_size;   /* 1 or 2 */
+} seg2_file;
+
+/* A trace block. The data is `data_size` bytes from `start` + `block_size` on. */
+typedef struct seg2_trace {
+    uint32_t number;
+    int32_t part;
+    size_t place;
+    size_t start;         /* the pointer */
+    size_t block_size;    /* B */
+    size_t data_size;     /* D */
+    size_t sample_count;  /* S */
+    uint32_t format_code; /* enum seg2_code */
+} seg2_trace;
+
+/* How many strings. */
+typedef struct seg2_count {
+    uint32_t number;
+    int32_t part;
+    size_t place;
+    size_t count;
+} seg2_count;
+
+/* A string: where its keyword and its value stand in the buffer. */
+struct seg2_string {
+    uint32_t number;
+    int32_t part;
+    size_t place;
+    uint32_t found; /* 1, or 0 where there is none */
+    size_t key_start;
+    size_t key_length;
+    size_t value_start;
+    size_t value_length;
+};
+
+/* Whether a keyword is there. */
+struct seg2_keyword {
+    uint32_t number;
+    int32_t part;
+    size_t place;
+    uint32_t found; /* 1 yes, 0 no */
+};
+
+/* Where a value stands in the buffer; both 0 for a no or a refusal. */
+struct seg2_value {
+    uint32_t number;
+    int32_t part;
+    size_t place;
+    size_t value_start;
+    size_t value_length;
+};
+
+/* A number: coefficient as written, times ten to the power, negated where minus. Zero has no minus. */
+struct seg2_number {
+    uint32_t number;
+    int32_t part;
+    size_t place;
+    uint32_t minus; /* 1 minus, 0 plus */
+    int32_t power;
+    uint64_t coefficient;
+};
+
+/* A double. */
+struct seg2_double {
+    uint32_t number;
+    int32_t part;
+    size_t place;
+    double value;
+};
+
+/* A location: one value or three; absent ones are 0. */
+struct seg2_location {
+    uint32_t number;
+    int32_t part;
+    size_t place;
+    uint32_t count; /* 1 or 3 */
+    double x;
+    double y;
+    double z;
+};
+
+/* The length of the image after a start or an addition. */
+typedef struct seg2_length {
+    uint32_t number;
+    int32_t part;
+    size_t place;
+    size_t length;
+} seg2_length;
+
+/* ---- questions: no lent byte changes but the answer, and the rows of samples where it says so */
+
+/* Whether the first `length` bytes are a file that keeps the rules; if not, the first row of the table that
+ * they meet, 1 to 17, with its part and place. */
 seg2_verdict seg2_check(const uint8_t *buffer, size_t size, size_t length);
+
+/* The file block: byte order, M, N and the lengths of the terminators. */
+void seg2_file_block(seg2_file *answer, const uint8_t *buffer, size_t size, size_t length);
+
+/* The block of a trace: where it starts, B, D, S and the format code. 18 where there is no such trace; -1 is none. */
+void seg2_trace_block(seg2_trace *answer, const uint8_t *buffer, size_t size, size_t length, int32_t trace);
+
+/* How many strings a part has. 18 where there is no such part. */
+void seg2_string_count(seg2_count *answer, const uint8_t *buffer, size_t size, size_t length, int32_t part);
+
+/* The string of a part with this index, counted from 0; past the last, `found` is 0, which is no refusal.
+ * 18 where there is no such part. */
+void seg2_string(struct seg2_string *answer, const uint8_t *buffer, size_t size, size_t length, int32_t part, size_t index);
+
+/* Whether a part has a keyword: yes, no, or the refusal. Any bytes may be asked for; what cannot be a keyword is
+ * a no. 18 where there is no such part. */
+void seg2_keyword(struct seg2_keyword *answer, const uint8_t *buffer, size_t size, size_t length, int32_t part,
+                  const uint8_t *key, size_t key_size);
+
+/* The value of a keyword as the buffer's own bytes. A no is start 0 and length 0 without a refusal; a value that
+ * is there, be it empty, never starts at 0. 18 where there is no such part. */
+void seg2_value(struct seg2_value *answer, const uint8_t *buffer, size_t size, size_t length, int32_t part,
+                const uint8_t *key, size_t key_size);
+
+/* The value of a keyword as a number. 18 where there is no such part, 20 where the value is no number (so where
+ * the keyword is missing), 21 where it has too many digits. */
+void seg2_number(struct seg2_number *answer, const uint8_t *buffer, size_t size, size_t length, int32_t part,
+                 const uint8_t *key, size_t key_size);
+
+/* The value of a keyword as a double: the coefficient, multiplied or divided once by a power of ten. The
+ * refusals of seg2_number, then 22 where the coefficient is over 9,007,199,254,740,991 or the power not -15 to 15. */
+void seg2_double(struct seg2_double *answer, const uint8_t *buffer, size_t size, size_t length, int32_t part,
+                 const uint8_t *key, size_t key_size);
+
+/* The value of a keyword as a location: x, or x, y and z, as doubles parted by spaces or tabs. 18 where there is
+ * no such part, 23 where the values are neither one nor three (so where the keyword is missing), then 20 to 22
+ * value by value. */
+void seg2_location(struct seg2_location *answer, const uint8_t *buffer, size_t size, size_t length, int32_t part,
+                   const uint8_t *key, size_t key_size);
+
+/* The samples of a trace of code 1 to 3, into a row of exactly S elements. 18 where there is no such trace, 33
+ * where its code is 4 or 5, 32 where the row has another length; after a refusal the row is as it was. */
+seg2_verdict seg2_integers(const uint8_t *buffer, size_t size, size_t length, int32_t trace, int32_t *row, size_t row_size);
+
+/* The bit patterns of the samples of a trace of code 4 or 5 and their classes (enum seg2_class), into two rows of
+ * exactly S elements. Code 4 fills the low 32 bits of a pattern. 18, 33 (its code is 1 to 3) and 32 as above; after
+ * a refusal both rows are as they were. */
+seg2_verdict seg2_bits(const uint8_t *buffer, size_t size, size_t length, int32_t trace, uint64_t *row, size_t row_size,
+                       uint8_t *classes, size_t classes_size);
+
+/* ---- writing: a refusal has changed no byte; bytes past the answered length stay as they were
+ *
+ * A sheet is lines of text, each a keyword, a tab, a value and 0Ah, with the keywords rising. Consecutive NOTE lines
+ * at its end are the lines of one NOTE. An empty sheet is a list without strings. */
+
+/* Writes the image of a new file without traces at the buffer's start and answers its length. `order` is enum
+ * seg2_order, `slots` how many traces the file can take, 1 to SEG2_MAXIMUM_SLOTS. Refusals in order: 31, 25, 26 (line
+ * by line), 27, 30. The image is no file yet: the questions refuse it by 5 until a trace is added. */
+void seg2_start(seg2_length *answer, uint8_t *buffer, size_t size, uint32_t order, uint32_t slots,
+                const uint8_t *sheet, size_t sheet_size);
+
+/* Adds a trace of code 1 to 3 behind the file, or new image, that the first `length` bytes are, and answers the new
+ * length. Refusals in order: 1 to 17 for the file, 24, 25, 26 (line by line), 27, 28, 29, 30. */
+void seg2_add_integers(seg2_length *answer, uint8_t *buffer, size_t size, size_t length,
+                       const uint8_t *sheet, size_t sheet_size, uint32_t code, const int32_t *row, size_t row_size);
+
+/* Adds a trace of code 4 or 5 from bit patterns, in the same way and with the same refusals. */
+void seg2_add_bits(seg2_length *answer, uint8_t *buffer, size_t size, size_t length,
+                   const uint8_t *sheet, size_t sheet_size, uint32_t code, const uint64_t *row, size_t row_size);
+
+/* ---- the same, with the answer returned */
+
+static inline seg2_file seg2_file_block_of(const uint8_t *buffer, size_t size, size_t length) {
+    seg2_file answer;
+    seg2_file_block(&answer, buffer, size, length);
+    return answer;
+}
+
+static inline seg2_trace seg2_trace_block_of(const uint8_t *buffer, size_t size, size_t length, int32_t trace) {
+    seg2_trace answer;
+    seg2_trace_block(&answer, buffer, size, length, trace);
+    return answer;
+}
+
+static inline seg2_count seg2_string_count_of(const uint8_t *buffer, size_t size, size_t length, int32_t part) {
+    seg2_count answer;
+    seg2_string_count(&answer, buffer, size, length, part);
+    return answer;
+}
+
+static inline struct seg2_string seg2_string_of(const uint8_t *buffer, size_t size, size_t length, int32_t part, size_t index) {
+    struct seg2_string answer;
+    seg2_string(&answer, buffer, size, length, part, index);
+    return answer;
+}
+
+static inline struct seg2_keyword seg2_keyword_of(const uint8_t *buffer, size_t size, size_t length, int32_t part,
+                                                  const uint8_t *key, size_t key_size) {
+    struct seg2_keyword answer;
+    seg2_keyword(&answer, buffer, size, length, part, key, key_size);
+    return answer;
+}
+
+static inline struct seg2_value seg2_value_of(const uint8_t *buffer, size_t size, size_t length, int32_t part,
+                                              const uint8_t *key, size_t key_size) {
+    struct seg2_value answer;
+    seg2_value(&answer, buffer, size, length, part, key, key_size);
+    return answer;
+}
+
+static inline struct seg2_number seg2_number_of(const uint8_t *buffer, size_t size, size_t length, int32_t part,
+                                                const uint8_t *key, size_t key_size) {
+    struct seg2_number answer;
+    seg2_number(&answer, buffer, size, length, part, key, key_size);
+    return answer;
+}
+
+static inline struct seg2_double seg2_double_of(const uint8_t *buffer, size_t size, size_t length, int32_t part,
+                                                const uint8_t *key, size_t key_size) {
+    struct seg2_double answer;
+    seg2_double(&answer, buffer, size, length, part, key, key_size);
+    return answer;
+}
+
+static inline struct seg2_location seg2_location_of(const uint8_t *buffer, size_t size, size_t length, int32_t part,
+                                                    const uint8_t *key, size_t key_size) {
+    struct seg2_location answer;
+    seg2_location(&answer, buffer, size, length, part, key, key_size);
+    return answer;
+}
+
+static inline seg2_length seg2_start_of(uint8_t *buffer, size_t size, uint32_t order, uint32_t slots,
+                                        const uint8_t *sheet, size_t sheet_size) {
+    seg2_length answer;
+    seg2_start(&answer, buffer, size, order, slots, sheet, sheet_size);
+    return answer;
+}
+
+static inline seg2_length seg2_add_integers_of(uint8_t *buffer, size_t size, size_t length, const uint8_t *sheet,
+                                               size_t sheet_size, uint32_t code, const int32_t *row, size_t row_size) {
+    seg2_length answer;
+    seg2_add_integers(&answer, buffer, size, length, sheet, sheet_size, code, row, row_size);
+    return answer;
+}
+
+static inline seg2_length seg2_add_bits_of(uint8_t *buffer, size_t size, size_t length, const uint8_t *sheet,
+                                           size_t sheet_size, uint32_t code, const uint64_t *row, size_t row_size) {
+    seg2_length answer;
+    seg2_add_bits(&answer, buffer, size, length, sheet, sheet_size, code, row, row_size);
+    return answer;
+}
+
+/* ---- words */
+
+/* A row of the table in words for a crew; never null. */
+static inline const char *seg2_text(uint32_t number) {
+    switch (number) {
+    case SEG2_ACCEPTED: return "accepted";
+    case SEG2_LENGTH: return "the length is under 32 bytes, over 67,108,864 bytes, or over the buffer";
+    case SEG2_FIRST_BYTES: return "the first two bytes are not those of a SEG-2 file";
+    case SEG2_REVISION: return "the revision is not 1";
+    case SEG2_POINTER_ROOM: return "the size of the pointer room is under 4 or no multiple of 4";
+    case SEG2_TRACE_COUNT: return "there are no traces, or more than the pointer room holds";
+    case SEG2_TERMINATOR: return "a terminator is bad, or the two terminators share a character";
+    case SEG2_ROOM_END: return "the pointer room goes past the end of the file";
+    case SEG2_POINTER: return "the trace's pointer is no multiple of 4, leads into what stands before, or leaves no room for a block";
+    case SEG2_TRACE_MARK: return "no trace block where the pointer leads";
+    case SEG2_BLOCK_SIZE: return "the block's size is under 32, no multiple of 4, or goes past the end";
+    case SEG2_DATA_SIZE: return "the data's size is no multiple of 4 or goes past the end";
+    case SEG2_FORMAT_CODE: return "the format code is not 1 to 5";
+    case SEG2_SAMPLE_COUNT: return "the samples need more bytes than the data has, or are no multiple of 4 under code 3";
+    case SEG2_STRING_OFFSET: return "a string's offset is missing, too small for a keyword, or leads past its area";
+    case SEG2_STRING_END: return "the string terminator is not at the string's end";
+    case SEG2_CHARACTER: return "a forbidden character in a keyword or value";
+    case SEG2_KEYWORD_ORDER: return "the keyword is out of order, or there twice";
+    case SEG2_NO_TRACE: return "there is no such trace";
+    case SEG2_INPUT_SIZE: return "the listing program's input is longer than 65,536 bytes";
+    case SEG2_NO_NUMBER: return "this is not a number";
+    case SEG2_DIGITS: return "the number has too many digits";
+    case SEG2_NO_DOUBLE: return "the number is too long or too large to be taken as a double";
+    case SEG2_VALUE_COUNT: return "a location has one value or three, not this many";
+    case SEG2_NO_SLOT: return "no pointer slot is free";
+    case SEG2_SHEET_LINE: return "a bad line in the sheet";
+    case SEG2_SHEET_ORDER: return "a line of the sheet is out of order, or its keyword is there twice";
+    case SEG2_AREA_SIZE: return "the sheet's strings need more than 65,500 bytes";
+    case SEG2_ENTRY_CODE: return "the format code does not fit these samples, or their count is no multiple of 4 under code 3";
+    case SEG2_SAMPLE_RANGE: return "a sample is outside what the format code can hold";
+    case SEG2_NO_ROOM: return "there is no room for the result";
+    case SEG2_START_VALUES: return "the pointer slots are not 1 to 16,383, or the byte order is not 0 or 1";
+    case SEG2_ROW_LENGTH: return "the row's length is not the number of samples";
+    case SEG2_CODE_KIND: return "whole numbers are asked of a floating point trace, or bit patterns of a trace of whole numbers";
+    default: return "a number that is not in the table";
+    }
+}
 
 #ifdef __cplusplus
 }

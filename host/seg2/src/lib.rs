@@ -1,29 +1,175 @@
 //! The proved SEG-2 library, safe to call from Rust: slices in, `Result` out.
 //!
 //! What an answer is, is said by the promise of the exported function in
-//! `crates/seg2`; here a pointer and a length become a slice, and no more.
+//! `crates/seg2`; here a slice becomes a pointer and a size, and an answer becomes a
+//! `Result`, and no more. The rules and the refusal table are document 01's.
+//!
+//! ```
+//! # fn main() -> Result<(), seg2::Refusal> {
+//! use seg2::{code, Builder, File, Order};
+//!
+//! let mut shot = Builder::start(Order::Low, 24, b"UNITS\tMETERS\n")?;
+//! shot.add_integers(b"RECEIVER_LOCATION\t12.5\n", code::FIXED_32, &[1, -1, 256])?;
+//!
+//! let file = File::open(shot.bytes())?;
+//! assert_eq!(file.value(b"UNITS"), Some(&b"METERS"[..]));
+//! for trace in file.traces() {
+//!     assert_eq!(trace.integers()?, [1, -1, 256]);
+//!     assert_eq!(trace.location(b"RECEIVER_LOCATION")?.x, 12.5);
+//! }
+//! # Ok(())
+//! # }
+//! ```
+//!
+//! # Cost
+//!
+//! Every exported function checks the whole file before it answers, so every question
+//! of [`File`] and [`Trace`] does, and every item of their iterators. A check looks at
+//! each block and each string once, not at the samples. Each doc comment says how many
+//! calls it makes; where it says nothing it makes one. What needs no call is free: it
+//! was learned when the file or the trace was opened.
+//!
+//! So all strings of a file of some hundred traces take as many checks as there are
+//! strings. [`File::walk`] lists them in one pass; it is the only part of this crate that
+//! reads a file by itself.
+//!
+//! # Threads and stack
+//!
+//! The library has no state: any number of threads may use it. 32 KiB of stack are
+//! enough for every call.
+#![deny(missing_docs)]
+#![deny(unsafe_code)]
 
-/// A refusal of document 01's table.
+mod calls;
+mod file;
+mod part;
+#[doc(hidden)]
+pub mod raw;
+mod refusal;
+mod trace;
+mod walk;
+mod write;
+
+pub use file::{File, Lines, Strings, Traces};
+pub use refusal::{text, Place, Refusal};
+pub use trace::{Bits, Class, Trace};
+pub use walk::{Step, Walk};
+pub use write::{add_bits, add_integers, start, Builder};
+
+/// A file is at most this many bytes long.
+///
+/// ```
+/// let long = vec![0; seg2::MAXIMUM_LENGTH + 1];
+/// assert_eq!(seg2::check(&long, long.len()).unwrap_err().number, 1);
+/// ```
+pub const MAXIMUM_LENGTH: usize = 67_108_864;
+
+/// The strings of one block need at most this many bytes where we write them.
+///
+/// ```
+/// let sheet = [b"NOTE\t", vec![b'A'; seg2::MAXIMUM_AREA].as_slice(), b"\n"].concat();
+/// let refusal = seg2::Builder::start(seg2::Order::Low, 1, &sheet).unwrap_err();
+/// assert_eq!(refusal.number, 27);
+/// ```
+pub const MAXIMUM_AREA: usize = 65_500;
+
+/// A new file has at most this many pointer slots.
+///
+/// ```
+/// use seg2::{Builder, Order, MAXIMUM_SLOTS};
+/// assert!(Builder::start(Order::Low, MAXIMUM_SLOTS, b"").is_ok());
+/// assert_eq!(Builder::start(Order::Low, MAXIMUM_SLOTS + 1, b"").unwrap_err().number, 31);
+/// ```
+pub const MAXIMUM_SLOTS: u32 = 16_383;
+
+/// The format codes by name.
+///
+/// ```
+/// use seg2::code;
+/// assert!(code::is_integers(code::FLOAT_20) && !code::is_integers(code::FLOAT_32));
+/// ```
+pub mod code {
+    /// 16-bit fixed point.
+    pub const FIXED_16: u32 = 1;
+    /// 32-bit fixed point.
+    pub const FIXED_32: u32 = 2;
+    /// 20-bit floating point, four samples in ten bytes.
+    pub const FLOAT_20: u32 = 3;
+    /// 32-bit floating point, IEEE 754.
+    pub const FLOAT_32: u32 = 4;
+    /// 64-bit floating point, IEEE 754.
+    pub const FLOAT_64: u32 = 5;
+
+    /// Whether the samples of a code are whole numbers, and not bit patterns.
+    ///
+    /// ```
+    /// assert!(seg2::code::is_integers(3) && !seg2::code::is_integers(4));
+    /// ```
+    pub fn is_integers(code: u32) -> bool {
+        (FIXED_16..=FLOAT_20).contains(&code)
+    }
+}
+
+/// The byte order of a file's whole numbers.
+///
+/// ```
+/// use seg2::{Builder, Order};
+/// assert_eq!(Builder::start(Order::Low, 1, b"")?.bytes()[..2], [0x55, 0x3A]);
+/// assert_eq!(Builder::start(Order::High, 1, b"")?.bytes()[..2], [0x3A, 0x55]);
+/// # Ok::<(), seg2::Refusal>(())
+/// ```
 #[derive(Clone, Copy, Debug, PartialEq, Eq)]
-pub struct Refusal {
-    /// The number in the table.
-    pub number: u32,
-    /// -1 for the file, else the trace.
-    pub part: i32,
-    /// A byte position in the file.
-    pub place: usize,
+pub enum Order {
+    /// The low byte first.
+    Low,
+    /// The high byte first.
+    High,
 }
 
-/// As the exported functions answer: number 0 is no refusal.
-#[repr(C)]
-struct Verdict {
-    number: u32,
-    part: i32,
-    place: usize,
+/// A number as it was written: the coefficient times ten to the power, negated where
+/// `minus`. Zero has no minus.
+///
+/// ```
+/// use seg2::{Builder, File, Number, Order};
+/// let mut shot = Builder::start(Order::Low, 1, b"DELAY\t-0.020\n")?;
+/// shot.add_integers(b"", 1, &[])?;
+/// let file = File::open(shot.bytes())?;
+/// assert_eq!(file.number(b"DELAY")?, Number { minus: true, coefficient: 20, power: -3 });
+/// # Ok::<(), seg2::Refusal>(())
+/// ```
+#[derive(Clone, Copy, Debug, PartialEq, Eq)]
+pub struct Number {
+    /// Whether a minus stands before a number that is not zero.
+    pub minus: bool,
+    /// All digits before E as one whole number.
+    pub coefficient: u64,
+    /// The power of ten.
+    pub power: i32,
 }
 
-extern "C" {
-    fn seg2_check(buffer: *const u8, size: usize, length: usize) -> Verdict;
+/// A location: x alone, or x, y and z; absent ones are 0.
+///
+/// ```
+/// use seg2::{Builder, File, Location, Order};
+/// let mut shot = Builder::start(Order::Low, 1, b"")?;
+/// shot.add_integers(b"SOURCE_LOCATION\t1 -2 0.5\n", 1, &[])?;
+/// let file = File::open(shot.bytes())?;
+/// assert_eq!(
+///     file.trace(0)?.location(b"SOURCE_LOCATION")?,
+///     Location { count: 3, x: 1.0, y: -2.0, z: 0.5 }
+/// );
+/// # Ok::<(), seg2::Refusal>(())
+/// ```
+#[derive(Clone, Copy, Debug, PartialEq)]
+pub struct Location {
+    /// How many values there were: 1 or 3.
+    pub count: u32,
+    /// Along the line.
+    pub x: f64,
+    /// Across the line.
+    pub y: f64,
+    /// Up.
+    pub z: f64,
 }
 
 /// Whether the first `length` bytes of the buffer are a file that keeps the rules;
@@ -34,14 +180,11 @@ extern "C" {
 /// assert_eq!((refusal.number, refusal.part, refusal.place), (1, -1, 0));
 /// ```
 pub fn check(buffer: &[u8], length: usize) -> Result<(), Refusal> {
-    // SAFETY: the pointer and the size are those of one slice that lives through the call, and the function reads no byte past the size
-    let verdict = unsafe { seg2_check(buffer.as_ptr(), buffer.len(), length) };
-    if verdict.number == 0 {
-        return Ok(());
-    }
-    Err(Refusal {
-        number: verdict.number,
-        part: verdict.part,
-        place: verdict.place,
-    })
+    calls::check(buffer, length).told()?;
+    Ok(())
 }
+
+/// The page for the app programmer: its lines of Rust are run as a test.
+#[cfg(doctest)]
+#[doc = include_str!("../../../docs/USING.md")]
+struct Using;

@@ -3,6 +3,10 @@
 //! A slice goes as its pointer and its size, one behind the other. A struct of more
 //! than 16 bytes comes back through a place that is the first argument, on x86-64 and
 //! on Arm alike (docs/DECISIONS.md), so it is declared so and not as a result.
+//!
+//! Nothing here is safe to call without care; the rest of the crate is.
+
+use crate::Refusal;
 
 macro_rules! answer {
     ($(#[$said:meta])* $name:ident { $($field:ident: $kind:ty),* $(,)? }) => {
@@ -17,6 +21,20 @@ macro_rules! answer {
             /// The refusal's place.
             pub place: usize,
             $(#[allow(missing_docs)] pub $field: $kind,)*
+        }
+
+        impl $name {
+            /// The refusal, if there is one, else the answer.
+            pub fn told(self) -> Result<$name, Refusal> {
+                if self.number == 0 {
+                    return Ok(self);
+                }
+                Err(Refusal {
+                    number: self.number,
+                    part: self.part,
+                    place: self.place,
+                })
+            }
         }
     };
 }
@@ -66,6 +84,8 @@ answer!(
     Length { length: usize }
 );
 
+#[rustfmt::skip]
+#[allow(missing_docs)]
 extern "C" {
     pub fn seg2_check(buffer: *const u8, size: usize, length: usize) -> Verdict;
     pub fn seg2_file_block(answer: *mut File, buffer: *const u8, size: usize, length: usize);
@@ -78,37 +98,8 @@ extern "C" {
     pub fn seg2_double(answer: *mut Double, buffer: *const u8, size: usize, length: usize, part: i32, key: *const u8, key_size: usize);
     pub fn seg2_location(answer: *mut Location, buffer: *const u8, size: usize, length: usize, part: i32, key: *const u8, key_size: usize);
     pub fn seg2_integers(buffer: *const u8, size: usize, length: usize, trace: i32, row: *mut i32, row_size: usize) -> Verdict;
-    pub fn seg2_bits(
-        buffer: *const u8,
-        size: usize,
-        length: usize,
-        trace: i32,
-        row: *mut u64,
-        row_size: usize,
-        classes: *mut u8,
-        classes_size: usize,
-    ) -> Verdict;
+    pub fn seg2_bits(buffer: *const u8, size: usize, length: usize, trace: i32, row: *mut u64, row_size: usize, classes: *mut u8, classes_size: usize) -> Verdict;
     pub fn seg2_start(answer: *mut Length, buffer: *mut u8, size: usize, order: u32, slots: u32, sheet: *const u8, sheet_size: usize);
-    pub fn seg2_add_integers(
-        answer: *mut Length,
-        buffer: *mut u8,
-        size: usize,
-        length: usize,
-        sheet: *const u8,
-        sheet_size: usize,
-        code: u32,
-        row: *const i32,
-        row_size: usize,
-    );
-    pub fn seg2_add_bits(
-        answer: *mut Length,
-        buffer: *mut u8,
-        size: usize,
-        length: usize,
-        sheet: *const u8,
-        sheet_size: usize,
-        code: u32,
-        row: *const u64,
-        row_size: usize,
-    );
+    pub fn seg2_add_integers(answer: *mut Length, buffer: *mut u8, size: usize, length: usize, sheet: *const u8, sheet_size: usize, code: u32, row: *const i32, row_size: usize);
+    pub fn seg2_add_bits(answer: *mut Length, buffer: *mut u8, size: usize, length: usize, sheet: *const u8, sheet_size: usize, code: u32, row: *const u64, row_size: usize);
 }

@@ -1,32 +1,197 @@
-/* The header as a C program uses it: prints number, part and place for a short buffer, an empty one and a length over the buffer. */
+/* The header as a C program uses it, in C99 and in C++: every function on document 01's example file, which is built here, and on one with floats.
+ * Prints each answer on a line; header.rs knows the lines. */
 #include "seg2.h"
 
 #include <stdio.h>
+#include <string.h>
 
-_Static_assert(sizeof(size_t) == 8, "size_t has 64 bits");
-_Static_assert(sizeof(seg2_verdict) == 16, "a verdict has 16 bytes");
+typedef char size_t_has_64_bits[sizeof(size_t) == 8 ? 1 : -1];
+typedef char a_verdict_has_16_bytes[sizeof(seg2_verdict) == 16 ? 1 : -1];
 
-static void told(const uint8_t *buffer, size_t size, size_t length) {
-    seg2_verdict verdict = seg2_check(buffer, size, length);
-    printf("%u %d %zu\n", (unsigned)verdict.number, (int)verdict.part, verdict.place);
+static uint8_t buffer[400];
+static uint8_t before[400];
+
+/* A text as the library takes it. */
+static const uint8_t *bytes(const char *text) {
+    return (const uint8_t *)text;
+}
+
+/* Number, part and place, as every answer begins. */
+static void refusal(const char *what, uint32_t number, int32_t part, size_t place) {
+    printf("%s: %u %d %lu", what, (unsigned)number, (int)part, (unsigned long)place);
+}
+
+static void told_verdict(const char *what, seg2_verdict v) {
+    refusal(what, v.number, v.part, v.place);
+    printf("\n");
+}
+
+static size_t told_length(const char *what, seg2_length a) {
+    refusal(what, a.number, a.part, a.place);
+    printf(" length %lu\n", (unsigned long)a.length);
+    return a.length;
+}
+
+/* All questions on the first `length` bytes of the buffer. */
+static void ask(size_t length) {
+    const size_t size = sizeof buffer;
+    int32_t row[3] = {7, 7, 7};
+    seg2_file file;
+    seg2_trace trace;
+    seg2_count count;
+    struct seg2_string string;
+    struct seg2_keyword keyword;
+    struct seg2_value value;
+    struct seg2_number number;
+    struct seg2_double twice;
+    struct seg2_location location;
+
+    told_verdict("check", seg2_check(buffer, size, length));
+
+    seg2_file_block(&file, buffer, size, length);
+    refusal("file", file.number, file.part, file.place);
+    printf(" order %u M %lu N %lu terminators %lu %lu\n", (unsigned)file.order, (unsigned long)file.pointer_room,
+           (unsigned long)file.trace_count, (unsigned long)file.string_terminator_size, (unsigned long)file.line_terminator_size);
+
+    seg2_trace_block(&trace, buffer, size, length, 0);
+    refusal("trace", trace.number, trace.part, trace.place);
+    printf(" p %lu B %lu D %lu S %lu code %u\n", (unsigned long)trace.start, (unsigned long)trace.block_size,
+           (unsigned long)trace.data_size, (unsigned long)trace.sample_count, (unsigned)trace.format_code);
+
+    seg2_string_count(&count, buffer, size, length, -1);
+    refusal("count", count.number, count.part, count.place);
+    printf(" %lu\n", (unsigned long)count.count);
+
+    seg2_string(&string, buffer, size, length, -1, 0);
+    refusal("string", string.number, string.part, string.place);
+    printf(" found %u '%.*s' '%.*s'\n", (unsigned)string.found, (int)string.key_length, (const char *)buffer + string.key_start,
+           (int)string.value_length, (const char *)buffer + string.value_start);
+
+    string = seg2_string_of(buffer, size, length, -1, 1);
+    refusal("string past the last", string.number, string.part, string.place);
+    printf(" found %u %lu %lu %lu %lu\n", (unsigned)string.found, (unsigned long)string.key_start, (unsigned long)string.key_length,
+           (unsigned long)string.value_start, (unsigned long)string.value_length);
+
+    seg2_keyword(&keyword, buffer, size, length, 0, bytes("STACK"), 5);
+    refusal("keyword", keyword.number, keyword.part, keyword.place);
+    printf(" found %u\n", (unsigned)keyword.found);
+
+    /* no bytes at all are asked for, and the pointer is still not null */
+    keyword = seg2_keyword_of(buffer, size, length, 0, bytes(""), 0);
+    refusal("no keyword", keyword.number, keyword.part, keyword.place);
+    printf(" found %u\n", (unsigned)keyword.found);
+
+    seg2_value(&value, buffer, size, length, -1, bytes("UNITS"), 5);
+    refusal("value", value.number, value.part, value.place);
+    printf(" '%.*s' at %lu\n", (int)value.value_length, (const char *)buffer + value.value_start, (unsigned long)value.value_start);
+
+    seg2_number(&number, buffer, size, length, 0, bytes("STACK"), 5);
+    refusal("number", number.number, number.part, number.place);
+    printf(" minus %u %lu E %d\n", (unsigned)number.minus, (unsigned long)number.coefficient, (int)number.power);
+
+    seg2_double(&twice, buffer, size, length, 0, bytes("STACK"), 5);
+    refusal("double", twice.number, twice.part, twice.place);
+    printf(" %g\n", twice.value);
+
+    seg2_location(&location, buffer, size, length, 0, bytes("STACK"), 5);
+    refusal("location", location.number, location.part, location.place);
+    printf(" count %u %g %g %g\n", (unsigned)location.count, location.x, location.y, location.z);
+
+    told_verdict("integers", seg2_integers(buffer, size, length, 0, row, 3));
+    printf("row %d %d %d\n", (int)row[0], (int)row[1], (int)row[2]);
+}
+
+/* The refusals of questions, each by its own row; none changes a lent byte. */
+static void ask_wrongly(size_t length) {
+    const size_t size = sizeof buffer;
+    int32_t row[4] = {7, 7, 7, 7};
+    uint64_t patterns[3] = {7, 7, 7};
+    uint8_t classes[3] = {7, 7, 7};
+    struct seg2_value value;
+    struct seg2_number number = seg2_number_of(buffer, size, length, -1, bytes("UNITS"), 5);
+    struct seg2_double twice = seg2_double_of(buffer, size, length, -1, bytes("UNITS"), 5);
+    struct seg2_location location = seg2_location_of(buffer, size, length, 0, bytes("MISSING"), 7);
+    seg2_trace trace = seg2_trace_block_of(buffer, size, length, -1);
+    seg2_count count = seg2_string_count_of(buffer, size, length, 1);
+    seg2_file file = seg2_file_block_of(buffer, size, size + 1);
+
+    value = seg2_value_of(buffer, size, length, -2, bytes("UNITS"), 5);
+    refusal("value of no part", value.number, value.part, value.place);
+    printf(" at %lu length %lu\n", (unsigned long)value.value_start, (unsigned long)value.value_length);
+    refusal("no number", number.number, number.part, number.place);
+    refusal("\nno double", twice.number, twice.part, twice.place);
+    refusal("\nno location", location.number, location.part, location.place);
+    refusal("\ntrace -1", trace.number, trace.part, trace.place);
+    refusal("\nstrings of trace 1", count.number, count.part, count.place);
+    refusal("\nfile over the buffer", file.number, file.part, file.place);
+    printf("\n");
+    told_verdict("a row of 4", seg2_integers(buffer, size, length, 0, row, 4));
+    told_verdict("no such trace", seg2_integers(buffer, size, length, 1, row, 3));
+    told_verdict("bits of code 1", seg2_bits(buffer, size, length, 0, patterns, 3, classes, 3));
+    printf("row %d %d %d %d, %lu %u\n", (int)row[0], (int)row[1], (int)row[2], (int)row[3], (unsigned long)patterns[0], (unsigned)classes[0]);
+    printf("%s\n", memcmp(before, buffer, size) == 0 ? "unchanged" : "changed");
 }
 
 int main(void) {
-    static const uint8_t file[108] = {
-        0x55, 0x3A, 1, 0, 4, 0, 1, 0, 1, 0, 0, 1, 10, 0, [32] = 56,
-        [36] = 15, 0, 'U', 'N', 'I', 'T', 'S', ' ', 'M', 'E', 'T', 'E', 'R', 'S', 0, 0, 0, 0, 0, 0,
-        [56] = 0x22, 0x44, 44, 0, 8, 0, 0, 0, 3, 0, 0, 0, 1,
-        [88] = 10, 0, 'S', 'T', 'A', 'C', 'K', ' ', '1', 0, 0, 0,
-        [100] = 1, 0, 0xFF, 0xFF, 0, 1, 0, 0};
-    uint8_t broken[108];
-    size_t i;
-    told(file, sizeof file, sizeof file);
-    told(file, sizeof file, sizeof file + 1);
-    told(file, sizeof file, 0);
-    for (i = 0; i < sizeof file; i++) {
-        broken[i] = file[i];
+    const size_t size = sizeof buffer;
+    const int32_t samples[3] = {1, -1, 256};
+    const int32_t groups[4] = {100000, -32769, 1073741823, 20};
+    const int32_t large[4] = {0, 0, 1073741824, 0};
+    const uint64_t doubles[2] = {0x7FF0000000000000u, 0x8000000000000000u};
+    int32_t row[4] = {7, 7, 7, 7};
+    uint64_t patterns[2] = {7, 7};
+    uint8_t classes[2] = {7, 7};
+    seg2_length answer;
+    size_t length;
+    uint32_t i;
+
+    /* document 01's example */
+    memset(buffer, 0xEE, size);
+    seg2_start(&answer, buffer, size, SEG2_LOW_FIRST, 1, bytes("UNITS\tMETERS\n"), 13);
+    length = told_length("start", answer);
+    told_verdict("check of a start", seg2_check(buffer, size, length));
+    seg2_add_integers(&answer, buffer, size, length, bytes("STACK\t1\n"), 8, SEG2_FIXED_16, samples, 3);
+    length = told_length("add", answer);
+    printf("past the end %02X\n", (unsigned)buffer[length]);
+    memcpy(before, buffer, size);
+    ask(length);
+    ask_wrongly(length);
+
+    /* refused writers change nothing */
+    told_length("no slot", seg2_add_integers_of(buffer, size, length, bytes(""), 0, SEG2_FIXED_16, samples, 3));
+    told_length("no order", seg2_start_of(buffer, size, 2, 1, bytes(""), 0));
+    told_length("a bad second line", seg2_start_of(buffer, size, 0, 1, bytes("A\t1\nB 2\n"), 8));
+    told_length("a line out of order", seg2_start_of(buffer, size, 0, 1, bytes("B\t1\nA\t2\n"), 8));
+    told_length("no room", seg2_start_of(buffer, 39, 0, 1, bytes(""), 0));
+    printf("%s\n", memcmp(before, buffer, size) == 0 ? "unchanged" : "changed");
+
+    /* high byte first, codes 3 and 5 */
+    length = told_length("start", seg2_start_of(buffer, size, SEG2_HIGH_FIRST, 3, bytes(""), 0));
+    length = told_length("add 3", seg2_add_integers_of(buffer, size, length, bytes("RECEIVER_LOCATION\t1 -2.5 3\n"), 27, SEG2_FLOAT_20, groups, 4));
+    seg2_add_bits(&answer, buffer, size, length, bytes(""), 0, SEG2_FLOAT_64, doubles, 2);
+    length = told_length("add 5", answer);
+    told_length("too large", seg2_add_integers_of(buffer, size, length, bytes(""), 0, SEG2_FLOAT_20, large, 4));
+    told_length("bits as code 1", seg2_add_bits_of(buffer, size, length, bytes(""), 0, SEG2_FIXED_16, doubles, 2));
+    told_verdict("integers 3", seg2_integers(buffer, size, length, 0, row, 4));
+    printf("row %d %d %d %d\n", (int)row[0], (int)row[1], (int)row[2], (int)row[3]);
+    told_verdict("bits", seg2_bits(buffer, size, length, 1, patterns, 2, classes, 2));
+    printf("row %016lX %u %016lX %u\n", (unsigned long)patterns[0], (unsigned)classes[0], (unsigned long)patterns[1], (unsigned)classes[1]);
+    {
+        struct seg2_location location = seg2_location_of(buffer, size, length, 0, bytes("RECEIVER_LOCATION"), 17);
+        refusal("location", location.number, location.part, location.place);
+        printf(" count %u %g %g %g\n", (unsigned)location.count, location.x, location.y, location.z);
     }
-    broken[90] = 's'; /* a lower-case letter in trace 0's keyword */
-    told(broken, sizeof broken, sizeof broken);
+
+    /* a lower-case letter in trace 0's keyword, in words */
+    {
+        size_t offset = seg2_trace_block_of(buffer, size, length, 0).start + 32;
+        seg2_verdict v;
+        buffer[offset + 2] = 'r';
+        v = seg2_check(buffer, size, length);
+        printf("%u in trace %d at its first string %d: %s\n", (unsigned)v.number, (int)v.part, v.place == offset, seg2_text(v.number));
+    }
+    for (i = 0; i <= 34; i++) {
+        printf("%u %s\n", (unsigned)i, seg2_text(i));
+    }
     return 0;
 }

@@ -1,52 +1,123 @@
 //! The header against the archive: a C program that includes it, compiled with
-//! warnings as errors and under the sanitizers, gives document 01's answers.
+//! warnings as errors and under the sanitizers, calls every function and gets the
+//! answers that document 01 gives.
 
-use std::path::PathBuf;
-use std::process::Command;
+mod c;
 
-fn here() -> PathBuf {
-    PathBuf::from(env!("CARGO_MANIFEST_DIR"))
+use c::{compiled, here, printed, root, Kept};
+
+/// What header.c prints before the table's words.
+const ANSWERS: &str = "\
+start: 0 -1 0 length 56
+check of a start: 5 -1 6
+add: 0 -1 0 length 108
+past the end EE
+check: 0 -1 0
+file: 0 -1 0 order 0 M 4 N 1 terminators 1 1
+trace: 0 -1 0 p 56 B 44 D 8 S 3 code 1
+count: 0 -1 0 1
+string: 0 -1 0 found 1 'UNITS' 'METERS'
+string past the last: 0 -1 0 found 0 0 0 0 0
+keyword: 0 -1 0 found 1
+no keyword: 0 -1 0 found 0
+value: 0 -1 0 'METERS' at 44
+number: 0 -1 0 minus 0 1 E 0
+double: 0 -1 0 1
+location: 0 -1 0 count 1 1 0 0
+integers: 0 -1 0
+row 1 -1 256
+value of no part: 18 -1 0 at 0 length 0
+no number: 20 -1 0
+no double: 20 -1 0
+no location: 23 -1 0
+trace -1: 18 -1 0
+strings of trace 1: 18 -1 0
+file over the buffer: 1 -1 0
+a row of 4: 32 -1 0
+no such trace: 18 -1 0
+bits of code 1: 33 -1 0
+row 7 7 7 7, 7 7
+unchanged
+no slot: 24 -1 0 length 0
+no order: 31 -1 0 length 0
+a bad second line: 25 -1 4 length 0
+a line out of order: 26 -1 4 length 0
+no room: 30 -1 0 length 0
+unchanged
+start: 0 -1 0 length 48
+add 3: 0 -1 0 length 124
+add 5: 0 -1 0 length 176
+too large: 29 -1 2 length 0
+bits as code 1: 28 -1 0 length 0
+integers 3: 0 -1 0
+row 100000 -32768 1073709056 20
+bits: 0 -1 0
+row 7FF0000000000000 3 8000000000000000 0
+location: 0 -1 0 count 3 1 -2.5 3
+16 in trace 0 at its first string 1: a forbidden character in a keyword or value
+";
+
+/// The answers, then the words of each row, which are those of the Rust side.
+fn expected() -> String {
+    let words = (0..=34).map(|number| format!("{number} {}\n", seg2::text(number)));
+    ANSWERS.to_string() + &words.collect::<String>()
+}
+
+const SANITIZED: [&str; 3] = [
+    "-g",
+    "-fsanitize=address,undefined",
+    "-fno-sanitize-recover=all",
+];
+
+#[test]
+fn a_c_program_gets_the_answers_of_document_01() {
+    let options = [&["-std=c99"], &SANITIZED[..]].concat();
+    let program =
+        compiled("cc", &options, &here().join("tests/header.c"), "header-c").expect("a C compiler");
+    assert_eq!(printed(&program), expected());
 }
 
 #[test]
-fn a_c_program_gets_the_verdicts_of_document_01() {
-    let program = std::env::temp_dir().join(format!("seg2-header-{}", std::process::id()));
-    let status = Command::new("cc")
-        .args(["-std=c11", "-Wall", "-Wextra", "-Wpedantic", "-Werror"])
-        .args([
-            "-g",
-            "-fsanitize=address,undefined",
-            "-fno-sanitize-recover=all",
-        ])
-        .arg("-I")
-        .arg(here().join("../../include"))
-        .arg(here().join("tests/header.c"))
-        .arg(here().join("../../target/native/libseg2.a"))
-        .arg("-o")
-        .arg(&program)
-        .status()
-        .expect("a C compiler");
-    assert!(status.success(), "the header does not compile as C");
-    let out = Command::new(&program).output().expect("the program runs");
-    assert!(
-        out.status.success(),
-        "{}",
-        String::from_utf8_lossy(&out.stderr)
-    );
-    // document 01's example file; a length over the buffer; no bytes; a lower-case letter in the string at byte 88
-    assert_eq!(
-        String::from_utf8_lossy(&out.stdout),
-        "0 -1 0\n1 -1 0\n1 -1 0\n16 0 88\n"
-    );
+fn a_cpp_program_gets_them_too() {
+    let options = ["-x", "c++", "-std=c++11"];
+    match compiled(
+        "c++",
+        &options,
+        &here().join("tests/header.c"),
+        "header-cpp",
+    ) {
+        Some(program) => assert_eq!(printed(&program), expected()),
+        None => println!("no C++ compiler here: the header was not tried as C++"),
+    }
 }
 
 #[test]
-fn the_header_has_every_number_of_the_check_once() {
-    let header = std::fs::read_to_string(here().join("../../include/seg2.h")).expect("the header");
-    let numbers: Vec<u32> = header
+fn the_header_has_every_number_of_the_table_once() {
+    let header = std::fs::read_to_string(root().join("include/seg2.h")).expect("the header");
+    let (_, table) = header.split_once("enum seg2_refusal {").expect("the table");
+    let (table, _) = table.split_once("};").expect("its end");
+    let numbers: Vec<u32> = table
         .lines()
         .filter_map(|line| line.trim().strip_prefix("SEG2_")?.split_once(" = "))
         .filter_map(|(_, rest)| rest.split([',', ' ']).next()?.parse().ok())
         .collect();
-    assert_eq!(numbers, (0..=17).collect::<Vec<u32>>());
+    assert_eq!(numbers, (0..=33).collect::<Vec<u32>>());
+}
+
+#[test]
+fn every_row_has_its_own_words() {
+    let words: std::collections::BTreeSet<_> = (0..=34).map(seg2::text).collect();
+    assert_eq!(words.len(), 35);
+}
+
+#[test]
+fn the_first_lines_of_c_in_the_docs_work() {
+    let page = std::fs::read_to_string(root().join("docs/USING.md")).expect("the page");
+    let (_, lines) = page.split_once("```c\n").expect("lines of C");
+    let (lines, _) = lines.split_once("```").expect("their end");
+    let source = Kept::new("using.c");
+    std::fs::write(source.path(), lines).expect("a source for the test");
+    let options = [&["-std=c99"], &SANITIZED[..]].concat();
+    let program = compiled("cc", &options, source.path(), "using").expect("a C compiler");
+    assert_eq!(printed(&program), "accepted, 200 bytes\nMETERS\n");
 }

@@ -1,92 +1,106 @@
-//! `seg2 check FILE..` and `seg2 list FILE`: the office's look at a shot file.
-//!
-//! The verdict of `check` is the proved library's. The listing is that of the
-//! independent reader of `host/reference`, until the proved listing program is
-//! there; the usage text says so.
+//! The office's and the crew's tool for SEG-2 shot files. Every answer about a file is
+//! the proved library's; here are words, files and lines of text. The listing's lines
+//! come from the wrapper's walk, which is tested and not proved.
+#![forbid(unsafe_code)]
 
-use std::io::Write;
+mod explain;
+mod files;
+mod look;
+mod options;
+mod stop;
+mod write;
+
+use std::ffi::OsString;
 use std::process::ExitCode;
 
-use seg2_reference::listing;
+use options::Options;
+use stop::{unusable, Answer};
 
 const USAGE: &str = "\
-seg2: looks at SEG-2 shot files
+seg2: checks, lists, reads and writes SEG-2 shot files
 
-  seg2 check FILE..   says of each file that it keeps the rules, or the first rule
-                      that it breaks, in which part and at which byte (proved)
-  seg2 list FILE      lists its blocks and strings, with tabs between the fields
-                      (by the independent reader, host/reference)
+  seg2 check FILE..             accepted, or the first rule that the file breaks: in
+                                which part, at which byte, with the bytes around it
+  seg2 list FILE                its blocks and strings, with tabs between the fields
+  seg2 samples FILE TRACE       a trace's samples, one a line; traces count from 0
+      --bits                    as bit patterns (codes 4 and 5)
+  seg2 new FILE                 starts a file without traces
+      --order low|high          which byte of a number comes first
+      --slots N                 how many traces it can take, 1 to 16383
+      --sheet SHEET             the file's strings (without it: none)
+  seg2 add FILE                 adds a trace
+      --sheet SHEET             the trace's strings (an empty file: none)
+      --code C                  the format code: 1 and 2 fixed point of 16 and 32 bits,
+                                3, 4 and 5 floating point of 20, 32 and 64 bits
+      --samples TEXT            samples, one a line: whole numbers, for codes 4 and 5
+                                decimal numbers or bit patterns that start with 0x
+  seg2 explain NUMBER           a refusal's number in plain words
 
-Exit status: 0 every file keeps the rules, 1 one does not, 2 one cannot be read or
-the command is not understood.
+A sheet is a text file: on each line a keyword, a tab and a value, keywords in rising
+order, lines of a NOTE last. Where a file is read, - is standard input.
+
+Exit status: 0 done, and every file accepted; 1 a file, a sheet or a sample was refused;
+2 a file cannot be read or written, or the command is not understood.
 ";
 
 fn main() -> ExitCode {
-    let words: Vec<String> = std::env::args().skip(1).collect();
-    match words.split_first() {
-        Some((verb, files)) if verb == "check" && !files.is_empty() => check_all(files),
-        Some((verb, [file])) if verb == "list" => list(file),
-        Some((verb, [])) if verb == "help" || verb == "--help" => {
-            print!("{USAGE}");
-            ExitCode::SUCCESS
+    let words: Vec<OsString> = std::env::args_os().skip(1).collect();
+    let status = run(&words).unwrap_or_else(|stop| stop.tell());
+    ExitCode::from(status)
+}
+
+fn run(words: &[OsString]) -> Answer {
+    let Some((verb, rest)) = words.split_first() else {
+        return Err(unusable(format!("what is to be done?\n\n{USAGE}")));
+    };
+    match verb.to_str().unwrap_or("") {
+        "check" => {
+            let given = Options::of(rest, &[], &[])?;
+            look::check(given.at_least_one("check FILE..")?)
         }
+        "list" => {
+            let given = Options::of(rest, &[], &[])?;
+            let [file] = given.exactly("list FILE")?;
+            look::list(file)
+        }
+        "samples" => {
+            let given = Options::of(rest, &[], &["--bits"])?;
+            let [file, trace] = given.exactly("samples FILE TRACE [--bits]")?;
+            look::samples(file, trace, given.has("--bits"))
+        }
+        "new" => {
+            let given = Options::of(rest, &["--order", "--slots", "--sheet"], &[])?;
+            let [file] = given.exactly("new FILE --order low|high --slots N [--sheet SHEET]")?;
+            let sheet = given.value("--sheet");
+            write::new(
+                file,
+                given.needed("--order")?,
+                given.needed("--slots")?,
+                sheet,
+            )
+        }
+        "add" => {
+            let given = Options::of(rest, &["--sheet", "--code", "--samples"], &[])?;
+            let [file] = given.exactly("add FILE --sheet SHEET --code C --samples TEXT")?;
+            let sheet = given.needed("--sheet")?;
+            write::add(
+                file,
+                sheet,
+                given.needed("--code")?,
+                given.needed("--samples")?,
+            )
+        }
+        "explain" => {
+            let given = Options::of(rest, &[], &[])?;
+            let [number] = given.exactly("explain NUMBER")?;
+            explain::explain(number)
+        }
+        "help" | "--help" | "-h" => files::print(USAGE.as_bytes()),
         _ => {
-            eprint!("{USAGE}");
-            ExitCode::from(2)
+            let verb = verb.to_string_lossy();
+            Err(unusable(format!(
+                "`{verb}` is no command; `seg2 help` lists them"
+            )))
         }
     }
-}
-
-fn bytes_of(name: &str) -> Option<Vec<u8>> {
-    match std::fs::read(name) {
-        Ok(bytes) => Some(bytes),
-        Err(error) => {
-            eprintln!("{name}: cannot be read: {error}");
-            None
-        }
-    }
-}
-
-/// One line for each file; the worst of them is the exit status.
-fn check_all(files: &[String]) -> ExitCode {
-    let worst = files.iter().map(|file| check_one(file)).max();
-    ExitCode::from(worst.unwrap_or(2))
-}
-
-fn check_one(name: &str) -> u8 {
-    let Some(bytes) = bytes_of(name) else {
-        return 2;
-    };
-    match seg2::check(&bytes, bytes.len()) {
-        Ok(()) => {
-            println!("{name}: keeps the rules");
-            0
-        }
-        Err(refusal) => {
-            println!("{name}: {}", in_words(refusal));
-            1
-        }
-    }
-}
-
-/// A refusal as a crew reads it: what is wrong, in which part, at which byte.
-fn in_words(refusal: seg2::Refusal) -> String {
-    seg2_reference::Refusal {
-        number: u8::try_from(refusal.number).unwrap_or(u8::MAX),
-        part: i64::from(refusal.part),
-        place: refusal.place as u64,
-    }
-    .to_string()
-}
-
-fn list(name: &str) -> ExitCode {
-    let Some(bytes) = bytes_of(name) else {
-        return ExitCode::from(2);
-    };
-    let lines = listing(&bytes);
-    if std::io::stdout().write_all(&lines).is_err() {
-        return ExitCode::from(2);
-    }
-    // a refusal is one line that starts with R
-    ExitCode::from(u8::from(lines.starts_with(b"R\t")))
 }

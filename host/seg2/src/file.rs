@@ -1,0 +1,517 @@
+//! An accepted file, its strings and its traces.
+
+use crate::part::Part;
+use crate::{calls, raw, Location, Number, Order, Refusal, Trace, Walk};
+
+/// A view of a file that the check has accepted. It borrows the bytes and copies none.
+///
+/// ```
+/// # use seg2::{Builder, Order};
+/// # let mut shot = Builder::start(Order::Low, 1, b"UNITS\tMETERS\n")?;
+/// # shot.add_integers(b"STACK\t1\n", 1, &[1, -1, 256])?;
+/// # let bytes = shot.finish();
+/// let file = seg2::File::open(&bytes)?;
+/// assert_eq!(file.trace_count(), 1);
+/// assert_eq!(file.value(b"UNITS"), Some(&b"METERS"[..]));
+/// # Ok::<(), seg2::Refusal>(())
+/// ```
+#[derive(Clone, Copy, Debug)]
+pub struct File<'a> {
+    part: Part<'a>,
+    block: raw::File,
+}
+
+impl<'a> File<'a> {
+    /// Checks a whole slice and opens it: the check's refusal, 1 to 17, or the view.
+    ///
+    /// ```
+    /// let refusal = seg2::File::open(&[0; 32]).unwrap_err();
+    /// assert_eq!(refusal.to_string(), "refused (2) in the file: the first two bytes are not those of a SEG-2 file");
+    /// ```
+    pub fn open(bytes: &'a [u8]) -> Result<File<'a>, Refusal> {
+        File::open_prefix(bytes, bytes.len())
+    }
+
+    /// Checks the first `length` bytes of a buffer and opens them. Any length may be given.
+    ///
+    /// ```
+    /// # use seg2::{Builder, Order};
+    /// # let mut shot = Builder::start(Order::Low, 1, b"")?;
+    /// # shot.add_integers(b"", 1, &[7])?;
+    /// # let length = shot.bytes().len();
+    /// # let mut buffer = shot.finish();
+    /// # buffer.resize(1000, 0xEE);
+    /// let file = seg2::File::open_prefix(&buffer, length)?;
+    /// assert_eq!(file.bytes(), &buffer[..length]);
+    /// assert_eq!(seg2::File::open_prefix(&buffer, 1001).unwrap_err().number, 1);
+    /// # Ok::<(), seg2::Refusal>(())
+    /// ```
+    pub fn open_prefix(buffer: &'a [u8], length: usize) -> Result<File<'a>, Refusal> {
+        let block = calls::file_block(buffer, length).told()?;
+        let part = Part {
+            buffer,
+            length,
+            number: -1,
+        };
+        Ok(File { part, block })
+    }
+
+    /// The file's bytes, without what stands behind them in the buffer. Free.
+    ///
+    /// ```
+    /// # use seg2::{Builder, Order};
+    /// # let mut shot = Builder::start(Order::Low, 1, b"")?;
+    /// # shot.add_integers(b"", 1, &[7])?;
+    /// # let bytes = shot.finish();
+    /// assert_eq!(seg2::File::open(&bytes)?.bytes(), bytes);
+    /// # Ok::<(), seg2::Refusal>(())
+    /// ```
+    pub fn bytes(&self) -> &'a [u8] {
+        &self.part.buffer[..self.part.length]
+    }
+
+    /// The byte order. Free.
+    ///
+    /// ```
+    /// # use seg2::{Builder, Order};
+    /// # let mut shot = Builder::start(Order::High, 1, b"")?;
+    /// # shot.add_integers(b"", 1, &[7])?;
+    /// # let bytes = shot.finish();
+    /// assert_eq!(seg2::File::open(&bytes)?.order(), seg2::Order::High);
+    /// # Ok::<(), seg2::Refusal>(())
+    /// ```
+    pub fn order(&self) -> Order {
+        if self.high_first() {
+            Order::High
+        } else {
+            Order::Low
+        }
+    }
+
+    /// Whether the high byte of a whole number comes first. Free.
+    ///
+    /// ```
+    /// # use seg2::{Builder, Order};
+    /// # let mut shot = Builder::start(Order::Low, 1, b"")?;
+    /// # shot.add_integers(b"", 1, &[7])?;
+    /// # let bytes = shot.finish();
+    /// assert!(!seg2::File::open(&bytes)?.high_first());
+    /// # Ok::<(), seg2::Refusal>(())
+    /// ```
+    pub fn high_first(&self) -> bool {
+        self.block.order == 1
+    }
+
+    /// M, the size of the pointer room in bytes: 4 for each slot. Free.
+    ///
+    /// ```
+    /// # use seg2::{Builder, Order};
+    /// # let mut shot = Builder::start(Order::Low, 24, b"")?;
+    /// # shot.add_integers(b"", 1, &[7])?;
+    /// # let bytes = shot.finish();
+    /// assert_eq!(seg2::File::open(&bytes)?.pointer_room(), 96);
+    /// # Ok::<(), seg2::Refusal>(())
+    /// ```
+    pub fn pointer_room(&self) -> usize {
+        self.block.room
+    }
+
+    /// N, the number of traces. Free.
+    ///
+    /// ```
+    /// # use seg2::{Builder, Order};
+    /// # let mut shot = Builder::start(Order::Low, 24, b"")?;
+    /// # shot.add_integers(b"", 1, &[7])?;
+    /// # let bytes = shot.finish();
+    /// assert_eq!(seg2::File::open(&bytes)?.trace_count(), 1);
+    /// # Ok::<(), seg2::Refusal>(())
+    /// ```
+    pub fn trace_count(&self) -> usize {
+        self.block.count
+    }
+
+    /// The characters that end each string, one or two. Free.
+    ///
+    /// ```
+    /// # use seg2::{Builder, Order};
+    /// # let mut shot = Builder::start(Order::Low, 1, b"")?;
+    /// # shot.add_integers(b"", 1, &[7])?;
+    /// # let bytes = shot.finish();
+    /// assert_eq!(seg2::File::open(&bytes)?.string_terminator(), b"\0");
+    /// # Ok::<(), seg2::Refusal>(())
+    /// ```
+    pub fn string_terminator(&self) -> &'a [u8] {
+        &self.part.buffer[9..9 + self.block.strings]
+    }
+
+    /// The characters that part the lines of a NOTE, one or two. Free.
+    ///
+    /// ```
+    /// # use seg2::{Builder, Order};
+    /// # let mut shot = Builder::start(Order::Low, 1, b"")?;
+    /// # shot.add_integers(b"", 1, &[7])?;
+    /// # let bytes = shot.finish();
+    /// assert_eq!(seg2::File::open(&bytes)?.line_terminator(), b"\n");
+    /// # Ok::<(), seg2::Refusal>(())
+    /// ```
+    pub fn line_terminator(&self) -> &'a [u8] {
+        &self.part.buffer[12..12 + self.block.lines]
+    }
+
+    /// A trace, counted from 0; 18 where there is none.
+    ///
+    /// ```
+    /// # use seg2::{Builder, Order};
+    /// # let mut shot = Builder::start(Order::Low, 1, b"")?;
+    /// # shot.add_integers(b"", 1, &[7])?;
+    /// # let bytes = shot.finish();
+    /// let file = seg2::File::open(&bytes)?;
+    /// assert_eq!(file.trace(0)?.sample_count(), 1);
+    /// assert_eq!(file.trace(1).unwrap_err().number, 18);
+    /// # Ok::<(), seg2::Refusal>(())
+    /// ```
+    pub fn trace(&self, index: usize) -> Result<Trace<'a>, Refusal> {
+        // a file has far fewer traces than 31 bits count, so a larger index is 18 as well
+        let number = i32::try_from(index).unwrap_or(i32::MAX);
+        let block = calls::trace_block(self.part.buffer, self.part.length, number).told()?;
+        Ok(Trace::of(*self, number, block))
+    }
+
+    /// All traces in order. One call for each.
+    ///
+    /// ```
+    /// # use seg2::{Builder, Order};
+    /// # let mut shot = Builder::start(Order::Low, 2, b"")?;
+    /// # shot.add_integers(b"", 1, &[7])?;
+    /// # shot.add_integers(b"", 2, &[8, 9])?;
+    /// # let bytes = shot.finish();
+    /// let file = seg2::File::open(&bytes)?;
+    /// let codes: Vec<u32> = file.traces().map(|trace| trace.code()).collect();
+    /// assert_eq!(codes, [1, 2]);
+    /// # Ok::<(), seg2::Refusal>(())
+    /// ```
+    pub fn traces(&self) -> Traces<'a> {
+        Traces {
+            file: *self,
+            next: 0,
+        }
+    }
+
+    /// All blocks and strings in the order of a listing, in one pass and without a call.
+    ///
+    /// It follows the pointers and offsets that the check has accepted when the file was
+    /// opened. It is tested to give what [`File::strings`], [`File::traces`] and
+    /// [`Trace::strings`] give, not proved.
+    ///
+    /// ```
+    /// # use seg2::{Builder, Order};
+    /// # let mut shot = Builder::start(Order::Low, 1, b"UNITS\tMETERS\n")?;
+    /// # shot.add_integers(b"", 1, &[1, -1, 256])?;
+    /// # let bytes = shot.finish();
+    /// use seg2::Step;
+    /// let steps: Vec<Step> = seg2::File::open(&bytes)?.walk().collect();
+    /// assert_eq!(steps[0], Step::String { keyword: b"UNITS", value: b"METERS" });
+    /// assert_eq!(steps[1], Step::Trace { index: 0, code: 1, sample_count: 3 });
+    /// # Ok::<(), seg2::Refusal>(())
+    /// ```
+    pub fn walk(&self) -> Walk<'a> {
+        Walk::of(*self)
+    }
+
+    /// How many strings the file block has.
+    ///
+    /// ```
+    /// # use seg2::{Builder, Order};
+    /// # let mut shot = Builder::start(Order::Low, 1, b"COMPANY\tWE\nUNITS\tMETERS\n")?;
+    /// # shot.add_integers(b"", 1, &[7])?;
+    /// # let bytes = shot.finish();
+    /// assert_eq!(seg2::File::open(&bytes)?.string_count(), 2);
+    /// # Ok::<(), seg2::Refusal>(())
+    /// ```
+    pub fn string_count(&self) -> usize {
+        self.part.string_count()
+    }
+
+    /// Keyword and value of the string with this index; none past the last.
+    ///
+    /// ```
+    /// # use seg2::{Builder, Order};
+    /// # let mut shot = Builder::start(Order::Low, 1, b"COMPANY\tWE\nUNITS\tMETERS\n")?;
+    /// # shot.add_integers(b"", 1, &[7])?;
+    /// # let bytes = shot.finish();
+    /// let file = seg2::File::open(&bytes)?;
+    /// assert_eq!(file.string(1), Some((&b"UNITS"[..], &b"METERS"[..])));
+    /// assert_eq!(file.string(2), None);
+    /// # Ok::<(), seg2::Refusal>(())
+    /// ```
+    pub fn string(&self, index: usize) -> Option<(&'a [u8], &'a [u8])> {
+        self.part.string(index)
+    }
+
+    /// Keyword and value of each string of the file block, in order. One call for each,
+    /// and one more at the end.
+    ///
+    /// ```
+    /// # use seg2::{Builder, Order};
+    /// # let mut shot = Builder::start(Order::Low, 1, b"COMPANY\tWE\nUNITS\tMETERS\n")?;
+    /// # shot.add_integers(b"", 1, &[7])?;
+    /// # let bytes = shot.finish();
+    /// let file = seg2::File::open(&bytes)?;
+    /// let keywords: Vec<&[u8]> = file.strings().map(|(keyword, _)| keyword).collect();
+    /// assert_eq!(keywords, [&b"COMPANY"[..], b"UNITS"]);
+    /// # Ok::<(), seg2::Refusal>(())
+    /// ```
+    pub fn strings(&self) -> Strings<'a> {
+        Strings::of(self.part)
+    }
+
+    /// Whether the file block has a keyword.
+    ///
+    /// ```
+    /// # use seg2::{Builder, Order};
+    /// # let mut shot = Builder::start(Order::Low, 1, b"UNITS\tMETERS\n")?;
+    /// # shot.add_integers(b"", 1, &[7])?;
+    /// # let bytes = shot.finish();
+    /// let file = seg2::File::open(&bytes)?;
+    /// assert!(file.has(b"UNITS") && !file.has(b"units"));
+    /// # Ok::<(), seg2::Refusal>(())
+    /// ```
+    pub fn has(&self, keyword: &[u8]) -> bool {
+        self.part.has(keyword)
+    }
+
+    /// The value of a keyword as the buffer's own bytes; none where the keyword is
+    /// missing.
+    ///
+    /// ```
+    /// # use seg2::{Builder, Order};
+    /// # let mut shot = Builder::start(Order::Low, 1, b"CLIENT\t\nUNITS\tMETERS\n")?;
+    /// # shot.add_integers(b"", 1, &[7])?;
+    /// # let bytes = shot.finish();
+    /// let file = seg2::File::open(&bytes)?;
+    /// assert_eq!(file.value(b"UNITS"), Some(&b"METERS"[..]));
+    /// assert_eq!(file.value(b"CLIENT"), Some(&b""[..]));
+    /// assert_eq!(file.value(b"COMPANY"), None);
+    /// # Ok::<(), seg2::Refusal>(())
+    /// ```
+    pub fn value(&self, keyword: &[u8]) -> Option<&'a [u8]> {
+        self.part.value(keyword)
+    }
+
+    /// The value of a keyword as a number: 20 where it is none (so where the keyword is
+    /// missing), 21 where it has too many digits.
+    ///
+    /// ```
+    /// # use seg2::{Builder, Order};
+    /// # let mut shot = Builder::start(Order::Low, 1, b"DATUM\t0,5\nTRACE_SORT\t-2.3E6\n")?;
+    /// # shot.add_integers(b"", 1, &[7])?;
+    /// # let bytes = shot.finish();
+    /// let file = seg2::File::open(&bytes)?;
+    /// let number = file.number(b"TRACE_SORT")?;
+    /// assert_eq!((number.minus, number.coefficient, number.power), (true, 23, 5));
+    /// assert_eq!(file.number(b"DATUM").unwrap_err().number, 20);
+    /// # Ok::<(), seg2::Refusal>(())
+    /// ```
+    pub fn number(&self, keyword: &[u8]) -> Result<Number, Refusal> {
+        self.part.number(keyword)
+    }
+
+    /// The value of a keyword as a double: 20, 21, or 22 where it is too long or too large.
+    ///
+    /// ```
+    /// # use seg2::{Builder, Order};
+    /// # let mut shot = Builder::start(Order::Low, 1, b"DATUM\t-34.6\nZ\t1.345E24\n")?;
+    /// # shot.add_integers(b"", 1, &[7])?;
+    /// # let bytes = shot.finish();
+    /// let file = seg2::File::open(&bytes)?;
+    /// assert_eq!(file.double(b"DATUM")?, -34.6);
+    /// assert_eq!(file.double(b"Z").unwrap_err().number, 22);
+    /// # Ok::<(), seg2::Refusal>(())
+    /// ```
+    pub fn double(&self, keyword: &[u8]) -> Result<f64, Refusal> {
+        self.part.double(keyword)
+    }
+
+    /// The value of a keyword as a location: 23 where it has neither one value nor three
+    /// (so where the keyword is missing), then 20 to 22 value by value.
+    ///
+    /// ```
+    /// # use seg2::{Builder, Order};
+    /// # let mut shot = Builder::start(Order::Low, 1, b"A\t1\nB\t1 2\nC\t1 2 x\n")?;
+    /// # shot.add_integers(b"", 1, &[7])?;
+    /// # let bytes = shot.finish();
+    /// let file = seg2::File::open(&bytes)?;
+    /// assert_eq!(file.location(b"A")?.count, 1);
+    /// assert_eq!(file.location(b"B").unwrap_err().number, 23);
+    /// let refusal = file.location(b"C").unwrap_err();
+    /// assert_eq!((refusal.number, refusal.place), (20, 4));
+    /// # Ok::<(), seg2::Refusal>(())
+    /// ```
+    pub fn location(&self, keyword: &[u8]) -> Result<Location, Refusal> {
+        self.part.location(keyword)
+    }
+
+    /// The lines of a value of this file, parted by its line terminator, empty ones too;
+    /// so n line terminators make n+1 lines. Free.
+    ///
+    /// ```
+    /// # use seg2::{Builder, Order};
+    /// # let mut shot = Builder::start(Order::Low, 1, b"")?;
+    /// # shot.add_integers(b"NOTE\tWET\nNOTE\t\nNOTE\t COLD\n", 1, &[7])?;
+    /// # let bytes = shot.finish();
+    /// let file = seg2::File::open(&bytes)?;
+    /// let value = file.trace(0)?.value(b"NOTE").unwrap();
+    /// let lines: Vec<&[u8]> = file.lines(value).collect();
+    /// assert_eq!(lines, [&b"WET"[..], b"", b" COLD"]);
+    /// # Ok::<(), seg2::Refusal>(())
+    /// ```
+    pub fn lines<'v>(&self, value: &'v [u8]) -> Lines<'v>
+    where
+        'a: 'v,
+    {
+        Lines {
+            rest: Some(value),
+            terminator: self.line_terminator(),
+        }
+    }
+
+    /// The lines of the file's NOTE; none at all where it has none.
+    ///
+    /// ```
+    /// # use seg2::{Builder, Order};
+    /// # let mut shot = Builder::start(Order::Low, 1, b"NOTE\tWET\nNOTE\tCOLD\n")?;
+    /// # shot.add_integers(b"", 1, &[7])?;
+    /// # let bytes = shot.finish();
+    /// let file = seg2::File::open(&bytes)?;
+    /// assert_eq!(file.note().collect::<Vec<_>>(), [&b"WET"[..], b"COLD"]);
+    /// assert_eq!(file.trace(0)?.note().count(), 0);
+    /// # Ok::<(), seg2::Refusal>(())
+    /// ```
+    pub fn note(&self) -> Lines<'a> {
+        self.note_of(self.part)
+    }
+
+    /// The lines of a part's NOTE.
+    pub(crate) fn note_of(&self, part: Part<'a>) -> Lines<'a> {
+        Lines {
+            rest: part.value(b"NOTE"),
+            terminator: self.line_terminator(),
+        }
+    }
+
+    /// Another part of this file.
+    pub(crate) fn part(&self, number: i32) -> Part<'a> {
+        Part {
+            number,
+            ..self.part
+        }
+    }
+}
+
+/// The traces of a file, in order: [`File::traces`].
+///
+/// ```
+/// # use seg2::{Builder, Order};
+/// # let mut shot = Builder::start(Order::Low, 2, b"")?;
+/// # shot.add_integers(b"", 1, &[7])?;
+/// # shot.add_integers(b"", 2, &[8, 9])?;
+/// # let bytes = shot.finish();
+/// let file = seg2::File::open(&bytes)?;
+/// assert_eq!(file.traces().len(), 2);
+/// assert_eq!(file.traces().last().unwrap().index(), 1);
+/// # Ok::<(), seg2::Refusal>(())
+/// ```
+#[derive(Clone, Debug)]
+pub struct Traces<'a> {
+    file: File<'a>,
+    next: usize,
+}
+
+impl<'a> Iterator for Traces<'a> {
+    type Item = Trace<'a>;
+
+    fn next(&mut self) -> Option<Trace<'a>> {
+        // past the last there would be 18, after a whole check
+        if self.next >= self.file.trace_count() {
+            return None;
+        }
+        let trace = self.file.trace(self.next).ok()?;
+        self.next += 1;
+        Some(trace)
+    }
+
+    fn size_hint(&self) -> (usize, Option<usize>) {
+        let left = self.file.trace_count() - self.next;
+        (left, Some(left))
+    }
+}
+
+impl ExactSizeIterator for Traces<'_> {}
+
+/// Keyword and value of each string of a block, in order: [`File::strings`] and
+/// [`Trace::strings`].
+///
+/// ```
+/// # use seg2::{Builder, Order};
+/// # let mut shot = Builder::start(Order::Low, 1, b"UNITS\tMETERS\n")?;
+/// # shot.add_integers(b"", 1, &[7])?;
+/// # let bytes = shot.finish();
+/// let file = seg2::File::open(&bytes)?;
+/// assert_eq!(file.strings().next(), Some((&b"UNITS"[..], &b"METERS"[..])));
+/// # Ok::<(), seg2::Refusal>(())
+/// ```
+#[derive(Clone, Debug)]
+pub struct Strings<'a> {
+    part: Part<'a>,
+    next: usize,
+}
+
+impl<'a> Strings<'a> {
+    pub(crate) fn of(part: Part<'a>) -> Strings<'a> {
+        Strings { part, next: 0 }
+    }
+}
+
+impl<'a> Iterator for Strings<'a> {
+    type Item = (&'a [u8], &'a [u8]);
+
+    fn next(&mut self) -> Option<Self::Item> {
+        let string = self.part.string(self.next)?;
+        self.next += 1;
+        Some(string)
+    }
+}
+
+impl std::iter::FusedIterator for Strings<'_> {}
+
+/// The lines of a value, parted by whole line terminators from the left: [`File::lines`],
+/// [`File::note`] and [`Trace::note`].
+///
+/// ```
+/// # use seg2::{Builder, Order};
+/// # let mut shot = Builder::start(Order::Low, 1, b"NOTE\tWET\nNOTE\tCOLD\n")?;
+/// # shot.add_integers(b"", 1, &[7])?;
+/// # let bytes = shot.finish();
+/// let file = seg2::File::open(&bytes)?;
+/// assert_eq!(file.note().last(), Some(&b"COLD"[..]));
+/// # Ok::<(), seg2::Refusal>(())
+/// ```
+#[derive(Clone, Debug)]
+pub struct Lines<'a> {
+    rest: Option<&'a [u8]>,
+    terminator: &'a [u8],
+}
+
+impl<'a> Iterator for Lines<'a> {
+    type Item = &'a [u8];
+
+    fn next(&mut self) -> Option<&'a [u8]> {
+        let rest = self.rest?;
+        let size = self.terminator.len();
+        let cut = rest.windows(size).position(|w| w == self.terminator);
+        self.rest = cut.map(|at| &rest[at + size..]);
+        Some(cut.map_or(rest, |at| &rest[..at]))
+    }
+}
+
+impl std::iter::FusedIterator for Lines<'_> {}

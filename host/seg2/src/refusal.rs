@@ -1,0 +1,141 @@
+//! Refusals and their words.
+
+use std::fmt;
+
+/// A refusal of the table: which row, in which part, at which place.
+///
+/// ```
+/// let refusal = seg2::Refusal { number: 16, part: 3, place: 1234 };
+/// assert_eq!(
+///     refusal.to_string(),
+///     "refused (16) in trace 3 at byte 1234: a forbidden character in a keyword or value"
+/// );
+/// ```
+#[derive(Clone, Copy, Debug, PartialEq, Eq, Hash)]
+pub struct Refusal {
+    /// The row of the table, 1 to 33.
+    pub number: u32,
+    /// -1 for the file, else the trace.
+    pub part: i32,
+    /// A byte of the file; for 20 to 22 of the value, for 25 and 26 of the sheet; for 29
+    /// a sample's index; 0 for the rows that have no place.
+    pub place: usize,
+}
+
+/// What the place of a refusal counts.
+///
+/// ```
+/// use seg2::{Place, Refusal};
+/// let refusal = Refusal { number: 25, part: -1, place: 7 };
+/// assert_eq!(refusal.counts(), Place::Sheet);
+/// ```
+#[derive(Clone, Copy, Debug, PartialEq, Eq)]
+pub enum Place {
+    /// Bytes of the file.
+    File,
+    /// Bytes of a keyword's value.
+    Value,
+    /// Bytes of the sheet.
+    Sheet,
+    /// Samples of the row.
+    Row,
+    /// Nothing: the place is always 0.
+    Nothing,
+}
+
+impl Refusal {
+    /// What the place counts.
+    ///
+    /// ```
+    /// use seg2::{Place, Refusal};
+    /// let of = |number| Refusal { number, part: -1, place: 0 }.counts();
+    /// assert_eq!((of(9), of(20), of(29), of(24)), (Place::File, Place::Value, Place::Row, Place::Nothing));
+    /// ```
+    pub fn counts(&self) -> Place {
+        match self.number {
+            3..=17 => Place::File,
+            20..=22 => Place::Value,
+            25 | 26 => Place::Sheet,
+            29 => Place::Row,
+            _ => Place::Nothing,
+        }
+    }
+
+    /// The row in words, without part and place.
+    ///
+    /// ```
+    /// let refusal = seg2::Refusal { number: 3, part: -1, place: 2 };
+    /// assert_eq!(refusal.text(), "the revision is not 1");
+    /// ```
+    pub fn text(&self) -> &'static str {
+        text(self.number)
+    }
+}
+
+impl fmt::Display for Refusal {
+    fn fmt(&self, out: &mut fmt::Formatter<'_>) -> fmt::Result {
+        write!(out, "refused ({})", self.number)?;
+        // from 18 on the part is always -1 and says nothing
+        match self.number {
+            1..=17 if self.part < 0 => write!(out, " in the file")?,
+            1..=17 => write!(out, " in trace {}", self.part)?,
+            _ => {}
+        }
+        match self.counts() {
+            Place::File => write!(out, " at byte {}", self.place)?,
+            Place::Value => write!(out, " at byte {} of the value", self.place)?,
+            Place::Sheet => write!(out, " at byte {} of the sheet", self.place)?,
+            Place::Row => write!(out, " at sample {}", self.place)?,
+            Place::Nothing => {}
+        }
+        write!(out, ": {}", self.text())
+    }
+}
+
+impl std::error::Error for Refusal {}
+
+/// A row of the table in words for a crew; 0 is "accepted".
+///
+/// ```
+/// assert_eq!(seg2::text(24), "no pointer slot is free");
+/// ```
+#[rustfmt::skip]
+pub fn text(number: u32) -> &'static str {
+    match number {
+        0 => "accepted",
+        1 => "the length is under 32 bytes, over 67,108,864 bytes, or over the buffer",
+        2 => "the first two bytes are not those of a SEG-2 file",
+        3 => "the revision is not 1",
+        4 => "the size of the pointer room is under 4 or no multiple of 4",
+        5 => "there are no traces, or more than the pointer room holds",
+        6 => "a terminator is bad, or the two terminators share a character",
+        7 => "the pointer room goes past the end of the file",
+        8 => "the trace's pointer is no multiple of 4, leads into what stands before, or leaves no room for a block",
+        9 => "no trace block where the pointer leads",
+        10 => "the block's size is under 32, no multiple of 4, or goes past the end",
+        11 => "the data's size is no multiple of 4 or goes past the end",
+        12 => "the format code is not 1 to 5",
+        13 => "the samples need more bytes than the data has, or are no multiple of 4 under code 3",
+        14 => "a string's offset is missing, too small for a keyword, or leads past its area",
+        15 => "the string terminator is not at the string's end",
+        16 => "a forbidden character in a keyword or value",
+        17 => "the keyword is out of order, or there twice",
+        18 => "there is no such trace",
+        19 => "the listing program's input is longer than 65,536 bytes",
+        20 => "this is not a number",
+        21 => "the number has too many digits",
+        22 => "the number is too long or too large to be taken as a double",
+        23 => "a location has one value or three, not this many",
+        24 => "no pointer slot is free",
+        25 => "a bad line in the sheet",
+        26 => "a line of the sheet is out of order, or its keyword is there twice",
+        27 => "the sheet's strings need more than 65,500 bytes",
+        28 => "the format code does not fit these samples, or their count is no multiple of 4 under code 3",
+        29 => "a sample is outside what the format code can hold",
+        30 => "there is no room for the result",
+        31 => "the pointer slots are not 1 to 16,383, or the byte order is not 0 or 1",
+        32 => "the row's length is not the number of samples",
+        33 => "whole numbers are asked of a floating point trace, or bit patterns of a trace of whole numbers",
+        _ => "a number that is not in the table",
+    }
+}

@@ -1,0 +1,460 @@
+//! A trace of an accepted file, and its samples.
+
+use crate::part::Part;
+use crate::{calls, code, raw, File, Lines, Location, Number, Refusal, Strings};
+
+/// A trace: its block, its strings, its samples.
+///
+/// ```
+/// # use seg2::{Builder, Order};
+/// # let mut shot = Builder::start(Order::Low, 1, b"UNITS\tMETERS\n")?;
+/// # shot.add_integers(b"STACK\t1\n", 1, &[1, -1, 256])?;
+/// # let bytes = shot.finish();
+/// let file = seg2::File::open(&bytes)?;
+/// let trace = file.trace(0)?;
+/// assert_eq!((trace.start(), trace.block_size(), trace.data_size()), (56, 44, 8));
+/// assert_eq!(trace.integers()?, [1, -1, 256]);
+/// # Ok::<(), seg2::Refusal>(())
+/// ```
+#[derive(Clone, Copy, Debug)]
+pub struct Trace<'a> {
+    file: File<'a>,
+    part: Part<'a>,
+    block: raw::Trace,
+}
+
+impl<'a> Trace<'a> {
+    pub(crate) fn of(file: File<'a>, number: i32, block: raw::Trace) -> Trace<'a> {
+        Trace {
+            file,
+            part: file.part(number),
+            block,
+        }
+    }
+
+    /// The file that it belongs to. Free.
+    ///
+    /// ```
+    /// # use seg2::{Builder, Order};
+    /// # let mut shot = Builder::start(Order::Low, 1, b"UNITS\tMETERS\n")?;
+    /// # shot.add_integers(b"", 1, &[7])?;
+    /// # let bytes = shot.finish();
+    /// let file = seg2::File::open(&bytes)?;
+    /// assert_eq!(file.trace(0)?.file().value(b"UNITS"), Some(&b"METERS"[..]));
+    /// # Ok::<(), seg2::Refusal>(())
+    /// ```
+    pub fn file(&self) -> File<'a> {
+        self.file
+    }
+
+    /// Which trace it is, counted from 0. Free.
+    ///
+    /// ```
+    /// # use seg2::{Builder, Order};
+    /// # let mut shot = Builder::start(Order::Low, 1, b"")?;
+    /// # shot.add_integers(b"", 1, &[7])?;
+    /// # let bytes = shot.finish();
+    /// assert_eq!(seg2::File::open(&bytes)?.trace(0)?.index(), 0);
+    /// # Ok::<(), seg2::Refusal>(())
+    /// ```
+    pub fn index(&self) -> usize {
+        self.part.number as usize
+    }
+
+    /// The format code, 1 to 5, as in [`code`]. Free.
+    ///
+    /// ```
+    /// # use seg2::{Builder, Order};
+    /// # let mut shot = Builder::start(Order::Low, 1, b"")?;
+    /// # shot.add_integers(b"", 2, &[7])?;
+    /// # let bytes = shot.finish();
+    /// assert_eq!(seg2::File::open(&bytes)?.trace(0)?.code(), seg2::code::FIXED_32);
+    /// # Ok::<(), seg2::Refusal>(())
+    /// ```
+    pub fn code(&self) -> u32 {
+        self.block.code
+    }
+
+    /// S, the number of samples. Free.
+    ///
+    /// ```
+    /// # use seg2::{Builder, Order};
+    /// # let mut shot = Builder::start(Order::Low, 1, b"")?;
+    /// # shot.add_integers(b"", 1, &[7, 8, 9])?;
+    /// # let bytes = shot.finish();
+    /// assert_eq!(seg2::File::open(&bytes)?.trace(0)?.sample_count(), 3);
+    /// # Ok::<(), seg2::Refusal>(())
+    /// ```
+    pub fn sample_count(&self) -> usize {
+        self.block.count
+    }
+
+    /// Where its block starts in the file. Free.
+    ///
+    /// ```
+    /// # use seg2::{Builder, Order};
+    /// # let mut shot = Builder::start(Order::Low, 1, b"")?;
+    /// # shot.add_integers(b"", 1, &[7])?;
+    /// # let bytes = shot.finish();
+    /// assert_eq!(seg2::File::open(&bytes)?.trace(0)?.start(), 40);
+    /// # Ok::<(), seg2::Refusal>(())
+    /// ```
+    pub fn start(&self) -> usize {
+        self.block.start
+    }
+
+    /// B, the size of its block, strings included. Free.
+    ///
+    /// ```
+    /// # use seg2::{Builder, Order};
+    /// # let mut shot = Builder::start(Order::Low, 1, b"")?;
+    /// # shot.add_integers(b"", 1, &[7])?;
+    /// # let bytes = shot.finish();
+    /// assert_eq!(seg2::File::open(&bytes)?.trace(0)?.block_size(), 36);
+    /// # Ok::<(), seg2::Refusal>(())
+    /// ```
+    pub fn block_size(&self) -> usize {
+        self.block.block
+    }
+
+    /// D, the size of its data. Free.
+    ///
+    /// ```
+    /// # use seg2::{Builder, Order};
+    /// # let mut shot = Builder::start(Order::Low, 1, b"")?;
+    /// # shot.add_integers(b"", 1, &[7])?;
+    /// # let bytes = shot.finish();
+    /// assert_eq!(seg2::File::open(&bytes)?.trace(0)?.data_size(), 4);
+    /// # Ok::<(), seg2::Refusal>(())
+    /// ```
+    pub fn data_size(&self) -> usize {
+        self.block.bytes
+    }
+
+    /// Its data as it stands in the file, D bytes. Free.
+    ///
+    /// ```
+    /// # use seg2::{Builder, Order};
+    /// # let mut shot = Builder::start(Order::Low, 1, b"")?;
+    /// # shot.add_integers(b"", 1, &[7])?;
+    /// # let bytes = shot.finish();
+    /// assert_eq!(seg2::File::open(&bytes)?.trace(0)?.data(), [7, 0, 0, 0]);
+    /// # Ok::<(), seg2::Refusal>(())
+    /// ```
+    pub fn data(&self) -> &'a [u8] {
+        let from = self.block.start + self.block.block;
+        &self.part.buffer[from..from + self.block.bytes]
+    }
+
+    /// How many strings its block has.
+    ///
+    /// ```
+    /// # use seg2::{Builder, Order};
+    /// # let mut shot = Builder::start(Order::Low, 1, b"")?;
+    /// # shot.add_integers(b"STACK\t1\n", 1, &[7])?;
+    /// # let bytes = shot.finish();
+    /// assert_eq!(seg2::File::open(&bytes)?.trace(0)?.string_count(), 1);
+    /// # Ok::<(), seg2::Refusal>(())
+    /// ```
+    pub fn string_count(&self) -> usize {
+        self.part.string_count()
+    }
+
+    /// Keyword and value of the string with this index; none past the last.
+    ///
+    /// ```
+    /// # use seg2::{Builder, Order};
+    /// # let mut shot = Builder::start(Order::Low, 1, b"")?;
+    /// # shot.add_integers(b"STACK\t1\n", 1, &[7])?;
+    /// # let bytes = shot.finish();
+    /// let file = seg2::File::open(&bytes)?;
+    /// assert_eq!(file.trace(0)?.string(0), Some((&b"STACK"[..], &b"1"[..])));
+    /// assert_eq!(file.trace(0)?.string(1), None);
+    /// # Ok::<(), seg2::Refusal>(())
+    /// ```
+    pub fn string(&self, index: usize) -> Option<(&'a [u8], &'a [u8])> {
+        self.part.string(index)
+    }
+
+    /// Keyword and value of each string of its block, in order. One call for each, and
+    /// one more at the end.
+    ///
+    /// ```
+    /// # use seg2::{Builder, Order};
+    /// # let mut shot = Builder::start(Order::Low, 1, b"")?;
+    /// # shot.add_integers(b"DELAY\t0\nSTACK\t1\n", 1, &[7])?;
+    /// # let bytes = shot.finish();
+    /// let file = seg2::File::open(&bytes)?;
+    /// let keywords: Vec<&[u8]> = file.trace(0)?.strings().map(|(keyword, _)| keyword).collect();
+    /// assert_eq!(keywords, [&b"DELAY"[..], b"STACK"]);
+    /// # Ok::<(), seg2::Refusal>(())
+    /// ```
+    pub fn strings(&self) -> Strings<'a> {
+        Strings::of(self.part)
+    }
+
+    /// Whether its block has a keyword.
+    ///
+    /// ```
+    /// # use seg2::{Builder, Order};
+    /// # let mut shot = Builder::start(Order::Low, 1, b"")?;
+    /// # shot.add_integers(b"STACK\t1\n", 1, &[7])?;
+    /// # let bytes = shot.finish();
+    /// assert!(seg2::File::open(&bytes)?.trace(0)?.has(b"STACK"));
+    /// # Ok::<(), seg2::Refusal>(())
+    /// ```
+    pub fn has(&self, keyword: &[u8]) -> bool {
+        self.part.has(keyword)
+    }
+
+    /// The value of a keyword as the buffer's own bytes; none where the keyword is
+    /// missing.
+    ///
+    /// ```
+    /// # use seg2::{Builder, Order};
+    /// # let mut shot = Builder::start(Order::Low, 1, b"")?;
+    /// # shot.add_integers(b"STACK\t1\n", 1, &[7])?;
+    /// # let bytes = shot.finish();
+    /// let file = seg2::File::open(&bytes)?;
+    /// assert_eq!(file.trace(0)?.value(b"STACK"), Some(&b"1"[..]));
+    /// assert_eq!(file.trace(0)?.value(b"DELAY"), None);
+    /// # Ok::<(), seg2::Refusal>(())
+    /// ```
+    pub fn value(&self, keyword: &[u8]) -> Option<&'a [u8]> {
+        self.part.value(keyword)
+    }
+
+    /// The value of a keyword as a number; refusals as [`File::number`].
+    ///
+    /// ```
+    /// # use seg2::{Builder, Order};
+    /// # let mut shot = Builder::start(Order::Low, 1, b"")?;
+    /// # shot.add_integers(b"STACK\t12\n", 1, &[7])?;
+    /// # let bytes = shot.finish();
+    /// assert_eq!(seg2::File::open(&bytes)?.trace(0)?.number(b"STACK")?.coefficient, 12);
+    /// # Ok::<(), seg2::Refusal>(())
+    /// ```
+    pub fn number(&self, keyword: &[u8]) -> Result<Number, Refusal> {
+        self.part.number(keyword)
+    }
+
+    /// The value of a keyword as a double; refusals as [`File::double`].
+    ///
+    /// ```
+    /// # use seg2::{Builder, Order};
+    /// # let mut shot = Builder::start(Order::Low, 1, b"")?;
+    /// # shot.add_integers(b"SAMPLE_INTERVAL\t0.00025\n", 1, &[7])?;
+    /// # let bytes = shot.finish();
+    /// assert_eq!(seg2::File::open(&bytes)?.trace(0)?.double(b"SAMPLE_INTERVAL")?, 0.00025);
+    /// # Ok::<(), seg2::Refusal>(())
+    /// ```
+    pub fn double(&self, keyword: &[u8]) -> Result<f64, Refusal> {
+        self.part.double(keyword)
+    }
+
+    /// The value of a keyword as a location; refusals as [`File::location`].
+    ///
+    /// ```
+    /// # use seg2::{Builder, Order};
+    /// # let mut shot = Builder::start(Order::Low, 1, b"")?;
+    /// # shot.add_integers(b"RECEIVER_LOCATION\t4.5\n", 1, &[7])?;
+    /// # let bytes = shot.finish();
+    /// let location = seg2::File::open(&bytes)?.trace(0)?.location(b"RECEIVER_LOCATION")?;
+    /// assert_eq!((location.count, location.x), (1, 4.5));
+    /// # Ok::<(), seg2::Refusal>(())
+    /// ```
+    pub fn location(&self, keyword: &[u8]) -> Result<Location, Refusal> {
+        self.part.location(keyword)
+    }
+
+    /// The lines of its NOTE; none at all where it has none.
+    ///
+    /// ```
+    /// # use seg2::{Builder, Order};
+    /// # let mut shot = Builder::start(Order::Low, 1, b"")?;
+    /// # shot.add_integers(b"NOTE\tNEAR THE ROAD\nNOTE\tWIND\n", 1, &[7])?;
+    /// # let bytes = shot.finish();
+    /// let file = seg2::File::open(&bytes)?;
+    /// assert_eq!(file.trace(0)?.note().collect::<Vec<_>>(), [&b"NEAR THE ROAD"[..], b"WIND"]);
+    /// # Ok::<(), seg2::Refusal>(())
+    /// ```
+    pub fn note(&self) -> Lines<'a> {
+        self.file.note_of(self.part)
+    }
+
+    /// Whether its samples are whole numbers (codes 1 to 3) and not bit patterns. Free.
+    ///
+    /// ```
+    /// # use seg2::{Builder, Order};
+    /// # let mut shot = Builder::start(Order::Low, 1, b"")?;
+    /// # shot.add_integers(b"", 1, &[7])?;
+    /// # let bytes = shot.finish();
+    /// assert!(seg2::File::open(&bytes)?.trace(0)?.is_integers());
+    /// # Ok::<(), seg2::Refusal>(())
+    /// ```
+    pub fn is_integers(&self) -> bool {
+        code::is_integers(self.block.code)
+    }
+
+    /// The samples of codes 1 to 3; 33 for the others.
+    ///
+    /// ```
+    /// # use seg2::{Builder, Order};
+    /// # let mut shot = Builder::start(Order::Low, 1, b"")?;
+    /// # shot.add_integers(b"", 3, &[1, -2, 20, 100_000])?;
+    /// # let bytes = shot.finish();
+    /// assert_eq!(seg2::File::open(&bytes)?.trace(0)?.integers()?, [1, -2, 20, 100_000]);
+    /// # Ok::<(), seg2::Refusal>(())
+    /// ```
+    pub fn integers(&self) -> Result<Vec<i32>, Refusal> {
+        let mut row = vec![0; self.block.count];
+        self.integers_into(&mut row)?;
+        Ok(row)
+    }
+
+    /// The samples of codes 1 to 3 into a row of exactly S elements: 33 for another code,
+    /// 32 for another length. A refusal leaves the row as it was.
+    ///
+    /// ```
+    /// # use seg2::{Builder, Order};
+    /// # let mut shot = Builder::start(Order::Low, 1, b"")?;
+    /// # shot.add_integers(b"", 1, &[7, 8])?;
+    /// # let bytes = shot.finish();
+    /// let file = seg2::File::open(&bytes)?;
+    /// let mut row = [0; 3];
+    /// assert_eq!(file.trace(0)?.integers_into(&mut row).unwrap_err().number, 32);
+    /// assert!(file.trace(0)?.integers_into(&mut row[..2]).is_ok());
+    /// assert_eq!(row, [7, 8, 0]);
+    /// # Ok::<(), seg2::Refusal>(())
+    /// ```
+    pub fn integers_into(&self, row: &mut [i32]) -> Result<(), Refusal> {
+        let part = self.part;
+        calls::integers(part.buffer, part.length, part.number, row).told()?;
+        Ok(())
+    }
+
+    /// The bit patterns of codes 4 and 5 with their classes; 33 for the others.
+    ///
+    /// ```
+    /// # use seg2::{Builder, Order};
+    /// # let mut shot = Builder::start(Order::Low, 1, b"")?;
+    /// # shot.add_bits(b"", 4, &[0x3F80_0000, 0x7F80_0000])?;
+    /// # let bytes = shot.finish();
+    /// let bits = seg2::File::open(&bytes)?.trace(0)?.bits()?;
+    /// assert_eq!(bits.patterns, [0x3F80_0000, 0x7F80_0000]);
+    /// assert_eq!(bits.classes, [2, 3]);
+    /// # Ok::<(), seg2::Refusal>(())
+    /// ```
+    pub fn bits(&self) -> Result<Bits, Refusal> {
+        let mut bits = Bits {
+            patterns: vec![0; self.block.count],
+            classes: vec![0; self.block.count],
+        };
+        self.bits_into(&mut bits.patterns, &mut bits.classes)?;
+        Ok(bits)
+    }
+
+    /// The bit patterns of codes 4 and 5 and their classes into two rows of exactly S
+    /// elements: 33 for another code, 32 for another length of either. A refusal leaves
+    /// both rows as they were.
+    ///
+    /// ```
+    /// # use seg2::{Builder, Order};
+    /// # let mut shot = Builder::start(Order::Low, 1, b"")?;
+    /// # shot.add_bits(b"", 5, &[0x8000_0000_0000_0000])?;
+    /// # let bytes = shot.finish();
+    /// let (mut row, mut classes) = ([7], [7]);
+    /// seg2::File::open(&bytes)?.trace(0)?.bits_into(&mut row, &mut classes)?;
+    /// assert_eq!((row, classes), ([0x8000_0000_0000_0000], [0]));
+    /// # Ok::<(), seg2::Refusal>(())
+    /// ```
+    pub fn bits_into(&self, row: &mut [u64], classes: &mut [u8]) -> Result<(), Refusal> {
+        let part = self.part;
+        calls::bits(part.buffer, part.length, part.number, row, classes).told()?;
+        Ok(())
+    }
+
+    /// The samples of any code as doubles, for a plot. Exact but for one thing: a "not a
+    /// number" of code 4 keeps no more than that it is none.
+    ///
+    /// ```
+    /// # use seg2::{Builder, Order};
+    /// # let mut shot = Builder::start(Order::Low, 2, b"")?;
+    /// # shot.add_integers(b"", 1, &[-7])?;
+    /// # shot.add_bits(b"", 4, &[u64::from(0.5_f32.to_bits())])?;
+    /// # let bytes = shot.finish();
+    /// let file = seg2::File::open(&bytes)?;
+    /// assert_eq!(file.trace(0)?.doubles()?, [-7.0]);
+    /// assert_eq!(file.trace(1)?.doubles()?, [0.5]);
+    /// # Ok::<(), seg2::Refusal>(())
+    /// ```
+    pub fn doubles(&self) -> Result<Vec<f64>, Refusal> {
+        if self.is_integers() {
+            return Ok(self.integers()?.into_iter().map(f64::from).collect());
+        }
+        let patterns = self.bits()?.patterns.into_iter();
+        Ok(match self.block.code {
+            // a pattern of code 4 has 32 bits
+            code::FLOAT_32 => patterns.map(|p| f32::from_bits(p as u32).into()).collect(),
+            _ => patterns.map(f64::from_bits).collect(),
+        })
+    }
+}
+
+/// Samples of codes 4 and 5: [`Trace::bits`].
+///
+/// ```
+/// # use seg2::{Builder, Order};
+/// # let mut shot = Builder::start(Order::Low, 1, b"")?;
+/// # shot.add_bits(b"", 5, &[1.5_f64.to_bits()])?;
+/// # let bytes = shot.finish();
+/// let bits = seg2::File::open(&bytes)?.trace(0)?.bits()?;
+/// assert_eq!(f64::from_bits(bits.patterns[0]), 1.5);
+/// # Ok::<(), seg2::Refusal>(())
+/// ```
+#[derive(Clone, Debug, PartialEq, Eq)]
+pub struct Bits {
+    /// The bit patterns; those of code 4 fill the low 32 bits.
+    pub patterns: Vec<u64>,
+    /// The class of each, 0 to 4: [`Class`].
+    pub classes: Vec<u8>,
+}
+
+/// The class of a bit pattern.
+///
+/// ```
+/// assert_eq!(seg2::Class::of(4), Some(seg2::Class::NotANumber));
+/// ```
+#[derive(Clone, Copy, Debug, PartialEq, Eq)]
+pub enum Class {
+    /// Exponent and fraction bits 0; the sign may be either.
+    Zero,
+    /// Exponent bits 0, fraction not 0.
+    Underflow,
+    /// An ordinary number.
+    Number,
+    /// Infinity of either sign.
+    Infinity,
+    /// Not a number.
+    NotANumber,
+}
+
+impl Class {
+    /// The class with this number; none over 4.
+    ///
+    /// ```
+    /// use seg2::Class;
+    /// assert_eq!((Class::of(0), Class::of(5)), (Some(Class::Zero), None));
+    /// ```
+    pub fn of(number: u8) -> Option<Class> {
+        [
+            Class::Zero,
+            Class::Underflow,
+            Class::Number,
+            Class::Infinity,
+            Class::NotANumber,
+        ]
+        .get(usize::from(number))
+        .copied()
+    }
+}

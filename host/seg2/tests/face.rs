@@ -1,0 +1,246 @@
+//! The three places that name the face agree: `crates/seg2/src/lib.rt`,
+//! `include/seg2.h` and `src/raw.rs` have the same functions and lay their structs out
+//! in the same way.
+
+mod c;
+
+use c::{compiled, here, printed, root, Kept};
+use std::collections::BTreeMap;
+use std::mem::{offset_of, size_of};
+
+fn read(path: std::path::PathBuf) -> String {
+    std::fs::read_to_string(&path).unwrap_or_else(|e| panic!("{}: {e}", path.display()))
+}
+
+fn face() -> String {
+    read(root().join("crates/seg2/src/lib.rt"))
+}
+
+fn header() -> String {
+    let text = read(root().join("include/seg2.h"));
+    without_comments(&text)
+}
+
+fn without_comments(text: &str) -> String {
+    let mut rest = text;
+    let mut out = String::new();
+    while let Some((before, comment)) = rest.split_once("/*") {
+        out += before;
+        rest = comment.split_once("*/").expect("a comment's end").1;
+    }
+    out + rest
+}
+
+/// The word before the first bracket of what follows `mark` on a line.
+fn name_after(line: &str, mark: &str) -> Option<String> {
+    let (_, rest) = line.split_once(mark)?;
+    let (name, _) = rest.split_once('(')?;
+    Some(name.trim().to_string())
+}
+
+fn sorted(mut names: Vec<String>) -> Vec<String> {
+    names.sort();
+    names
+}
+
+fn functions_of_the_face() -> Vec<String> {
+    let text = face();
+    sorted(
+        text.lines()
+            .filter_map(|l| name_after(l, "extern \"C\" fn "))
+            .collect(),
+    )
+}
+
+#[test]
+fn the_same_functions_are_declared_everywhere() {
+    let exported = functions_of_the_face();
+    assert!(exported.len() >= 15, "{exported:?}");
+    let raw = read(here().join("src/raw.rs"));
+    let in_rust = raw.lines().filter_map(|l| name_after(l, "pub fn seg2_"));
+    let in_rust = sorted(in_rust.map(|name| format!("seg2_{name}")).collect());
+    assert_eq!(in_rust, exported, "src/raw.rs");
+    // a declaration starts at the line's start and is not static
+    let text = header();
+    let in_c = text
+        .lines()
+        .filter(|l| !l.starts_with([' ', '#']) && !l.starts_with("static "))
+        .filter_map(|l| name_after(l, " "))
+        .collect();
+    assert_eq!(sorted(in_c), exported, "include/seg2.h");
+}
+
+#[test]
+fn the_c_test_calls_every_function() {
+    let program = read(here().join("tests/header.c"));
+    for name in functions_of_the_face() {
+        let direct = program.contains(&format!("{name}("));
+        assert!(direct, "tests/header.c does not call {name}");
+    }
+}
+
+/// A struct: its size, and offset and size of each field in order.
+type Layout = (usize, Vec<(usize, usize)>);
+
+/// C's layout of fields of these types.
+fn laid_out(kinds: &[&str]) -> Layout {
+    let mut end: usize = 0;
+    let mut fields = Vec::new();
+    let mut widest = 1;
+    for kind in kinds {
+        let size = match *kind {
+            "u8" => 1,
+            "u32" | "i32" => 4,
+            "u64" | "i64" | "usize" | "f64" => 8,
+            other => panic!("a field of type {other}"),
+        };
+        let at = end.next_multiple_of(size);
+        fields.push((at, size));
+        end = at + size;
+        widest = widest.max(size);
+    }
+    (end.next_multiple_of(widest), fields)
+}
+
+/// The structs that cross to another language, by C's name.
+fn structs_of_the_face() -> BTreeMap<String, Layout> {
+    let text = face();
+    let mut structs = BTreeMap::new();
+    for piece in text.split("pub struct Seg2").skip(1) {
+        let (name, rest) = piece.split_once('{').expect("a struct's fields");
+        let (body, _) = rest.split_once('}').expect("a struct's end");
+        let fields = body.split(',').filter_map(|f| f.split_once(':'));
+        let kinds: Vec<&str> = fields.map(|(_, kind)| kind.trim()).collect();
+        let name = format!("seg2_{}", name.trim().to_lowercase());
+        structs.insert(name, laid_out(&kinds));
+    }
+    structs
+}
+
+/// The structs of the header with their fields.
+fn structs_of_the_header() -> BTreeMap<String, Vec<String>> {
+    let text = header();
+    let mut structs = BTreeMap::new();
+    for piece in text.split("struct seg2_").skip(1) {
+        let Some((name, rest)) = piece.split_once(" {\n") else {
+            continue;
+        };
+        if name.contains(['(', ';', ' ', '\n']) {
+            continue; // a function that returns one
+        }
+        let (body, _) = rest.split_once('}').expect("a struct's end");
+        let fields = body.split(';').filter_map(|f| f.split_whitespace().nth(1));
+        structs.insert(format!("seg2_{name}"), fields.map(String::from).collect());
+    }
+    structs
+}
+
+#[test]
+fn the_header_lays_structs_out_as_the_library_does() {
+    let library = structs_of_the_face();
+    let declared = structs_of_the_header();
+    let names: Vec<&String> = library.keys().collect();
+    assert_eq!(declared.keys().collect::<Vec<_>>(), names);
+    assert_eq!(names.len(), 11);
+    // a program that prints what the compiler makes of the header
+    let mut program = String::from("#include \"seg2.h\"\n#include <stdio.h>\nint main(void) {\n");
+    for (name, fields) in &declared {
+        program += &format!("    printf(\"{name} %zu\", sizeof(struct {name}));\n");
+        for field in fields {
+            let of = format!("struct {name}");
+            program += &format!(
+                "    printf(\" %zu %zu\", offsetof({of}, {field}), sizeof((({of} *)0)->{field}));\n"
+            );
+        }
+        program += "    printf(\"\\n\");\n";
+    }
+    program += "    return 0;\n}\n";
+    let source = Kept::new("layout.c");
+    std::fs::write(source.path(), program).expect("a source for the test");
+    let program = compiled("cc", &["-std=c99"], source.path(), "layout").expect("a C compiler");
+    let mut seen = 0;
+    for line in printed(&program).lines() {
+        let (name, numbers) = line.split_once(' ').expect("numbers");
+        let numbers: Vec<usize> = numbers
+            .split(' ')
+            .map(|n| n.parse().expect("a number"))
+            .collect();
+        let fields = numbers[1..].chunks(2).map(|f| (f[0], f[1])).collect();
+        assert_eq!((numbers[0], fields), library[name], "{name}");
+        seen += 1;
+    }
+    assert_eq!(seen, library.len());
+}
+
+/// Offset and size of each field of a raw struct, and the fields' names.
+macro_rules! raw_layout {
+    ($kind:ident: $($field:ident),*) => {{
+        fn size<T>(_: impl Fn(&seg2::raw::$kind) -> &T) -> usize {
+            size_of::<T>()
+        }
+        let fields = vec![$((
+            offset_of!(seg2::raw::$kind, $field),
+            size(|answer| &answer.$field),
+        )),*];
+        (stringify!($kind), vec![$(stringify!($field)),*], (size_of::<seg2::raw::$kind>(), fields))
+    }};
+}
+
+#[test]
+fn raw_lays_structs_out_as_the_library_does() {
+    let table = [
+        ("seg2_verdict", raw_layout!(Verdict: number, part, place)),
+        (
+            "seg2_file",
+            raw_layout!(File: number, part, place, order, room, count, strings, lines),
+        ),
+        (
+            "seg2_trace",
+            raw_layout!(Trace: number, part, place, start, block, bytes, count, code),
+        ),
+        ("seg2_count", raw_layout!(Count: number, part, place, count)),
+        (
+            "seg2_string",
+            raw_layout!(Text: number, part, place, found, key, letters, value, size),
+        ),
+        (
+            "seg2_keyword",
+            raw_layout!(Keyword: number, part, place, found),
+        ),
+        (
+            "seg2_value",
+            raw_layout!(Value: number, part, place, start, size),
+        ),
+        (
+            "seg2_number",
+            raw_layout!(Number: number, part, place, minus, power, coefficient),
+        ),
+        (
+            "seg2_double",
+            raw_layout!(Double: number, part, place, value),
+        ),
+        (
+            "seg2_location",
+            raw_layout!(Location: number, part, place, count, x, y, z),
+        ),
+        (
+            "seg2_length",
+            raw_layout!(Length: number, part, place, length),
+        ),
+    ];
+    let library = structs_of_the_face();
+    assert_eq!(table.len(), library.len());
+    let source = read(here().join("src/raw.rs"));
+    for (name, (kind, fields, layout)) in table {
+        assert_eq!(layout, library[name], "{name}");
+        // the table above has all fields of the source, in its order
+        let (_, body) = source
+            .split_once(&format!("    {kind} {{"))
+            .expect("the struct");
+        let (body, _) = body.split_once('}').expect("its end");
+        let own = body.split(',').filter_map(|f| f.split_once(':'));
+        let own = own.map(|(field, _)| field.trim());
+        let all: Vec<&str> = ["number", "part", "place"].into_iter().chain(own).collect();
+        assert_eq!(fields, all, "{name}");
+    }
+}

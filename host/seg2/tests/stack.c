@@ -1,0 +1,204 @@
+/* Every exported function on a stack of 32 KiB with a guard page under it. A thread of its own would have more: the smallest that pthreads gives is
+ * 128 KiB on some machines. So the stack is a mapped region that a context switches to, painted before each call; what is no longer painted was used.
+ *
+ *   stack            prints each function and the most bytes that it used, on a small file and on a large one
+ *   stack measured   a function that uses 16 KiB, to see that the paint measures
+ *   stack deep       a function that uses more than there is, which has to end the program by a signal */
+#define _GNU_SOURCE
+#include "seg2.h"
+
+#include <stdio.h>
+#include <stdlib.h>
+#include <string.h>
+#include <sys/mman.h>
+#include <sys/resource.h>
+#include <ucontext.h>
+#include <unistd.h>
+
+enum { STACK = 32 * 1024, PAINT = 0xA5, TRACES = 1500, SAMPLES = 4000, LARGE = 16 * 1024 * 1024 };
+
+static uint8_t *region; /* the lowest byte of the stack */
+static ucontext_t caller, callee;
+static void (*asked)(void);
+
+static void entry(void) {
+    asked();
+}
+
+/* Runs a call on the small stack and answers how many of its bytes were used. */
+static size_t used_by(void (*call)(void)) {
+    size_t clean = 0;
+    memset(region, PAINT, STACK);
+    asked = call;
+    if (getcontext(&callee) != 0) {
+        exit(3);
+    }
+    callee.uc_stack.ss_sp = region;
+    callee.uc_stack.ss_size = STACK;
+    callee.uc_link = &caller;
+    makecontext(&callee, entry, 0);
+    if (swapcontext(&caller, &callee) != 0) {
+        exit(3);
+    }
+    while (clean < STACK && region[clean] == PAINT) {
+        clean++;
+    }
+    return STACK - clean;
+}
+
+/* The lent memory is not on the small stack. */
+static uint8_t *buffer;
+static size_t size, length, sheet_size;
+static uint8_t sheet[70000];
+static int32_t integers[SAMPLES];
+static uint64_t patterns[SAMPLES];
+static uint8_t classes[SAMPLES];
+static size_t samples;
+static uint32_t code_of_integers, code_of_bits;
+static int32_t part;
+static const uint8_t key[] = "NOTE";
+static seg2_verdict verdict;
+static seg2_file file;
+static seg2_trace trace;
+static seg2_count count;
+static struct seg2_string string;
+static struct seg2_keyword keyword;
+static struct seg2_value value;
+static struct seg2_number number;
+static struct seg2_double twice;
+static struct seg2_location location;
+static seg2_length written;
+
+static void call_check(void) { verdict = seg2_check(buffer, size, length); }
+static void call_file_block(void) { seg2_file_block(&file, buffer, size, length); }
+static void call_trace_block(void) { seg2_trace_block(&trace, buffer, size, length, 0); }
+static void call_string_count(void) { seg2_string_count(&count, buffer, size, length, part); }
+static void call_string(void) { seg2_string(&string, buffer, size, length, part, count.count - 1); }
+static void call_keyword(void) { seg2_keyword(&keyword, buffer, size, length, part, key, 4); }
+static void call_value(void) { seg2_value(&value, buffer, size, length, part, key, 4); }
+static void call_number(void) { seg2_number(&number, buffer, size, length, part, key, 4); }
+static void call_double(void) { seg2_double(&twice, buffer, size, length, part, key, 4); }
+static void call_location(void) { seg2_location(&location, buffer, size, length, part, key, 4); }
+static void call_integers(void) { verdict = seg2_integers(buffer, size, length, 0, integers, samples); }
+static void call_bits(void) { verdict = seg2_bits(buffer, size, length, 1, patterns, samples, classes, samples); }
+static void call_start(void) { seg2_start(&written, buffer, size, SEG2_HIGH_FIRST, TRACES, sheet, sheet_size); }
+static void call_add_integers(void) { seg2_add_integers(&written, buffer, size, length, sheet, sheet_size, code_of_integers, integers, samples); }
+static void call_add_bits(void) { seg2_add_bits(&written, buffer, size, length, sheet, sheet_size, code_of_bits, patterns, samples); }
+
+static struct {
+    const char *name;
+    void (*call)(void);
+    size_t most;
+} all[] = {
+    {"seg2_start", call_start, 0},
+    {"seg2_add_integers", call_add_integers, 0},
+    {"seg2_add_bits", call_add_bits, 0},
+    {"seg2_check", call_check, 0},
+    {"seg2_file_block", call_file_block, 0},
+    {"seg2_trace_block", call_trace_block, 0},
+    {"seg2_string_count", call_string_count, 0},
+    {"seg2_string", call_string, 0},
+    {"seg2_keyword", call_keyword, 0},
+    {"seg2_value", call_value, 0},
+    {"seg2_number", call_number, 0},
+    {"seg2_double", call_double, 0},
+    {"seg2_location", call_location, 0},
+    {"seg2_integers", call_integers, 0},
+    {"seg2_bits", call_bits, 0},
+};
+
+static void must(int holds, const char *what) {
+    if (!holds) {
+        fprintf(stderr, "%s\n", what);
+        exit(4);
+    }
+}
+
+static void run(size_t i) {
+    size_t used = used_by(all[i].call);
+    if (used > all[i].most) {
+        all[i].most = used;
+    }
+}
+
+/* A file with so many traces and samples, sheets of so many strings: written, then asked everything. */
+static void whole(uint32_t of_integers, uint32_t of_bits, size_t traces, size_t samples_each, size_t strings) {
+    size_t i;
+    samples = samples_each;
+    code_of_integers = of_integers;
+    code_of_bits = of_bits;
+    sheet_size = 0;
+    for (i = 0; i < strings; i++) {
+        sheet_size += (size_t)sprintf((char *)sheet + sheet_size, "K%05u\t%u\n", (unsigned)i, (unsigned)i);
+    }
+    sheet_size += (size_t)sprintf((char *)sheet + sheet_size, "NOTE\t1.5\n");
+    for (i = 0; i < samples; i++) {
+        /* what every code of the entry can hold */
+        integers[i] = (int32_t)(i * 7919 % 65536) - 32768;
+        patterns[i] = i * 0x01234567u % 0x100000000u;
+    }
+    run(0);
+    must(written.number == 0, "the start is refused");
+    length = written.length;
+    for (i = 0; i < traces; i++) {
+        /* the first trace has the whole sheet, the others one string */
+        if (i == 1) {
+            memcpy(sheet, "NOTE\t1.5\n", 9);
+            sheet_size = 9;
+        }
+        run(i % 2 == 0 ? 1 : 2);
+        must(written.number == 0, "an addition is refused");
+        length = written.length;
+    }
+    for (part = -1; part <= 0; part++) {
+        for (i = 3; i < sizeof all / sizeof all[0]; i++) {
+            run(i);
+        }
+        must(count.count == strings + 1 && string.found == 1, "another number of strings");
+        must(keyword.found == 1 && value.value_length == 3, "no NOTE");
+        must(number.coefficient == 15 && twice.value == 1.5 && location.x == 1.5, "another number");
+        must(verdict.number == 0 && trace.sample_count == samples && file.trace_count == traces, "refused");
+    }
+}
+
+/* Uses at least so many KiB. */
+static unsigned deep(unsigned kib) {
+    volatile uint8_t room[1024];
+    room[0] = (uint8_t)kib;
+    room[1023] = (uint8_t)(kib >> 1);
+    return kib == 1 ? room[0] : deep(kib - 1) + room[0] + room[1023];
+}
+
+static volatile unsigned sum;
+static void use_16_kib(void) { sum = deep(16); }
+static void use_too_much(void) { sum = deep(64); }
+
+int main(int words, char **word) {
+    size_t page = (size_t)sysconf(_SC_PAGESIZE);
+    uint8_t *mapped = (uint8_t *)mmap(NULL, page + STACK, PROT_READ | PROT_WRITE, MAP_PRIVATE | MAP_ANONYMOUS, -1, 0);
+    size_t i;
+    must(mapped != (uint8_t *)MAP_FAILED && mprotect(mapped, page, PROT_NONE) == 0, "no stack");
+    region = mapped + page;
+    if (words == 2 && strcmp(word[1], "measured") == 0) {
+        printf("%lu\n", (unsigned long)used_by(use_16_kib));
+        return 0;
+    }
+    if (words == 2 && strcmp(word[1], "deep") == 0) {
+        struct rlimit none = {0, 0};
+        must(setrlimit(RLIMIT_CORE, &none) == 0, "no limit"); /* its end is wanted, its remains are not */
+        printf("%lu\n", (unsigned long)used_by(use_too_much));
+        return 0;
+    }
+    size = LARGE;
+    buffer = (uint8_t *)malloc(size);
+    must(buffer != NULL, "no memory");
+    whole(SEG2_FIXED_16, SEG2_FLOAT_32, 2, 4, 1);
+    whole(SEG2_FIXED_32, SEG2_FLOAT_64, 40, SAMPLES, 3500);
+    whole(SEG2_FLOAT_20, SEG2_FLOAT_32, 40, SAMPLES, 3500);
+    whole(SEG2_FLOAT_20, SEG2_FLOAT_64, TRACES, 8, 3);
+    for (i = 0; i < sizeof all / sizeof all[0]; i++) {
+        printf("%s %lu\n", all[i].name, (unsigned long)all[i].most);
+    }
+    free(buffer);
+    return 0;
+}

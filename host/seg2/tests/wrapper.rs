@@ -1,0 +1,409 @@
+//! The safe wrapper beside the independent reader, on files of every kind that document
+//! 01 allows, and its own parts: lines, iterators, the builder, the words.
+
+use seg2::{Builder, File, Location, Number, Order, Refusal, Step};
+use seg2_reference as reference;
+use seg2_reference::generate::{
+    addition_case, good_sheet, sample_case, Model, Rng, SampleQuestion,
+};
+
+fn told(refusal: reference::Refusal) -> Refusal {
+    Refusal {
+        number: refusal.number.into(),
+        part: refusal.part.try_into().expect("a part of 32 bits"),
+        place: refusal.place.try_into().expect("a place in a buffer"),
+    }
+}
+
+type Pairs<'a> = Vec<(&'a [u8], &'a [u8])>;
+
+/// The strings of a part by the independent reader.
+fn pairs<'a>(buffer: &'a [u8], strings: &[reference::StringPlace]) -> Pairs<'a> {
+    let pair = |s: &reference::StringPlace| (&buffer[s.keyword.clone()], &buffer[s.value.clone()]);
+    strings.iter().map(pair).collect()
+}
+
+#[test]
+fn a_file_is_read_as_the_reference_reads_it() {
+    let mut rng = Rng::new(201);
+    for _ in 0..1500 {
+        let laid = Model::random(&mut rng).lay();
+        let expected = reference::check(&laid.buffer, laid.length).expect("a valid file");
+        let file = File::open_prefix(&laid.buffer, laid.length).expect("a valid file");
+        assert_eq!(file.bytes(), &laid.buffer[..laid.length]);
+        assert_eq!(file.high_first(), expected.order == reference::Order::High);
+        assert_eq!(file.order() == Order::High, file.high_first());
+        assert_eq!(file.pointer_room(), usize::from(expected.m));
+        assert_eq!(file.trace_count(), usize::from(expected.n));
+        assert_eq!(file.string_terminator(), expected.string_terminator);
+        assert_eq!(file.line_terminator(), expected.line_terminator);
+        let strings = pairs(&laid.buffer, &expected.strings);
+        assert_eq!(file.strings().collect::<Pairs>(), strings);
+        assert_eq!(file.string_count(), strings.len());
+        assert_eq!(file.traces().len(), expected.traces.len());
+        assert_eq!(file.traces().count(), expected.traces.len());
+        for (trace, block) in file.traces().zip(&expected.traces) {
+            assert_eq!(trace.start(), block.p as usize);
+            assert_eq!(trace.block_size(), usize::from(block.b));
+            assert_eq!(trace.data_size(), block.d as usize);
+            assert_eq!(trace.data().len(), trace.data_size());
+            assert_eq!(trace.sample_count(), block.s as usize);
+            assert_eq!(trace.code(), u32::from(block.code));
+            let strings = pairs(&laid.buffer, &block.strings);
+            assert_eq!(trace.strings().collect::<Pairs>(), strings);
+            assert_eq!(trace.string_count(), strings.len());
+            assert_eq!(trace.string(strings.len()), None);
+        }
+    }
+}
+
+#[test]
+fn values_are_the_buffers_own_bytes() {
+    let mut rng = Rng::new(202);
+    for _ in 0..1500 {
+        let laid = Model::random(&mut rng).lay();
+        let file = File::open_prefix(&laid.buffer, laid.length).expect("a valid file");
+        let expected = reference::check(&laid.buffer, laid.length).expect("a valid file");
+        for string in &expected.strings {
+            let keyword = &laid.buffer[string.keyword.clone()];
+            let value = file.value(keyword).expect("a value");
+            assert!(file.has(keyword));
+            assert_eq!(value.as_ptr(), laid.buffer[string.value.clone()].as_ptr());
+            assert_eq!(value, &laid.buffer[string.value.clone()]);
+        }
+        for (trace, block) in file.traces().zip(&expected.traces) {
+            for string in &block.strings {
+                let keyword = &laid.buffer[string.keyword.clone()];
+                assert_eq!(
+                    trace.value(keyword),
+                    Some(&laid.buffer[string.value.clone()])
+                );
+                assert!(trace.has(keyword));
+            }
+            assert_eq!(trace.value(b"no such keyword"), None);
+            assert_eq!(trace.value(b""), None);
+        }
+        assert_eq!(file.value(b"no such keyword"), None);
+    }
+}
+
+#[test]
+fn numbers_in_values_are_answered_as_the_reference_answers_them() {
+    let mut rng = Rng::new(203);
+    for _ in 0..1500 {
+        let laid = Model::random(&mut rng).lay();
+        let file = File::open_prefix(&laid.buffer, laid.length).expect("a valid file");
+        for trace in file.traces() {
+            for (keyword, value) in trace.strings() {
+                let number = reference::number(value).map_err(told);
+                let number = number.map(|n| Number {
+                    minus: n.minus,
+                    coefficient: n.coefficient,
+                    power: n.power,
+                });
+                assert_eq!(trace.number(keyword), number);
+                assert_eq!(
+                    trace.double(keyword),
+                    reference::double(value).map_err(told)
+                );
+                let location = reference::location(value).map_err(told);
+                let location = location.map(|l| Location {
+                    count: l.count.into(),
+                    x: l.x,
+                    y: l.y,
+                    z: l.z,
+                });
+                assert_eq!(trace.location(keyword), location);
+            }
+            assert_eq!(
+                trace.number(b"missing").map_err(|r| (r.number, r.place)),
+                Err((20, 0))
+            );
+            assert_eq!(
+                trace.double(b"missing").map_err(|r| (r.number, r.place)),
+                Err((20, 0))
+            );
+            assert_eq!(
+                trace.location(b"missing").map_err(|r| (r.number, r.place)),
+                Err((23, 0))
+            );
+        }
+    }
+}
+
+#[test]
+fn lines_are_parted_as_the_reference_parts_them() {
+    let mut rng = Rng::new(204);
+    let mut notes = 0;
+    for _ in 0..3000 {
+        let laid = Model::random(&mut rng).lay();
+        let expected = reference::check(&laid.buffer, laid.length).expect("a valid file");
+        let file = File::open_prefix(&laid.buffer, laid.length).expect("a valid file");
+        for trace in file.traces() {
+            let Some(value) = trace.value(b"NOTE") else {
+                assert_eq!(trace.note().count(), 0);
+                continue;
+            };
+            notes += 1;
+            let lines = reference::note_lines(&expected, value);
+            assert_eq!(trace.note().collect::<Vec<_>>(), lines);
+            assert_eq!(file.lines(value).collect::<Vec<_>>(), lines);
+        }
+        assert_eq!(file.note().count() > 0, file.has(b"NOTE"));
+    }
+    assert!(notes > 100, "{notes}");
+}
+
+#[test]
+fn the_walk_meets_what_the_questions_answer() {
+    let mut rng = Rng::new(205);
+    for _ in 0..3000 {
+        let laid = Model::random(&mut rng).lay();
+        let file = File::open_prefix(&laid.buffer, laid.length).expect("a valid file");
+        let step = |(keyword, value)| Step::String { keyword, value };
+        let mut expected: Vec<Step> = file.strings().map(step).collect();
+        for trace in file.traces() {
+            expected.push(Step::Trace {
+                index: trace.index(),
+                code: trace.code(),
+                sample_count: trace.sample_count(),
+            });
+            expected.extend(trace.strings().map(step));
+        }
+        assert_eq!(file.walk().collect::<Vec<_>>(), expected);
+    }
+}
+
+#[test]
+fn samples_are_answered_as_the_generator_expects() {
+    let mut rng = Rng::new(206);
+    for _ in 0..6000 {
+        let case = sample_case(&mut rng);
+        let file = File::open_prefix(&case.buffer, case.length).expect("a valid file");
+        let Ok(trace) = file.trace(usize::try_from(case.trace).unwrap_or(usize::MAX)) else {
+            assert!(case.trace < 0 || case.trace >= file.trace_count() as i64);
+            continue;
+        };
+        match case.question {
+            SampleQuestion::Integers { row, expected } => {
+                let mut given = vec![7; row];
+                let answer = trace.integers_into(&mut given);
+                assert_eq!(answer, expected.clone().map(|_| ()).map_err(told));
+                assert_eq!(given, expected.clone().unwrap_or(vec![7; row]));
+                if expected.is_ok() {
+                    assert_eq!(trace.integers(), Ok(given.clone()));
+                    assert_eq!(
+                        trace.doubles(),
+                        Ok(given.into_iter().map(f64::from).collect())
+                    );
+                }
+                assert_eq!(trace.integers().is_ok(), trace.is_integers());
+            }
+            SampleQuestion::Bits {
+                row,
+                classes,
+                expected,
+            } => {
+                let (mut given, mut kinds) = (vec![7; row], vec![7; classes]);
+                let answer = trace.bits_into(&mut given, &mut kinds);
+                assert_eq!(answer, expected.clone().map(|_| ()).map_err(told));
+                let left = expected.clone().unwrap_or((vec![7; row], vec![7; classes]));
+                assert_eq!((&given, &kinds), (&left.0, &left.1));
+                if expected.is_ok() {
+                    let bits = trace.bits().expect("bits");
+                    assert_eq!((bits.patterns, bits.classes), (given, kinds));
+                }
+                assert_eq!(trace.bits().is_err(), trace.is_integers());
+            }
+        }
+    }
+}
+
+#[test]
+fn no_such_trace_is_18_for_every_index() {
+    let mut shot = Builder::start(Order::Low, 2, b"").expect("a start");
+    shot.add_integers(b"", 1, &[1]).expect("a trace");
+    let file = File::open(shot.bytes()).expect("a file");
+    for index in [
+        1,
+        2,
+        65_535,
+        65_536,
+        1 << 31,
+        (1 << 32) - 1,
+        1 << 32,
+        usize::MAX,
+    ] {
+        let refusal = file.trace(index).expect_err("no such trace");
+        assert_eq!((refusal.number, refusal.part, refusal.place), (18, -1, 0));
+    }
+}
+
+#[test]
+fn lent_writers_and_the_builder_write_what_the_reference_writes() {
+    let mut rng = Rng::new(207);
+    let (mut written, mut refused) = (0, 0);
+    for _ in 0..3000 {
+        let case = addition_case(&mut rng);
+        let code = case.code;
+        let (mut theirs, mut ours) = (case.buffer.clone(), case.buffer.clone());
+        let image = case.buffer.get(..case.length).map(<[u8]>::to_vec);
+        let mut builder = image.clone().map(Builder::resume);
+        let (expected, answer, built) = match &case.row {
+            reference::Row::Integers(row) => (
+                reference::add_integers(&mut theirs, case.length, &case.sheet, code, row),
+                seg2::add_integers(&mut ours, case.length, &case.sheet, code.into(), row),
+                builder
+                    .as_mut()
+                    .map(|b| b.add_integers(&case.sheet, code.into(), row)),
+            ),
+            reference::Row::Bits(row) => (
+                reference::add_bits(&mut theirs, case.length, &case.sheet, code, row),
+                seg2::add_bits(&mut ours, case.length, &case.sheet, code.into(), row),
+                builder
+                    .as_mut()
+                    .map(|b| b.add_bits(&case.sheet, code.into(), row)),
+            ),
+        };
+        assert_eq!(answer, expected.map_err(told));
+        assert_eq!(ours, theirs);
+        // the builder grows, so it alone is not refused by 30
+        let (Some(image), Some(builder), Some(built)) = (image, builder, built) else {
+            continue;
+        };
+        match answer {
+            Ok(length) => {
+                assert_eq!(built, Ok(()));
+                assert_eq!(builder.bytes(), &ours[..length]);
+                written += 1;
+            }
+            Err(refusal) if refusal.number != 30 => {
+                assert_eq!(built, Err(refusal));
+                assert_eq!(builder.bytes(), image);
+                refused += 1;
+            }
+            Err(_) => assert_eq!(built, Ok(())),
+        }
+    }
+    assert!(written > 500 && refused > 500, "{written} {refused}");
+}
+
+#[test]
+fn the_builder_has_room_for_every_sheet() {
+    // terminators of two characters make the longest strings: more than a new file's
+    let mut rng = Rng::new(208);
+    let mut tried = 0;
+    for _ in 0..4000 {
+        let laid = Model::random(&mut rng).lay();
+        let sheet = good_sheet(&mut rng).sheet;
+        let image = laid.buffer[..laid.length].to_vec();
+        let mut theirs = image.clone();
+        theirs.resize(laid.length + 70_000, 0);
+        let expected = reference::add_integers(&mut theirs, laid.length, &sheet, 1, &[1]);
+        let mut builder = Builder::resume(image);
+        let answer = builder.add_integers(&sheet, 1, &[1]);
+        assert_eq!(answer, expected.map(|_| ()).map_err(told));
+        if let Ok(length) = expected {
+            assert_eq!(builder.bytes(), &theirs[..length]);
+            tried += 1;
+        }
+    }
+    assert!(tried > 100, "{tried}");
+}
+
+#[test]
+fn the_builder_ends_at_the_maximum() {
+    let mut shot = Builder::start(Order::Low, 3, b"").expect("a start");
+    let start = shot.bytes().len();
+    let room = seg2::MAXIMUM_LENGTH - start - 36;
+    let full = vec![1; room / 4];
+    shot.add_integers(b"", 2, &full)
+        .expect("exactly the maximum");
+    assert_eq!(shot.bytes().len(), seg2::MAXIMUM_LENGTH);
+    let before = shot.clone();
+    let refusal = shot.add_integers(b"", 2, &[]).expect_err("no room");
+    assert_eq!(
+        refusal.to_string(),
+        "refused (30): there is no room for the result"
+    );
+    assert_eq!(shot, before);
+    // over the maximum nothing is accepted, and nothing is cut off
+    let mut long = shot.finish();
+    long.extend([9, 9, 9, 9]);
+    let mut over = Builder::resume(long);
+    assert_eq!(
+        over.add_integers(b"", 2, &[]).expect_err("too long").number,
+        1
+    );
+    assert_eq!(over.bytes().len(), seg2::MAXIMUM_LENGTH + 4);
+}
+
+#[test]
+fn refusals_speak_plainly() {
+    let said = |number, part, place| {
+        Refusal {
+            number,
+            part,
+            place,
+        }
+        .to_string()
+    };
+    let start = |said: String| said.split(": ").next().expect("a start").to_string();
+    assert_eq!(
+        said(16, 3, 1234),
+        "refused (16) in trace 3 at byte 1234: a forbidden character in a keyword or value"
+    );
+    assert_eq!(
+        said(3, -1, 2),
+        "refused (3) in the file at byte 2: the revision is not 1"
+    );
+    assert_eq!(start(said(1, -1, 0)), "refused (1) in the file");
+    assert_eq!(start(said(2, -1, 0)), "refused (2) in the file");
+    assert_eq!(
+        start(said(20, -1, 4)),
+        "refused (20) at byte 4 of the value"
+    );
+    assert_eq!(start(said(23, -1, 0)), "refused (23)");
+    assert_eq!(said(24, -1, 0), "refused (24): no pointer slot is free");
+    assert_eq!(
+        start(said(26, -1, 9)),
+        "refused (26) at byte 9 of the sheet"
+    );
+    assert_eq!(start(said(29, -1, 7)), "refused (29) at sample 7");
+    for number in [18, 19, 27, 28, 30, 31, 32, 33] {
+        assert_eq!(start(said(number, -1, 0)), format!("refused ({number})"));
+    }
+    let error: Box<dyn std::error::Error> = Box::new(Refusal {
+        number: 5,
+        part: -1,
+        place: 6,
+    });
+    assert!(error
+        .to_string()
+        .starts_with("refused (5) in the file at byte 6: "));
+}
+
+#[test]
+fn empty_slices_are_answered() {
+    assert_eq!(seg2::check(&[], 0).map_err(|r| r.number), Err(1));
+    assert_eq!(seg2::check(&[], usize::MAX).map_err(|r| r.number), Err(1));
+    assert_eq!(File::open(&[]).map_err(|r| r.number).err(), Some(1));
+    assert_eq!(
+        seg2::start(&mut [], Order::Low, 1, &[]).map_err(|r| r.number),
+        Err(30)
+    );
+    assert_eq!(
+        seg2::add_integers(&mut [], 0, &[], 1, &[]).map_err(|r| r.number),
+        Err(1)
+    );
+    assert_eq!(
+        seg2::add_bits(&mut [], 0, &[], 4, &[]).map_err(|r| r.number),
+        Err(1)
+    );
+    let mut shot = Builder::start(Order::Low, 1, &[]).expect("a start");
+    shot.add_bits(&[], 4, &[]).expect("a trace without samples");
+    let file = File::open(shot.bytes()).expect("a file");
+    let bits = file.trace(0).and_then(|t| t.bits()).expect("no samples");
+    assert_eq!((bits.patterns.len(), bits.classes.len()), (0, 0));
+    assert_eq!((file.string_count(), file.strings().count()), (0, 0));
+}
