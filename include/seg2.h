@@ -13,8 +13,8 @@
  *     else reads or writes it; memory that it reads, nobody writes;
  *   - size_t has 64 bits.
  *
- * The library keeps no pointer and no state, allocates nothing and calls nothing, so any
- * number of threads may call it. A stack of 32 KiB is enough for every function.
+ * The library keeps no pointer and no state, allocates nothing and calls nothing
+ * but C's memset, so any number of threads may call it. A stack of 32 KiB is enough for every function.
  *
  * `buffer` and `size` are the lent memory, `length` says how many of its first bytes are
  * the file; any length may be given, and one over `size` is refused by 1. A `part` is -1

@@ -1,18 +1,244 @@
-//! Times of the proved samples (document 01, "Samples") beside plain Rust loops, on
-//! the same buffers in one run. Usage: `seg2_bench [SAMPLES]`.
+//! The proved archive beside plain Rust and beside a copy of the same bytes, on the
+//! same buffers in one run. Usage: `seg2_bench [ROUNDS]`.
 
-mod plain;
-
+use seg2::raw;
+use seg2_bench::files::{file, file_with, trace_sheet};
+use seg2_bench::time::{least, Work};
+use seg2_bench::{plain, plain_file};
 use seg2_probe as proved;
 use std::hint::black_box;
-use std::time::Instant;
 
 /// Enough for a long trace; a multiple of 4, as code 3 needs.
 const SAMPLES: usize = 32_768;
-/// Timed runs of each, by turns, so that both meet the same state of the machine.
-const RUNS: usize = 301;
-/// Calls in a run, so that a run is long beside the clock's own cost.
-const CALLS: usize = 8;
+/// Timed rounds, unless another number is asked for.
+const ROUNDS: usize = 200;
+
+fn main() {
+    let rounds = match std::env::args().nth(1) {
+        None => ROUNDS,
+        Some(word) => match word.parse::<usize>() {
+            Ok(n) if n > 0 => n,
+            _ => {
+                eprintln!("usage: seg2_bench [ROUNDS]");
+                std::process::exit(2);
+            }
+        },
+    };
+    println!("Least times of {rounds} rounds, the three kinds of work by turns.");
+    checks(rounds);
+    long_texts(rounds);
+    values(rounds);
+    samples(rounds);
+    searches(rounds);
+    additions(rounds);
+    growth(rounds);
+}
+
+// ---- the archive, as the other side is called
+
+fn check(buffer: &[u8]) -> plain_file::Refused {
+    let (at, size) = (buffer.as_ptr(), buffer.len());
+    // SAFETY: a pointer and its size are those of one slice, here and below, and what is
+    // written overlaps nothing else.
+    let verdict = unsafe { raw::seg2_check(at, size, size) };
+    (verdict.number, verdict.part, verdict.place)
+}
+
+fn value(buffer: &[u8], part: i32, key: &[u8]) -> (u32, usize, usize) {
+    let (at, size) = (buffer.as_ptr(), buffer.len());
+    let mut answer = raw::Value {
+        number: 1,
+        part: 0,
+        place: 0,
+        start: 0,
+        size: 0,
+    };
+    // SAFETY: as above.
+    unsafe { raw::seg2_value(&mut answer, at, size, size, part, key.as_ptr(), key.len()) }
+    (answer.number, answer.start, answer.size)
+}
+
+/// Samples to add.
+enum Row {
+    Integers(Vec<i32>),
+    Bits(Vec<u64>),
+}
+
+fn add(buffer: &mut [u8], length: usize, sheet: &[u8], code: u32, row: &Row) -> (u32, usize) {
+    let (at, size) = (buffer.as_mut_ptr(), buffer.len());
+    let (text, lines) = (sheet.as_ptr(), sheet.len());
+    let mut answer = raw::Length {
+        number: 1,
+        part: 0,
+        place: 0,
+        length: 0,
+    };
+    let told = &mut answer;
+    // SAFETY: as above.
+    unsafe {
+        match row {
+            Row::Integers(row) => {
+                let (row, count) = (row.as_ptr(), row.len());
+                raw::seg2_add_integers(told, at, size, length, text, lines, code, row, count)
+            }
+            Row::Bits(row) => {
+                let (row, count) = (row.as_ptr(), row.len());
+                raw::seg2_add_bits(told, at, size, length, text, lines, code, row, count)
+            }
+        }
+    }
+    (answer.number, answer.length)
+}
+
+fn add_plainly(
+    buffer: &mut [u8],
+    length: usize,
+    sheet: &[u8],
+    code: u32,
+    row: &Row,
+) -> (u32, usize) {
+    let answer = match row {
+        Row::Integers(row) => plain_file::add_integers(buffer, length, sheet, code, row),
+        Row::Bits(row) => plain_file::add_bits(buffer, length, sheet, code, row),
+    };
+    answer.map_or_else(|refused| (refused.0, 0), |length| (0, length))
+}
+
+// ---- the tables
+
+/// A file and as many bytes beside it, for the copy.
+struct Copied {
+    file: Vec<u8>,
+    beside: Vec<u8>,
+}
+
+impl Copied {
+    fn new(file: Vec<u8>) -> Copied {
+        let beside = vec![0; file.len()];
+        Copied { file, beside }
+    }
+}
+
+fn copied(order: u32, traces: usize, samples: usize) -> Copied {
+    Copied::new(file(order, traces, samples))
+}
+
+const COPY: Work<Copied> = &|b| {
+    b.beside.copy_from_slice(&b.file);
+    black_box(&mut b.beside);
+};
+
+fn order_name(order: u32) -> &'static str {
+    match order {
+        0 => "low",
+        _ => "high",
+    }
+}
+
+fn checked(buffers: &mut Copied, rounds: usize) -> [f64; 3] {
+    assert_eq!(check(&buffers.file), (0, -1, 0));
+    let length = buffers.file.len();
+    assert!(plain_file::check(&buffers.file, length, false).is_ok());
+    let ours: Work<Copied> = &|b| {
+        black_box(check(&b.file));
+    };
+    let plain: Work<Copied> = &|b| {
+        black_box(plain_file::check(&b.file, b.file.len(), false).is_ok());
+    };
+    least(buffers, rounds, [ours, plain, COPY])
+}
+
+fn checks(rounds: usize) {
+    println!(
+        "\nCheck of a whole file. The copy is of all its bytes; the check reads no data block.\n"
+    );
+    println!("| traces | samples each | order | bytes | proved us | plain us | proved/plain | proved/copy |");
+    println!("|---|---|---|---|---|---|---|---|");
+    for (traces, samples) in [
+        (12, 1_000),
+        (24, 2_000),
+        (24, 4_000),
+        (2_000, 1_000),
+        (2_000, 4_000),
+    ] {
+        for order in [0, 1] {
+            let mut buffers = copied(order, traces, samples);
+            let bytes = buffers.file.len();
+            // A copy of many megabytes takes long.
+            let rounds = if bytes > 4_000_000 {
+                rounds.div_ceil(8)
+            } else {
+                rounds
+            };
+            let [a, b, c] = checked(&mut buffers, rounds);
+            println!(
+                "| {traces} | {samples} | {} | {bytes} | {:.2} | {:.2} | {:.2} | {:.3} |",
+                order_name(order),
+                a / 1e3,
+                b / 1e3,
+                a / b,
+                a / c
+            );
+        }
+    }
+}
+
+fn long_texts(rounds: usize) {
+    println!(
+        "\nCheck of a file of 24 traces whose texts are long: 2,000 characters in each trace.\n"
+    );
+    println!("| texts | order | proved us | plain us | proved/plain |");
+    println!("|---|---|---|---|---|");
+    let value = [b"COMMENT\t", &[b'x'; 2_000][..], b"\n"].concat();
+    let note = [b"NOTE\t", &[b'x'; 80][..], b"\n"].concat().repeat(25);
+    for (name, sheet) in [("one value", value), ("a NOTE of 25 lines", note)] {
+        for order in [0, 1] {
+            let mut buffers = Copied::new(file_with(order, 24, 1_000, |_| sheet.clone()));
+            let [a, b, _] = checked(&mut buffers, rounds);
+            println!(
+                "| {name} | {} | {:.2} | {:.2} | {:.2} |",
+                order_name(order),
+                a / 1e3,
+                b / 1e3,
+                a / b
+            );
+        }
+    }
+}
+
+fn values(rounds: usize) {
+    println!(
+        "\nA keyword's value in the last trace: the check of the whole file, then the search.\n"
+    );
+    println!("| traces | order | keyword | proved us | plain us | proved/plain |");
+    println!("|---|---|---|---|---|---|");
+    for (traces, order) in [(12, 0), (24, 0), (24, 1), (2_000, 0)] {
+        for key in ["STACK", "ABSENT"] {
+            let mut buffers = copied(order, traces, 1_000);
+            let (part, key) = (traces as i32 - 1, key.as_bytes());
+            let (_, start, size) = value(&buffers.file, part, key);
+            let length = buffers.file.len();
+            let plainly = plain_file::value(&buffers.file, length, part, key);
+            assert_eq!(plainly, Ok((start, size)));
+            let ours: Work<Copied> = &|b| {
+                black_box(value(&b.file, part, black_box(key)));
+            };
+            let plain: Work<Copied> = &|b| {
+                let length = b.file.len();
+                let _ = black_box(plain_file::value(&b.file, length, part, black_box(key)));
+            };
+            let [a, b] = least(&mut buffers, rounds, [ours, plain]);
+            println!(
+                "| {traces} | {} | {} | {:.2} | {:.2} | {:.2} |",
+                order_name(order),
+                String::from_utf8_lossy(key),
+                a / 1e3,
+                b / 1e3,
+                a / b
+            );
+        }
+    }
+}
 
 /// What is read and written. Both functions of a pair use the same.
 struct Buffers {
@@ -21,73 +247,125 @@ struct Buffers {
     integers: Vec<i32>,
     patterns: Vec<u64>,
     classes: Vec<u8>,
+    beside: Vec<u8>,
 }
 
-type Work<'a> = &'a dyn Fn(&mut Buffers) -> bool;
-
-fn main() {
-    let samples = match std::env::args().nth(1) {
-        None => SAMPLES,
-        Some(word) => match word.parse::<usize>() {
-            Ok(n) if n > 0 => n.next_multiple_of(4),
-            _ => {
-                eprintln!("usage: seg2_bench [SAMPLES]");
-                std::process::exit(2);
-            }
-        },
-    };
-    println!(
-        "{samples} samples; medians of {RUNS} runs of {CALLS} calls, proved and plain by turns."
-    );
-    println!("Buffers are warmed: both functions run over them before the first timed run.");
+fn samples(rounds: usize) {
+    println!("\n{SAMPLES} samples of a data block, nanoseconds a sample; the copy is of the block's bytes.");
     println!("Writing includes the search for a sample that the code cannot hold.\n");
-    println!("| code | order | way   | proved ns/sample | plain ns/sample | proved/plain |");
-    println!("|------|-------|-------|------------------|-----------------|--------------|");
+    println!("| code | order | way | proved | plain | copy | proved/plain | proved/copy |");
+    println!("|---|---|---|---|---|---|---|---|");
     for code in 1..=5 {
         for high in [false, true] {
-            let order = if high { "high" } else { "low" };
-            let mut buffers = filled(code, samples);
-            let way = |way: &str, (proved, plain): (f64, f64)| {
-                let (p, q) = (proved / samples as f64, plain / samples as f64);
-                println!(
-                    "| {code:4} | {order:5} | {way:5} | {p:16.3} | {q:15.3} | {:12.2} |",
-                    p / q
-                );
-            };
-            let (a, b): (Work, Work) = match code {
+            let mut buffers = filled(code);
+            let (a, b): (Work<Buffers>, Work<Buffers>) = match code {
                 1..=3 => (
-                    &|b| proved::read_integers(code, &b.block, high, &mut b.integers),
-                    &|b| plain::read_integers(code, &b.block, high, &mut b.integers),
+                    &|b| assert!(proved::read_integers(code, &b.block, high, &mut b.integers)),
+                    &|b| assert!(plain::read_integers(code, &b.block, high, &mut b.integers)),
                 ),
                 _ => (
-                    &|b| proved::read_bits(code, &b.block, high, &mut b.patterns, &mut b.classes),
-                    &|b| plain::read_bits(code, &b.block, high, &mut b.patterns, &mut b.classes),
+                    &|b| {
+                        let (row, classes) = (&mut b.patterns, &mut b.classes);
+                        assert!(proved::read_bits(code, &b.block, high, row, classes))
+                    },
+                    &|b| {
+                        let (row, classes) = (&mut b.patterns, &mut b.classes);
+                        assert!(plain::read_bits(code, &b.block, high, row, classes))
+                    },
                 ),
             };
-            way("read", compared(&mut buffers, a, b));
+            sample_line(&mut buffers, rounds, (code, high, "read"), a, b);
             // What was read is what is written: every sample of it can be held.
-            let (a, b): (Work, Work) = match code {
+            let (a, b): (Work<Buffers>, Work<Buffers>) = match code {
                 1..=3 => (
-                    &|b| proved::write_integers(code, &b.integers, high, &mut b.block),
-                    &|b| plain::write_integers(code, &b.integers, high, &mut b.block),
+                    &|b| {
+                        assert!(proved::write_integers(
+                            code,
+                            &b.integers,
+                            high,
+                            &mut b.block
+                        ))
+                    },
+                    &|b| assert!(plain::write_integers(code, &b.integers, high, &mut b.block)),
                 ),
                 _ => (
-                    &|b| proved::write_bits(code, &b.patterns, high, &mut b.block),
-                    &|b| plain::write_bits(code, &b.patterns, high, &mut b.block),
+                    &|b| assert!(proved::write_bits(code, &b.patterns, high, &mut b.block)),
+                    &|b| assert!(plain::write_bits(code, &b.patterns, high, &mut b.block)),
                 ),
             };
-            way("write", compared(&mut buffers, a, b));
+            sample_line(&mut buffers, rounds, (code, high, "write"), a, b);
         }
     }
 }
 
+/// Both have to leave the same in every buffer.
+fn sample_line(
+    buffers: &mut Buffers,
+    rounds: usize,
+    (code, high, way): (u8, bool, &str),
+    ours: Work<Buffers>,
+    plain: Work<Buffers>,
+) {
+    ours(buffers);
+    let block = buffers.block.clone();
+    let rows = (buffers.integers.clone(), buffers.patterns.clone());
+    let classes = buffers.classes.clone();
+    plain(buffers);
+    assert!(block == buffers.block && classes == buffers.classes);
+    assert!(rows.0 == buffers.integers && rows.1 == buffers.patterns);
+    let copy: Work<Buffers> = &|b| {
+        b.beside.copy_from_slice(&b.block);
+        black_box(&mut b.beside);
+    };
+    let [a, b, c] = least(buffers, rounds, [ours, plain, copy]).map(|t| t / SAMPLES as f64);
+    println!(
+        "| {code} | {} | {way} | {a:.3} | {b:.3} | {c:.3} | {:.2} | {:.1} |",
+        order_name(high.into()),
+        a / b,
+        a / c
+    );
+}
+
+/// What the search for a sample that the code cannot hold costs plain Rust in two ways:
+/// the proved one is written in the first.
+fn searches(rounds: usize) {
+    println!("\nThe search alone, plain Rust, nanoseconds a sample: a loop that ends at the first such sample, and one that goes through whole runs.\n");
+    println!("| code | ends early | whole runs |");
+    println!("|---|---|---|");
+    let mut integers: Vec<i32> = (0..SAMPLES as i32).map(|i| i % 30_000).collect();
+    let mut patterns: Vec<u64> = (0..SAMPLES as u64).collect();
+    for code in [1, 3] {
+        let most = if code == 1 { 32_767 } else { (1 << 30) - 1 };
+        let early: Work<Vec<i32>> = &|row| {
+            let least = black_box(-most);
+            black_box(row.iter().position(|&v| v < least || v > most));
+        };
+        let runs: Work<Vec<i32>> = &|row| {
+            black_box(plain::first_outside(code, row));
+        };
+        search_line(code, least(&mut integers, rounds, [early, runs]));
+    }
+    let early: Work<Vec<u64>> = &|row| {
+        black_box(row.iter().position(|&bits| bits >> 32 != 0));
+    };
+    let runs: Work<Vec<u64>> = &|row| {
+        black_box(plain::first_wide(4, row));
+    };
+    search_line(4, least(&mut patterns, rounds, [early, runs]));
+}
+
+fn search_line(code: u8, times: [f64; 2]) {
+    let [early, runs] = times.map(|t| t / SAMPLES as f64);
+    println!("| {code} | {early:.3} | {runs:.3} |");
+}
+
 /// A block of bytes without a pattern (splitmix64), and rows for its samples.
-fn filled(code: u8, samples: usize) -> Buffers {
+fn filled(code: u8) -> Buffers {
     let size = match code {
-        1 => 2 * samples,
-        3 => 10 * samples / 4,
-        5 => 8 * samples,
-        _ => 4 * samples,
+        1 => 2 * SAMPLES,
+        3 => 10 * SAMPLES / 4,
+        5 => 8 * SAMPLES,
+        _ => 4 * SAMPLES,
     };
     let mut state = 7_u64;
     let mut byte = || {
@@ -97,37 +375,138 @@ fn filled(code: u8, samples: usize) -> Buffers {
     };
     Buffers {
         block: (0..size.next_multiple_of(4)).map(|_| byte()).collect(),
-        integers: vec![0; samples],
-        patterns: vec![0; samples],
-        classes: vec![0; samples],
+        integers: vec![0; SAMPLES],
+        patterns: vec![0; SAMPLES],
+        classes: vec![0; SAMPLES],
+        beside: vec![0; size.next_multiple_of(4)],
     }
 }
 
-/// The median times of a call, in nanoseconds. Both have to succeed, and to leave
-/// the same in every buffer.
-fn compared(buffers: &mut Buffers, proved: Work, plain: Work) -> (f64, f64) {
-    assert!(proved(buffers));
-    let block = buffers.block.clone();
-    let rows = (buffers.integers.clone(), buffers.patterns.clone());
-    let classes = buffers.classes.clone();
-    assert!(plain(buffers));
-    assert!(block == buffers.block && classes == buffers.classes);
-    assert!(rows.0 == buffers.integers && rows.1 == buffers.patterns);
-    let mut times = [Vec::new(), Vec::new()];
-    for _ in 0..RUNS {
-        for (work, times) in [proved, plain].iter().zip(&mut times) {
-            let began = Instant::now();
-            for _ in 0..CALLS {
-                black_box(work(black_box(buffers)));
-            }
-            times.push(began.elapsed().as_nanos() as f64 / CALLS as f64);
+/// A file with a free end, what is added, and a place for the copy.
+struct Growing {
+    buffer: Vec<u8>,
+    length: usize,
+    sheet: Vec<u8>,
+    code: u32,
+    row: Row,
+    beside: Vec<u8>,
+}
+
+impl Growing {
+    fn new(order: u32, traces: usize, samples: usize, code: u32, count: usize) -> Growing {
+        let mut buffer = file(order, traces, samples);
+        let length = buffer.len();
+        buffer.resize(length + 8 * count + 1000, 0);
+        let row = match code {
+            1..=3 => Row::Integers((0..count).map(|i| (i as i32 * 7919) % 30_000).collect()),
+            _ => Row::Bits((0..count).map(|i| i as u64 * 7919).collect()),
+        };
+        let sheet = trace_sheet(traces + 1);
+        let beside = Vec::new();
+        Growing {
+            buffer,
+            length,
+            sheet,
+            code,
+            row,
+            beside,
         }
     }
-    let [a, b] = times.map(median);
-    (a, b)
+
+    /// Takes the new trace out of the file again: N is as before, and the slot behind
+    /// the last is not looked at.
+    fn undo(&mut self, n: [u8; 2]) {
+        self.buffer[6..8].copy_from_slice(&n);
+    }
+
+    /// Times of an addition: proved, plain, and the copy of the new trace's bytes.
+    fn timed(&mut self, rounds: usize) -> [f64; 3] {
+        let n = [self.buffer[6], self.buffer[7]];
+        let (number, end) = add(
+            &mut self.buffer,
+            self.length,
+            &self.sheet,
+            self.code,
+            &self.row,
+        );
+        assert_eq!(number, 0);
+        let after = self.buffer.clone();
+        self.undo(n);
+        let plainly = add_plainly(
+            &mut self.buffer,
+            self.length,
+            &self.sheet,
+            self.code,
+            &self.row,
+        );
+        assert_eq!(plainly, (0, end));
+        assert!(after == self.buffer);
+        self.undo(n);
+        self.beside = vec![0; end - self.length];
+        let ours: Work<Growing> = &|g| {
+            black_box(add(&mut g.buffer, g.length, &g.sheet, g.code, &g.row));
+            g.undo(n);
+        };
+        let plain: Work<Growing> = &|g| {
+            black_box(add_plainly(
+                &mut g.buffer,
+                g.length,
+                &g.sheet,
+                g.code,
+                &g.row,
+            ));
+            g.undo(n);
+        };
+        let copy: Work<Growing> = &|g| {
+            let end = g.length + g.beside.len();
+            g.beside.copy_from_slice(&g.buffer[g.length..end]);
+            black_box(&mut g.beside);
+        };
+        least(self, rounds, [ours, plain, copy])
+    }
 }
 
-fn median(mut times: Vec<f64>) -> f64 {
-    times.sort_by(f64::total_cmp);
-    times[times.len() / 2]
+fn additions(rounds: usize) {
+    println!("\nA trace of 4,000 samples added to a file of 24 traces of 4,000 samples; the copy is of the new trace's bytes.\n");
+    println!("| code | order | proved us | plain us | proved/plain | proved/copy |");
+    println!("|---|---|---|---|---|---|");
+    for code in 1..=5 {
+        for order in [0, 1] {
+            let [a, b, c] = Growing::new(order, 24, 4_000, code, 4_000).timed(rounds);
+            println!(
+                "| {code} | {} | {:.2} | {:.2} | {:.2} | {:.1} |",
+                order_name(order),
+                a / 1e3,
+                b / 1e3,
+                a / b,
+                a / c
+            );
+        }
+    }
+}
+
+fn growth(rounds: usize) {
+    println!("\nGrowth with the number of traces (1,000 samples each, low byte first): the check, and the addition of one trace of 1,000 samples of code 2.\n");
+    println!("| traces | check us | ns a trace | proved/plain | addition us | ns a trace | proved/plain |");
+    println!("|---|---|---|---|---|---|---|");
+    for traces in [1, 10, 100, 1_000] {
+        let mut buffers = copied(0, traces, 1_000);
+        let rounds = if traces > 100 {
+            rounds.div_ceil(4)
+        } else {
+            rounds
+        };
+        let [a, b, _] = checked(&mut buffers, rounds);
+        let [c, d, _] = Growing::new(0, traces, 1_000, 2, 1_000).timed(rounds);
+        let each = traces as f64;
+        println!(
+            "| {traces} | {:.2} | {:.1} | {:.2} | {:.2} | {:.1} | {:.2} |",
+            a / 1e3,
+            a / each,
+            a / b,
+            c / 1e3,
+            c / each,
+            c / d
+        );
+    }
 }

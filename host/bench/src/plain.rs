@@ -1,5 +1,6 @@
-//! The same work as plain Rust writes it: chunks, and the standard library's
-//! conversions. The order is settled before each loop.
+//! The samples as plain Rust does them: chunks, and the standard library's
+//! conversions. The order is settled before each loop, and no loop ends early, so that
+//! the compiler may widen it.
 
 pub fn read_integers(code: u8, block: &[u8], high: bool, row: &mut [i32]) -> bool {
     let needed = match code {
@@ -68,12 +69,16 @@ fn from_singles(
     classes: &mut [u8],
     pattern: impl Fn([u8; 4]) -> u32,
 ) {
-    let places = row.iter_mut().zip(classes);
-    for ((sample, class), bytes) in places.zip(block.chunks_exact(4)) {
-        let bits = pattern([bytes[0], bytes[1], bytes[2], bytes[3]]);
-        *sample = u64::from(bits);
-        let exponent = (bits >> 23) & 0xFF;
-        *class = class_of(exponent == 0, exponent == 0xFF, bits & 0x7F_FFFF == 0);
+    for (sample, bytes) in row.iter_mut().zip(block.chunks_exact(4)) {
+        *sample = u64::from(pattern([bytes[0], bytes[1], bytes[2], bytes[3]]));
+    }
+    // Zero, fraction alone, exponent, infinity, more: in that order of magnitude.
+    for (class, &bits) in classes.iter_mut().zip(row.iter()) {
+        let m = bits as u32 & 0x7FFF_FFFF;
+        *class = u8::from(m > 0)
+            + u8::from(m > 0x007F_FFFF)
+            + u8::from(m > 0x7F7F_FFFF)
+            + u8::from(m > 0x7F80_0000);
     }
 }
 
@@ -83,40 +88,64 @@ fn from_doubles(
     classes: &mut [u8],
     pattern: impl Fn([u8; 8]) -> u64,
 ) {
-    let places = row.iter_mut().zip(classes);
-    for ((sample, class), bytes) in places.zip(block.chunks_exact(8)) {
-        let bits = pattern(bytes.try_into().unwrap_or_default());
-        *sample = bits;
-        let exponent = (bits >> 52) & 0x7FF;
-        let fraction = bits & 0xF_FFFF_FFFF_FFFF;
-        *class = class_of(exponent == 0, exponent == 0x7FF, fraction == 0);
+    for (sample, bytes) in row.iter_mut().zip(block.chunks_exact(8)) {
+        *sample = pattern(bytes.try_into().unwrap_or_default());
+    }
+    for (class, &bits) in classes.iter_mut().zip(row.iter()) {
+        let m = bits & 0x7FFF_FFFF_FFFF_FFFF;
+        *class = u8::from(m > 0)
+            + u8::from(m > 0x000F_FFFF_FFFF_FFFF)
+            + u8::from(m > 0x7FEF_FFFF_FFFF_FFFF)
+            + u8::from(m > 0x7FF0_0000_0000_0000);
     }
 }
 
-/// 0 zero, 1 underflow, 2 number, 3 infinity, 4 not a number.
-fn class_of(no_exponent: bool, full_exponent: bool, no_fraction: bool) -> u8 {
-    match (no_exponent, full_exponent, no_fraction) {
-        (true, _, true) => 0,
-        (true, _, false) => 1,
-        (_, true, true) => 3,
-        (_, true, false) => 4,
-        _ => 2,
+/// Whether all samples can be held, a run of them at a time: within a run nothing ends
+/// the loop.
+fn all_held<T: Copy>(row: &[T], held: impl Fn(T) -> bool) -> bool {
+    row.chunks(256)
+        .all(|run| run.iter().fold(true, |all, &v| all & held(v)))
+}
+
+/// The first sample that code 1 or 3 cannot hold.
+pub fn first_outside(code: u8, row: &[i32]) -> Option<usize> {
+    let most: i32 = match code {
+        1 => 32_767,
+        3 => (1 << 30) - 1,
+        _ => return None,
+    };
+    let least = if code == 1 { -32_768 } else { -most };
+    let held = |v: i32| (v >= least) & (v <= most);
+    match all_held(row, held) {
+        true => None,
+        false => row.iter().position(|&v| !held(v)),
+    }
+}
+
+/// The first pattern that code 4 cannot hold.
+pub fn first_wide(code: u8, row: &[u64]) -> Option<usize> {
+    let held = |bits: u64| bits <= u64::from(u32::MAX);
+    match code != 4 || all_held(row, held) {
+        true => None,
+        false => row.iter().position(|&bits| !held(bits)),
     }
 }
 
 pub fn write_integers(code: u8, row: &[i32], high: bool, part: &mut [u8]) -> bool {
-    let (needed, held) = match code {
-        1 => (
-            2 * row.len(),
-            row.iter().all(|&v| (-32_768..=32_767).contains(&v)),
-        ),
-        2 => (4 * row.len(), true),
-        _ => (
-            10 * row.len() / 4,
-            row.iter().all(|&v| v.unsigned_abs() < 1 << 30),
-        ),
+    if first_outside(code, row).is_some() {
+        return false;
+    }
+    put_integers(code, row, high, part)
+}
+
+/// The same of samples that the code can hold.
+pub fn put_integers(code: u8, row: &[i32], high: bool, part: &mut [u8]) -> bool {
+    let needed = match code {
+        1 => 2 * row.len(),
+        2 => 4 * row.len(),
+        _ => 10 * row.len() / 4,
     };
-    if !held || part.len() < needed.next_multiple_of(4) {
+    if part.len() < needed.next_multiple_of(4) {
         return false;
     }
     match (code, high) {
@@ -145,29 +174,35 @@ fn to_longs(row: &[i32], part: &mut [u8], bytes_of: impl Fn(u32) -> [u8; 4]) {
 
 fn to_groups(row: &[i32], part: &mut [u8], bytes_of: impl Fn(u16) -> [u8; 2]) {
     for (four, group) in row.chunks_exact(4).zip(part.chunks_exact_mut(10)) {
-        let mut words = [0; 5];
-        for (k, &sample) in four.iter().enumerate() {
-            let magnitude = sample.unsigned_abs();
-            let exponent = 17_u32.saturating_sub(magnitude.leading_zeros());
-            let mantissa = (magnitude >> exponent) as u16;
-            words[0] |= (exponent as u16) << (4 * k);
-            words[k + 1] = if sample < 0 { !mantissa } else { mantissa };
-        }
+        let [a, b, c, d] = [0, 1, 2, 3].map(|k| float20_of(four[k]));
+        let exponents = a.0 | b.0 << 4 | c.0 << 8 | d.0 << 12;
+        let words = [exponents, a.1, b.1, c.1, d.1];
         for (word, bytes) in words.into_iter().zip(group.chunks_exact_mut(2)) {
             bytes.copy_from_slice(&bytes_of(word));
         }
     }
 }
 
+/// Exponent and mantissa.
+fn float20_of(sample: i32) -> (u16, u16) {
+    let magnitude = sample.unsigned_abs();
+    let exponent = 17_u32.saturating_sub(magnitude.leading_zeros());
+    let mantissa = (magnitude >> exponent) as u16;
+    let sign = (sample >> 31) as u16;
+    (exponent as u16, mantissa ^ sign)
+}
+
 pub fn write_bits(code: u8, row: &[u64], high: bool, part: &mut [u8]) -> bool {
-    let (needed, held) = match code {
-        4 => (
-            4 * row.len(),
-            row.iter().all(|&bits| bits <= u64::from(u32::MAX)),
-        ),
-        _ => (8 * row.len(), true),
-    };
-    if !held || part.len() < needed {
+    if first_wide(code, row).is_some() {
+        return false;
+    }
+    put_bits(code, row, high, part)
+}
+
+/// The same of patterns that the code can hold.
+pub fn put_bits(code: u8, row: &[u64], high: bool, part: &mut [u8]) -> bool {
+    let size = if code == 4 { 4 } else { 8 };
+    if part.len() < size * row.len() {
         return false;
     }
     match (code, high) {

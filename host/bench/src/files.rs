@@ -1,0 +1,38 @@
+//! Files as a crew records them, made by the reference.
+
+use seg2_reference::{file_of, Row, TraceGiven};
+
+/// A few strings, as a seismograph writes them into each trace.
+pub fn trace_sheet(channel: usize) -> Vec<u8> {
+    format!(
+        "CHANNEL_NUMBER\t{channel}\nDELAY\t-0.010\nDESCALING_FACTOR\t0.000122\n\
+         RECEIVER_LOCATION\t{}.5 0 0\nSAMPLE_INTERVAL\t0.000250\nSOURCE_LOCATION\t-12.0 0 0\nSTACK\t4\n",
+        2 * channel
+    )
+    .into_bytes()
+}
+
+const FILE_SHEET: &[u8] = b"ACQUISITION_DATE\t11/05/2024\nACQUISITION_TIME\t09:12:33\nCOMPANY\tNear Surface\n\
+INSTRUMENT\tseismograph 24 channels\nTRACE_SORT\tAS_ACQUIRED\nUNITS\tMETERS\nNOTE\tfirst line of notes\nNOTE\tsecond line\n";
+
+/// So many traces of so many samples of code 2, with one slot to spare.
+pub fn file(order: u32, traces: usize, samples: usize) -> Vec<u8> {
+    file_with(order, traces, samples, |k| trace_sheet(k + 1))
+}
+
+/// The same with other sheets.
+pub fn file_with(
+    order: u32,
+    traces: usize,
+    samples: usize,
+    sheet: impl Fn(usize) -> Vec<u8>,
+) -> Vec<u8> {
+    let list: Vec<TraceGiven> = (0..traces)
+        .map(|k| TraceGiven {
+            sheet: sheet(k),
+            code: 2,
+            row: Row::Integers((0..samples).map(|i| (i * 7919 + k) as i32).collect()),
+        })
+        .collect();
+    file_of(order, traces as u64 + 1, FILE_SHEET, &list).expect("a file")
+}

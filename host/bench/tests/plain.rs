@@ -1,0 +1,183 @@
+//! The plain side gives the reference's answers: a benchmark against something that
+//! does less would say nothing.
+
+use seg2_bench::{plain, plain_file};
+use seg2_reference as reference;
+use seg2_reference::generate::writing::{some_integer, some_pattern};
+use seg2_reference::generate::{
+    addition_case, damaged, mutated, sample_case, several_damages, Model, Rng, SampleQuestion, WAYS,
+};
+use seg2_reference::samples::{encode_bits, encode_integers};
+use seg2_reference::{Order, Refusal, Row};
+
+fn told(refusal: Refusal) -> plain_file::Refused {
+    let Refusal {
+        number,
+        part,
+        place,
+    } = refusal;
+    (number.into(), part as i32, place as usize)
+}
+
+fn checks_alike(buffer: &[u8], length: usize) {
+    for grow in [false, true] {
+        let expected = match grow {
+            true => reference::check_for_addition(buffer, length),
+            false => reference::check(buffer, length),
+        };
+        let answer = plain_file::check(buffer, length, grow);
+        assert_eq!(answer.map(|_| ()), expected.map(|_| ()).map_err(told));
+    }
+}
+
+#[test]
+fn checks() {
+    let mut rng = Rng::new(801);
+    for way in WAYS {
+        for _ in 0..30 {
+            let case = damaged(&mut rng, way);
+            checks_alike(&case.buffer, case.length);
+        }
+    }
+    for _ in 0..5_000 {
+        let laid = Model::random(&mut rng).lay();
+        checks_alike(&laid.buffer, laid.length);
+        let laid = Model::image(&mut rng).lay();
+        checks_alike(&laid.buffer, laid.length);
+        let case = several_damages(&mut rng);
+        checks_alike(&case.buffer, case.length);
+        for _ in 0..4 {
+            let (buffer, length) = mutated(&mut rng);
+            checks_alike(&buffer, length);
+        }
+    }
+}
+
+#[test]
+fn values() {
+    let mut rng = Rng::new(802);
+    for _ in 0..4_000 {
+        let laid = Model::random(&mut rng).lay();
+        let n = i64::from(laid.file.n);
+        for part in [-2, -1, 0, n - 1, n] {
+            let mut keys = vec![b"".to_vec(), b"NOTE".to_vec(), b"A B".to_vec()];
+            if (-1..n).contains(&part) {
+                for string in laid.strings(part) {
+                    keys.push(laid.buffer[string.keyword.clone()].to_vec());
+                    keys.push(laid.buffer[string.keyword.start..string.value.end].to_vec());
+                }
+            }
+            for key in keys {
+                let value = reference::keyword_value(&laid.buffer, laid.length, part, &key);
+                let found = reference::keyword(&laid.buffer, laid.length, part, &key);
+                let expected = found.map(|_| (value.start, value.len())).map_err(told);
+                let answer = plain_file::value(&laid.buffer, laid.length, part as i32, &key);
+                assert_eq!(
+                    answer,
+                    expected,
+                    "{part} {:?}",
+                    key.escape_ascii().to_string()
+                );
+            }
+        }
+    }
+}
+
+#[test]
+fn additions() {
+    let mut rng = Rng::new(803);
+    for _ in 0..8_000 {
+        let case = addition_case(&mut rng);
+        let mut buffer = case.buffer.clone();
+        let (length, sheet, code) = (case.length, &case.sheet, u32::from(case.code));
+        let answer = match &case.row {
+            Row::Integers(row) => plain_file::add_integers(&mut buffer, length, sheet, code, row),
+            Row::Bits(row) => plain_file::add_bits(&mut buffer, length, sheet, code, row),
+        };
+        assert_eq!(answer, case.expected.map_err(told));
+        assert!(buffer == case.after);
+    }
+}
+
+#[test]
+fn samples_read() {
+    let mut rng = Rng::new(804);
+    for _ in 0..8_000 {
+        let case = sample_case(&mut rng);
+        let Ok(trace) = reference::trace_block(&case.buffer, case.length, case.trace) else {
+            continue;
+        };
+        let high = reference::file_block(&case.buffer, case.length)
+            .is_ok_and(|block| block.order == Order::High);
+        let block = &case.buffer[trace.data_start() as usize..trace.end() as usize];
+        let count = trace.s as usize;
+        match case.question {
+            SampleQuestion::Integers {
+                expected: Ok(expected),
+                ..
+            } => {
+                let mut row = vec![7; count];
+                assert!(plain::read_integers(trace.code, block, high, &mut row));
+                assert_eq!(row, expected);
+            }
+            SampleQuestion::Bits {
+                expected: Ok(expected),
+                ..
+            } => {
+                let (mut row, mut classes) = (vec![7; count], vec![7; count]);
+                assert!(plain::read_bits(
+                    trace.code,
+                    block,
+                    high,
+                    &mut row,
+                    &mut classes
+                ));
+                assert_eq!((row, classes), expected);
+            }
+            _ => {}
+        }
+    }
+}
+
+#[test]
+fn samples_written() {
+    let mut rng = Rng::new(805);
+    for _ in 0..8_000 {
+        let count = 4 * rng.between(0, 80);
+        let wild = rng.one_in(4);
+        for (order, high) in [(Order::Low, false), (Order::High, true)] {
+            for code in 1..=3 {
+                let row: Vec<i32> = (0..count)
+                    .map(|_| some_integer(&mut rng, code, wild))
+                    .collect();
+                let expected = encode_integers(code, order, &row);
+                let outside = expected.as_ref().err().map(|r| r.place as usize);
+                assert_eq!(plain::first_outside(code, &row), outside);
+                let mut part = vec![7; 8 * count];
+                assert_eq!(
+                    plain::write_integers(code, &row, high, &mut part),
+                    expected.is_ok()
+                );
+                if let Ok(data) = expected {
+                    assert_eq!(part[..data.len()], data);
+                }
+            }
+            for code in 4..=5 {
+                let row: Vec<u64> = (0..count)
+                    .map(|_| some_pattern(&mut rng, code, wild))
+                    .collect();
+                let expected = encode_bits(code, order, &row);
+                let wide = expected.as_ref().err().map(|r| r.place as usize);
+                assert_eq!(plain::first_wide(code, &row), wide);
+                let mut part = vec![7; 8 * count];
+                assert_eq!(
+                    plain::write_bits(code, &row, high, &mut part),
+                    expected.is_ok()
+                );
+                if let Ok(data) = expected {
+                    assert_eq!(part[..data.len()], data);
+                }
+            }
+        }
+    }
+}

@@ -1,0 +1,67 @@
+//! The answers of all calls in one form, so that one comparison serves them all.
+
+use seg2::raw;
+
+/// How many values the longest answer has beside its refusal.
+pub const VALUES: usize = 5;
+
+/// A refusal's number, part and place, and the values in the order of the answer's
+/// fields. Doubles are their bits, so that -0 is not 0; values that an answer does
+/// not have are 0.
+#[derive(Clone, Copy, Debug, PartialEq, Eq)]
+pub struct Answer {
+    pub number: u32,
+    pub part: i32,
+    pub place: usize,
+    pub values: [u64; VALUES],
+}
+
+impl Answer {
+    /// No refusal: part -1, place 0.
+    pub fn good<const N: usize>(values: [u64; N]) -> Answer {
+        Answer::new(0, -1, 0, values)
+    }
+
+    /// A refusal has no values.
+    pub fn refused(number: u32, part: i32, place: usize) -> Answer {
+        Answer::new(number, part, place, [])
+    }
+
+    fn new<const N: usize>(number: u32, part: i32, place: usize, values: [u64; N]) -> Answer {
+        let mut all = [0; VALUES];
+        all[..N].copy_from_slice(&values);
+        Answer {
+            number,
+            part,
+            place,
+            values: all,
+        }
+    }
+}
+
+/// A signed number keeps its bits.
+pub fn signed(value: i32) -> u64 {
+    i64::from(value) as u64
+}
+
+macro_rules! told {
+    ($kind:ident, $answer:ident => [$($value:expr),*]) => {
+        impl From<raw::$kind> for Answer {
+            fn from($answer: raw::$kind) -> Answer {
+                Answer::new($answer.number, $answer.part, $answer.place, [$($value),*])
+            }
+        }
+    };
+}
+
+told!(Verdict, a => []);
+told!(File, a => [u64::from(a.order), a.room as u64, a.count as u64, a.strings as u64, a.lines as u64]);
+told!(Trace, a => [a.start as u64, a.block as u64, a.bytes as u64, a.count as u64, u64::from(a.code)]);
+told!(Count, a => [a.count as u64]);
+told!(Text, a => [u64::from(a.found), a.key as u64, a.letters as u64, a.value as u64, a.size as u64]);
+told!(Keyword, a => [u64::from(a.found)]);
+told!(Value, a => [a.start as u64, a.size as u64]);
+told!(Number, a => [u64::from(a.minus), signed(a.power), a.coefficient]);
+told!(Double, a => [a.value.to_bits()]);
+told!(Location, a => [u64::from(a.count), a.x.to_bits(), a.y.to_bits(), a.z.to_bits()]);
+told!(Length, a => [a.length as u64]);

@@ -1,0 +1,192 @@
+//! The calls, and the archive as Rust calls it.
+
+use crate::answer::Answer;
+use crate::lent::Lent;
+use seg2::raw;
+use std::mem::{offset_of, MaybeUninit};
+
+/// A call of an exported function. What is lent, keyword and sheet included, stands
+/// in [`Lent`] and [`crate::lent::Memory`]; `length` is the length beside the buffer.
+#[derive(Clone, Copy, Debug, PartialEq, Eq)]
+pub enum Call {
+    Check,
+    FileBlock,
+    TraceBlock { trace: i32 },
+    StringCount { part: i32 },
+    String { part: i32, index: usize },
+    Keyword { part: i32 },
+    Value { part: i32 },
+    Number { part: i32 },
+    Double { part: i32 },
+    Location { part: i32 },
+    Integers { trace: i32 },
+    Bits { trace: i32 },
+    Start { order: u32, slots: u32 },
+    AddIntegers { code: u32 },
+    AddBits { code: u32 },
+}
+
+impl Call {
+    /// Which exported function it is.
+    pub fn name(&self) -> &'static str {
+        match self {
+            Call::Check => "check",
+            Call::FileBlock => "file_block",
+            Call::TraceBlock { .. } => "trace_block",
+            Call::StringCount { .. } => "string_count",
+            Call::String { .. } => "string",
+            Call::Keyword { .. } => "keyword",
+            Call::Value { .. } => "value",
+            Call::Number { .. } => "number",
+            Call::Double { .. } => "double",
+            Call::Location { .. } => "location",
+            Call::Integers { .. } => "integers",
+            Call::Bits { .. } => "bits",
+            Call::Start { .. } => "start",
+            Call::AddIntegers { .. } => "add_integers",
+            Call::AddBits { .. } => "add_bits",
+        }
+    }
+}
+
+/// Whoever answers calls: the archive, or the archive with a fault.
+pub trait Library {
+    fn call(&self, call: Call, length: usize, lent: &mut Lent) -> Answer;
+}
+
+/// The proved archive.
+pub struct Archive;
+
+/// Where each lent piece stands, with its size.
+pub struct Places {
+    pub buffer: (*mut u8, usize),
+    pub key: (*mut u8, usize),
+    pub sheet: (*mut u8, usize),
+    pub integers: (*mut i32, usize),
+    pub patterns: (*mut u64, usize),
+    pub classes: (*mut u8, usize),
+}
+
+impl Library for Archive {
+    fn call(&self, call: Call, length: usize, lent: &mut Lent) -> Answer {
+        let places = Places {
+            buffer: lent.buffer.place(),
+            key: lent.key.place(),
+            sheet: lent.sheet.place(),
+            integers: lent.integers.place(),
+            patterns: lent.patterns.place(),
+            classes: lent.classes.place(),
+        };
+        // SAFETY: each piece lives through the call, and no two overlap.
+        unsafe { Archive::call_at(call, length, &places, &mut lent.beside_answer) }
+    }
+}
+
+impl Archive {
+    /// The call with its lent pieces where they are told.
+    ///
+    /// # Safety
+    ///
+    /// Each pointer leads to as many elements as the size beside it, all of them free to
+    /// be read and written through the call, and no two pieces overlap.
+    pub unsafe fn call_at(call: Call, length: usize, places: &Places, beside: &mut bool) -> Answer {
+        let (buffer, size) = places.buffer;
+        let (key, letters) = places.key;
+        let (sheet, lines) = places.sheet;
+        let (integers, ints) = places.integers;
+        let (patterns, bits) = places.patterns;
+        let (classes, count) = places.classes;
+        // SAFETY: as the caller promises.
+        unsafe {
+            match call {
+                Call::Check => raw::seg2_check(buffer, size, length).into(),
+                Call::FileBlock => answered(beside, |answer| {
+                    raw::seg2_file_block(answer, buffer, size, length)
+                }),
+                Call::TraceBlock { trace } => answered(beside, |answer| {
+                    raw::seg2_trace_block(answer, buffer, size, length, trace)
+                }),
+                Call::StringCount { part } => answered(beside, |answer| {
+                    raw::seg2_string_count(answer, buffer, size, length, part)
+                }),
+                Call::String { part, index } => answered(beside, |answer| {
+                    raw::seg2_string(answer, buffer, size, length, part, index)
+                }),
+                Call::Keyword { part } => answered(beside, |answer| {
+                    raw::seg2_keyword(answer, buffer, size, length, part, key, letters)
+                }),
+                Call::Value { part } => answered(beside, |answer| {
+                    raw::seg2_value(answer, buffer, size, length, part, key, letters)
+                }),
+                Call::Number { part } => answered(beside, |answer| {
+                    raw::seg2_number(answer, buffer, size, length, part, key, letters)
+                }),
+                Call::Double { part } => answered(beside, |answer| {
+                    raw::seg2_double(answer, buffer, size, length, part, key, letters)
+                }),
+                Call::Location { part } => answered(beside, |answer| {
+                    raw::seg2_location(answer, buffer, size, length, part, key, letters)
+                }),
+                Call::Integers { trace } => {
+                    raw::seg2_integers(buffer, size, length, trace, integers, ints).into()
+                }
+                Call::Bits { trace } => {
+                    raw::seg2_bits(buffer, size, length, trace, patterns, bits, classes, count)
+                        .into()
+                }
+                Call::Start { order, slots } => answered(beside, |answer| {
+                    raw::seg2_start(answer, buffer, size, order, slots, sheet, lines)
+                }),
+                Call::AddIntegers { code } => answered(beside, |answer| {
+                    raw::seg2_add_integers(
+                        answer, buffer, size, length, sheet, lines, code, integers, ints,
+                    )
+                }),
+                Call::AddBits { code } => answered(beside, |answer| {
+                    raw::seg2_add_bits(
+                        answer, buffer, size, length, sheet, lines, code, patterns, bits,
+                    )
+                }),
+            }
+        }
+    }
+}
+
+/// An answer's place with a pattern around it.
+#[repr(C)]
+struct Around<T> {
+    before: [u64; 4],
+    answer: MaybeUninit<T>,
+    behind: [u64; 4],
+}
+
+const BESIDE: [u64; 4] = [0x5E62_0001, u64::MAX, 0, 0xA5A5_A5A5_A5A5_A5A5];
+
+/// The answer that a call leaves in the place it is given. A field that it does not
+/// write keeps a pattern that no answer has.
+fn answered<T: Into<Answer>>(beside: &mut bool, call: impl FnOnce(*mut T)) -> Answer {
+    let mut around = Around {
+        before: BESIDE,
+        answer: MaybeUninit::<T>::uninit(),
+        behind: BESIDE,
+    };
+    let start = std::ptr::addr_of_mut!(around).cast::<u8>();
+    // SAFETY: the answer's own bytes; the pointer is the whole struct's, so that what is
+    // written beside the answer is seen.
+    unsafe {
+        let place = start.add(offset_of!(Around<T>, answer)).cast::<T>();
+        place.write_bytes(0xEE, 1);
+        call(place);
+        // Every field is an integer or a double, for which any bytes are a value.
+        let answer = place.read();
+        let (before, behind) = (
+            start.cast::<[u64; 4]>().read(),
+            start
+                .add(offset_of!(Around<T>, behind))
+                .cast::<[u64; 4]>()
+                .read(),
+        );
+        *beside |= before != BESIDE || behind != BESIDE;
+        answer.into()
+    }
+}

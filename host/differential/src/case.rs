@@ -1,0 +1,125 @@
+//! Cases: all that a run of calls depends on.
+
+use crate::asking::{ask_all, ask_part};
+use crate::call::{Call, Library};
+use crate::growing::{add, grow};
+use crate::pair::{Difference, Pair, Tally};
+use seg2_reference as reference;
+use seg2_reference::generate::Rng;
+use seg2_reference::Row;
+
+/// A trace as it is given to an addition.
+#[derive(Clone, Debug, PartialEq, Eq)]
+pub struct Given {
+    pub sheet: Vec<u8>,
+    pub code: u32,
+    pub row: Row,
+}
+
+/// Where a growing file begins.
+#[derive(Clone, Debug, PartialEq, Eq)]
+pub enum Base {
+    Start {
+        order: u32,
+        slots: u32,
+        sheet: Vec<u8>,
+    },
+    /// A file or an image without traces, of any maker.
+    Image { image: Vec<u8> },
+}
+
+/// The seed chooses what stands around lent memory, what rows hold before a call, and
+/// what is asked for where there is much of it.
+#[derive(Clone, Debug, PartialEq, Eq)]
+pub struct Case {
+    pub seed: u64,
+    pub kind: Kind,
+}
+
+#[derive(Clone, Debug, PartialEq, Eq)]
+pub enum Kind {
+    /// Every question about a buffer.
+    Asked { buffer: Vec<u8>, length: usize },
+    Started {
+        buffer: Vec<u8>,
+        order: u32,
+        slots: u32,
+        sheet: Vec<u8>,
+    },
+    Added {
+        buffer: Vec<u8>,
+        length: usize,
+        given: Given,
+    },
+    /// A list of additions in a buffer of so many bytes.
+    Grown {
+        base: Base,
+        room: usize,
+        steps: Vec<Given>,
+    },
+}
+
+impl Case {
+    /// All calls of the case on both sides.
+    pub fn compare(&self, library: &dyn Library) -> Result<Tally, Difference> {
+        let mut rng = Rng::new(self.seed);
+        let seed = rng.bits();
+        let mut pair;
+        match &self.kind {
+            Kind::Asked { buffer, length } => {
+                pair = Pair::new(library, seed, buffer);
+                ask_all(&mut pair, *length, &mut rng)?;
+            }
+            Kind::Started {
+                buffer,
+                order,
+                slots,
+                sheet,
+            } => {
+                pair = Pair::new(library, seed, buffer);
+                pair.lend_sheet(sheet);
+                let (order, slots) = (*order, *slots);
+                // A start is given no length.
+                let answer = pair.ask(0, Call::Start { order, slots })?;
+                if answer.number == 0 {
+                    pair.ask(answer.values[0] as usize, Call::Check)?;
+                }
+            }
+            Kind::Added {
+                buffer,
+                length,
+                given,
+            } => {
+                pair = Pair::new(library, seed, buffer);
+                let (answer, _) = add(&mut pair, *length, given)?;
+                if answer.number == 0 {
+                    ask_last(&mut pair, answer.values[0] as usize, &mut rng)?;
+                }
+            }
+            Kind::Grown { base, room, steps } => {
+                let mut buffer = match base {
+                    Base::Start { .. } => Vec::new(),
+                    Base::Image { image } => image.clone(),
+                };
+                buffer.extend(rng.junk(room.saturating_sub(buffer.len())));
+                pair = Pair::new(library, seed, &buffer);
+                grow(&mut pair, base, steps, &mut rng)?;
+            }
+        }
+        Ok(pair.tally)
+    }
+}
+
+/// Every question about the last trace and its file.
+fn ask_last(pair: &mut Pair, length: usize, rng: &mut Rng) -> Result<(), Difference> {
+    pair.ask(length, Call::Check)?;
+    pair.ask(length, Call::FileBlock)?;
+    let Ok(file) = reference::check(&pair.memory().buffer, length) else {
+        return Ok(());
+    };
+    let Some(last) = file.traces.last() else {
+        return Ok(());
+    };
+    let part = i32::from(file.n) - 1;
+    ask_part(pair, length, part, &last.strings, last.s as usize, rng)
+}

@@ -1,0 +1,381 @@
+//! Random cases. The same numbers give the same case on every machine.
+
+use crate::case::{Base, Case, Given, Kind};
+use seg2_reference as reference;
+use seg2_reference::generate::model::{
+    random_code_4, random_code_5, random_i32, AreaModel, End, Float20, SamplesModel, StringModel,
+};
+use seg2_reference::generate::writing::{some_integer, some_pattern};
+use seg2_reference::generate::{
+    damaged, good_sheet, location_case, mutated, number_case, several_damages, sheet_case, Model,
+    Rng, Way, WAYS,
+};
+use seg2_reference::Row;
+
+/// What draws a case.
+pub type Draw = fn(&mut Rng) -> Case;
+
+/// Every kind of case, by its name.
+pub const KINDS: &[(&str, Draw)] = &[
+    ("valid", valid),
+    ("numbers", numbers),
+    ("long rows", long_rows),
+    ("damaged", damaged_in_any_way),
+    ("several damages", damaged_twice),
+    ("mutated", mutated_bytes),
+    ("random bytes", random_bytes),
+    ("image", image),
+    ("start", started),
+    ("addition", added),
+    ("addition to a broken file", added_to_broken),
+    ("growing from a start", grown),
+    ("growing from another maker's file", grown_from_image),
+];
+
+/// The generator of one case of a run: a case can be drawn without those before it.
+pub fn rng_of(seed: u64, case: u64) -> Rng {
+    let mut rng = Rng::new(seed);
+    let start = rng.bits();
+    Rng::new(start.wrapping_add(case.wrapping_mul(0xD1B5_4A32_D192_ED03)))
+}
+
+fn case(rng: &mut Rng, kind: Kind) -> Case {
+    let seed = rng.bits();
+    Case { seed, kind }
+}
+
+fn asked(rng: &mut Rng, buffer: Vec<u8>, length: usize) -> Case {
+    case(rng, Kind::Asked { buffer, length })
+}
+
+fn asked_of(rng: &mut Rng, model: Model) -> Case {
+    let laid = model.lay();
+    asked(rng, laid.buffer, laid.length)
+}
+
+/// Files that keep the rules, with all their freedoms.
+pub fn valid(rng: &mut Rng) -> Case {
+    let model = Model::random(rng);
+    asked_of(rng, model)
+}
+
+/// Values that are numbers and locations, or nearly; a byte changed once in four times.
+pub fn numbers(rng: &mut Rng) -> Case {
+    let mut model = Model::random(rng);
+    model.traces.truncate(4);
+    for part in -1..model.traces.len() as i64 {
+        *model.area_mut(part) = number_area(rng);
+    }
+    let laid = model.lay();
+    let (mut buffer, length) = (laid.buffer, laid.length);
+    if rng.one_in(4) {
+        mutate(rng, &mut buffer);
+    }
+    asked(rng, buffer, length)
+}
+
+fn number_area(rng: &mut Rng) -> AreaModel {
+    let mut strings = Vec::new();
+    for keyword in ["DELAY", "RECEIVER_LOCATION", "SOURCE_LOCATION", "STACK"] {
+        let text = match keyword.ends_with("LOCATION") || rng.one_in(4) {
+            true => location_case(rng).text,
+            false => number_case(rng).text,
+        };
+        let allowed = |c: &u8| matches!(c, 32..=126 | 9);
+        let text: Vec<u8> = text.into_iter().filter(allowed).collect();
+        strings.push(StringModel::new(rng, keyword.into(), vec![text]));
+    }
+    let end = End::Mark(Vec::new());
+    AreaModel { strings, end }
+}
+
+/// Rows long enough for every part of a loop that the compiler widens.
+pub fn long_rows(rng: &mut Rng) -> Case {
+    let mut model = Model::random(rng);
+    model.traces.truncate(3);
+    for trace in &mut model.traces {
+        let count = rng.between(0, 150);
+        trace.samples = match rng.between(1, 5) {
+            1 => SamplesModel::Code1((0..count).map(|_| random_i32(rng) as i16).collect()),
+            2 => SamplesModel::Code2((0..count).map(|_| random_i32(rng)).collect()),
+            3 => SamplesModel::Code3((0..count / 4 * 4).map(|_| float20(rng)).collect()),
+            4 => SamplesModel::Code4((0..count).map(|_| random_code_4(rng)).collect()),
+            _ => SamplesModel::Code5((0..count).map(|_| random_code_5(rng)).collect()),
+        };
+    }
+    asked_of(rng, model)
+}
+
+fn float20(rng: &mut Rng) -> Float20 {
+    let any = rng.between(0, 32_767) as u16;
+    Float20 {
+        exponent: rng.between(0, 15) as u16,
+        minus: rng.one_in(2),
+        magnitude: rng.pick(&[0, 1, 32_767, any]),
+    }
+}
+
+/// A file damaged in one named way.
+pub fn damaged_by(rng: &mut Rng, way: &Way) -> Case {
+    let broken = damaged(rng, way);
+    asked(rng, broken.buffer, broken.length)
+}
+
+fn damaged_in_any_way(rng: &mut Rng) -> Case {
+    let way = &WAYS[rng.between(0, WAYS.len() - 1)];
+    damaged_by(rng, way)
+}
+
+/// Several damages: the first that is met answers.
+pub fn damaged_twice(rng: &mut Rng) -> Case {
+    let broken = several_damages(rng);
+    asked(rng, broken.buffer, broken.length)
+}
+
+/// Bytes of a file changed, put in or taken out.
+pub fn mutated_bytes(rng: &mut Rng) -> Case {
+    let (buffer, length) = mutated(rng);
+    asked(rng, buffer, length)
+}
+
+/// Any bytes; most begin as a file does, or nothing behind row 2 would be met.
+pub fn random_bytes(rng: &mut Rng) -> Case {
+    let size = rng.between(0, 300);
+    let mut buffer = rng.junk(size);
+    let high = rng.one_in(2);
+    if size >= 32 && !rng.one_in(5) {
+        let two = |value: u16| match high {
+            true => value.to_be_bytes(),
+            false => value.to_le_bytes(),
+        };
+        let m = 4 * rng.between(1, 4) as u16;
+        let n = rng.between(1, 2) as u16;
+        buffer[0..2].copy_from_slice(&two(0x3A55));
+        buffer[2..4].copy_from_slice(&two(1));
+        buffer[4..6].copy_from_slice(&two(m));
+        buffer[6..8].copy_from_slice(&two(n));
+        buffer[8..14].copy_from_slice(&[1, 0, 0, 1, 10, 0]);
+    }
+    let near = rng.between(0, 400);
+    let length = rng.pick(&[size, size, size, near]);
+    asked(rng, buffer, length)
+}
+
+/// An image without traces: every question refuses it, by 5.
+pub fn image(rng: &mut Rng) -> Case {
+    let model = Model::image(rng);
+    asked_of(rng, model)
+}
+
+fn mutate(rng: &mut Rng, bytes: &mut Vec<u8>) {
+    if bytes.is_empty() {
+        return;
+    }
+    let at = rng.between(0, bytes.len() - 1);
+    match rng.between(0, 4) {
+        0 => bytes[at] = rng.byte(),
+        1 => bytes[at] ^= 1 << rng.between(0, 7),
+        2 => bytes[at] = rng.pick(b"\n\t 0-.E,A"),
+        3 => bytes.insert(at, rng.pick(b"\n\t a0-.E,A\0")),
+        _ => drop(bytes.remove(at)),
+    }
+}
+
+/// Good, broken, changed, and once in twenty times about as large as allowed.
+fn sheet(rng: &mut Rng) -> Vec<u8> {
+    match rng.between(0, 19) {
+        0 => brimming_sheet(rng),
+        1..=4 => sheet_case(rng).sheet,
+        5..=7 => {
+            let mut sheet = good_sheet(rng).sheet;
+            mutate(rng, &mut sheet);
+            sheet
+        }
+        8 => Vec::new(),
+        _ => good_sheet(rng).sheet,
+    }
+}
+
+/// A sheet whose area comes out at 65,500 bytes, a few less or a few more. With two
+/// lines of a NOTE it depends on the line terminator, too.
+fn brimming_sheet(rng: &mut Rng) -> Vec<u8> {
+    // Offset, "A ", terminator of one or two bytes, end mark.
+    let value = 65_500 - 2 - 2 - 1 - 2 + rng.between(0, 8) - 6;
+    if rng.one_in(2) {
+        return [b"A\t", &vec![b'x'; value][..], b"\n"].concat();
+    }
+    let first = rng.between(0, value - 20);
+    let second = value - 3 - first - rng.between(0, 2);
+    let lines = [first, second].map(|size| vec![b'y'; size]);
+    [b"NOTE\t", &lines[0][..], b"\nNOTE\t", &lines[1], b"\n"].concat()
+}
+
+/// Room for so many bytes, more, one less, or much less.
+fn room_for(rng: &mut Rng, length: usize) -> usize {
+    match rng.between(0, 7) {
+        0 => length - 1,
+        1 => rng.between(0, length),
+        _ => length + rng.pick(&[0, 0, 1, 3, 50]),
+    }
+}
+
+/// A start with good and bad order, slots, sheet and room.
+pub fn started(rng: &mut Rng) -> Case {
+    let order = rng.pick(&[0, 1, 0, 1, 0, 1, 0, 1, 2, u32::MAX]);
+    let slots = match rng.one_in(8) {
+        true => rng.pick(&[0, 16_384, 65_537, u32::MAX]),
+        false => rng.pick(&[1, 1, 2, 7, 50, 16_383]),
+    };
+    let sheet = sheet(rng);
+    let mut trial = vec![0; 32 + 4 * 16_383 + 2 * sheet.len() + 8];
+    let length = reference::start(&mut trial, order, slots.into(), &sheet);
+    let room = room_for(rng, length.unwrap_or(200));
+    let kind = Kind::Started {
+        buffer: rng.junk(room),
+        order,
+        slots,
+        sheet,
+    };
+    case(rng, kind)
+}
+
+/// A trace to add: sheet, code and row good, or one of them not.
+fn given(rng: &mut Rng) -> Given {
+    let good = rng.between(1, 5) as u32;
+    let wrong = rng.pick(&[0, 1, 2, 3, 4, 5, 6, 7, 255, 256 + 1, 256 + 4, u32::MAX]);
+    let count = match rng.one_in(4) {
+        true => rng.between(0, 70),
+        false => rng.pick(&[0, 1, 3, 4, 8, 12, 20]),
+    };
+    let count = match good == 3 && !rng.one_in(8) {
+        true => count / 4 * 4,
+        false => count,
+    };
+    let wild = rng.one_in(6);
+    let row = match good {
+        1..=3 => Row::Integers(
+            (0..count)
+                .map(|_| some_integer(rng, good as u8, wild))
+                .collect(),
+        ),
+        _ => Row::Bits(
+            (0..count)
+                .map(|_| some_pattern(rng, good as u8, wild))
+                .collect(),
+        ),
+    };
+    Given {
+        sheet: sheet(rng),
+        code: if rng.one_in(10) { wrong } else { good },
+        row,
+    }
+}
+
+/// The length after an addition, if there is room enough.
+fn length_with(buffer: &[u8], length: usize, given: &Given) -> Option<usize> {
+    let mut trial = buffer.to_vec();
+    trial.resize(buffer.len() + 2 * given.sheet.len() + 1000, 0);
+    let code = given.code.try_into().unwrap_or(255);
+    match &given.row {
+        Row::Integers(row) => {
+            reference::add_integers(&mut trial, length, &given.sheet, code, row).ok()
+        }
+        Row::Bits(row) => reference::add_bits(&mut trial, length, &given.sheet, code, row).ok(),
+    }
+}
+
+/// An addition to a file or an image of any maker.
+pub fn added(rng: &mut Rng) -> Case {
+    let laid = match rng.one_in(3) {
+        true => Model::image(rng).lay(),
+        false => Model::random(rng).lay(),
+    };
+    let given = given(rng);
+    let length = laid.length;
+    let mut buffer = laid.buffer[..length].to_vec();
+    let room = length_with(&buffer, length, &given).unwrap_or(length + 100);
+    let room = room_for(rng, room).max(length);
+    buffer.extend(rng.junk(room - length));
+    let kind = Kind::Added {
+        buffer,
+        length,
+        given,
+    };
+    case(rng, kind)
+}
+
+/// An addition to what keeps the rules no more: rows 1 to 17 come first.
+pub fn added_to_broken(rng: &mut Rng) -> Case {
+    let (mut buffer, length) = match rng.one_in(2) {
+        true => mutated(rng),
+        false => {
+            let way = &WAYS[rng.between(0, WAYS.len() - 1)];
+            let broken = damaged(rng, way);
+            (broken.buffer, broken.length)
+        }
+    };
+    let more = rng.pick(&[0, 1000, 1000]);
+    buffer.extend(rng.junk(more));
+    let kind = Kind::Added {
+        buffer,
+        length,
+        given: given(rng),
+    };
+    case(rng, kind)
+}
+
+/// A trace that most often can be added.
+fn step(rng: &mut Rng) -> Given {
+    let mut step = given(rng);
+    if !rng.one_in(3) {
+        step.sheet = good_sheet(rng).sheet;
+    }
+    step
+}
+
+fn steps(rng: &mut Rng) -> Vec<Given> {
+    let count = rng.between(1, 7);
+    (0..count).map(|_| step(rng)).collect()
+}
+
+/// Most often room for all, sometimes only for some.
+fn some_room(rng: &mut Rng) -> usize {
+    match rng.one_in(4) {
+        true => rng.between(0, 1500),
+        false => 6000,
+    }
+}
+
+/// A start and a list of additions, refused ones in between.
+pub fn grown(rng: &mut Rng) -> Case {
+    let base = Base::Start {
+        order: rng.between(0, 1) as u32,
+        slots: rng.between(1, 7) as u32,
+        sheet: good_sheet(rng).sheet,
+    };
+    let kind = Kind::Grown {
+        base,
+        room: some_room(rng),
+        steps: steps(rng),
+    };
+    case(rng, kind)
+}
+
+/// The same on another maker's file or image.
+pub fn grown_from_image(rng: &mut Rng) -> Case {
+    let mut model = match rng.one_in(3) {
+        true => Model::image(rng),
+        false => Model::random(rng),
+    };
+    model.traces.truncate(5);
+    let laid = model.lay();
+    let room = laid.length + some_room(rng);
+    let kind = Kind::Grown {
+        base: Base::Image {
+            image: laid.buffer[..laid.length].to_vec(),
+        },
+        room,
+        steps: steps(rng),
+    };
+    case(rng, kind)
+}

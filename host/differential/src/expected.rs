@@ -1,0 +1,154 @@
+//! The same calls answered by the reference.
+
+use crate::answer::{signed, Answer};
+use crate::call::Call;
+use crate::lent::Memory;
+use seg2_reference as reference;
+use seg2_reference::{Order, Refusal, StringPlace};
+
+/// The reference's answer, and the memory after it.
+pub fn expected(call: Call, length: usize, memory: &mut Memory) -> Answer {
+    let Memory {
+        buffer,
+        key,
+        sheet,
+        integers,
+        patterns,
+        classes,
+    } = memory;
+    match call {
+        Call::Check => told(reference::check(buffer, length), |_| Answer::good([])),
+        Call::FileBlock => told(reference::file_block(buffer, length), file_block),
+        Call::TraceBlock { trace } => told(
+            reference::trace_block(buffer, length, trace.into()),
+            trace_block,
+        ),
+        Call::StringCount { part } => told(
+            reference::string_count(buffer, length, part.into()),
+            |count| Answer::good([count as u64]),
+        ),
+        Call::String { part, index } => told(
+            reference::string(buffer, length, part.into(), index),
+            string,
+        ),
+        Call::Keyword { part } => told(
+            reference::keyword(buffer, length, part.into(), key),
+            |found| Answer::good([u64::from(found)]),
+        ),
+        Call::Value { part } => {
+            // The value's own call answers a range for a refusal too: the refusal is the
+            // yes-or-no call's.
+            let value = reference::keyword_value(buffer, length, part.into(), key);
+            let asked = reference::keyword(buffer, length, part.into(), key);
+            let (start, size) = (value.start as u64, value.len() as u64);
+            told(asked, |_| Answer::good([start, size]))
+        }
+        Call::Number { part } => of_value(buffer, length, part, key, |text| {
+            told(reference::number(text), |number| {
+                Answer::good([
+                    u64::from(number.minus),
+                    signed(number.power),
+                    number.coefficient,
+                ])
+            })
+        }),
+        Call::Double { part } => of_value(buffer, length, part, key, |text| {
+            told(reference::double(text), |value| {
+                Answer::good([value.to_bits()])
+            })
+        }),
+        Call::Location { part } => of_value(buffer, length, part, key, |text| {
+            told(reference::location(text), |l| {
+                let [x, y, z] = [l.x, l.y, l.z].map(f64::to_bits);
+                Answer::good([u64::from(l.count), x, y, z])
+            })
+        }),
+        Call::Integers { trace } => told(
+            reference::samples_as_integers(buffer, length, trace.into(), integers),
+            |()| Answer::good([]),
+        ),
+        Call::Bits { trace } => told(
+            reference::samples_as_bits(buffer, length, trace.into(), patterns, classes),
+            |()| Answer::good([]),
+        ),
+        Call::Start { order, slots } => told(
+            reference::start(buffer, order, slots.into(), sheet),
+            new_length,
+        ),
+        Call::AddIntegers { code } => told(
+            reference::add_integers(buffer, length, sheet, narrow(code), integers),
+            new_length,
+        ),
+        Call::AddBits { code } => told(
+            reference::add_bits(buffer, length, sheet, narrow(code), patterns),
+            new_length,
+        ),
+    }
+}
+
+fn told<T>(answer: Result<T, Refusal>, good: impl FnOnce(T) -> Answer) -> Answer {
+    match answer {
+        Ok(value) => good(value),
+        Err(refusal) => Answer::refused(
+            u32::from(refusal.number),
+            i32::try_from(refusal.part).expect("a part of 32 bits"),
+            usize::try_from(refusal.place).expect("a place in a buffer"),
+        ),
+    }
+}
+
+fn file_block(block: reference::FileBlock) -> Answer {
+    Answer::good([
+        u64::from(block.order == Order::High),
+        u64::from(block.m),
+        u64::from(block.n),
+        block.string_terminator.len() as u64,
+        block.line_terminator.len() as u64,
+    ])
+}
+
+fn trace_block(trace: reference::Trace) -> Answer {
+    Answer::good([
+        u64::from(trace.p),
+        u64::from(trace.b),
+        u64::from(trace.d),
+        u64::from(trace.s),
+        u64::from(trace.code),
+    ])
+}
+
+fn string(string: Option<StringPlace>) -> Answer {
+    let Some(StringPlace { keyword, value }) = string else {
+        return Answer::good([]);
+    };
+    Answer::good([
+        1,
+        keyword.start as u64,
+        keyword.len() as u64,
+        value.start as u64,
+        value.len() as u64,
+    ])
+}
+
+fn new_length(length: usize) -> Answer {
+    Answer::good([length as u64])
+}
+
+/// What the value's text answers. An absent keyword's text is empty: that is no number
+/// (20) and no location (23).
+fn of_value(
+    buffer: &[u8],
+    length: usize,
+    part: i32,
+    key: &[u8],
+    answer: impl FnOnce(&[u8]) -> Answer,
+) -> Answer {
+    let asked = reference::keyword(buffer, length, part.into(), key);
+    let value = reference::keyword_value(buffer, length, part.into(), key);
+    told(asked, |_| answer(&buffer[value]))
+}
+
+/// The reference takes codes of 8 bits: a wider one is as little a code as 255 is.
+fn narrow(code: u32) -> u8 {
+    u8::try_from(code).unwrap_or(255)
+}

@@ -1,0 +1,276 @@
+//! Files that grow: a start or another maker's file, and a list of additions.
+//!
+//! After each call the buffer has to be, byte for byte, the file that the list so far
+//! defines; after each addition every earlier string and sample is read back.
+
+use crate::answer::Answer;
+use crate::asking::lend_rows;
+use crate::call::Call;
+use crate::case::{Base, Given};
+use crate::pair::{Difference, Pair};
+use seg2_reference as reference;
+use seg2_reference::generate::Rng;
+use seg2_reference::sheet::sheet_strings;
+use seg2_reference::{Row, StringPlace, TraceGiven};
+
+/// What a part has to read as.
+struct Told {
+    /// Keywords and values.
+    strings: Vec<(Vec<u8>, Vec<u8>)>,
+    /// None for the file itself.
+    samples: Option<Row>,
+}
+
+/// Runs the additions on a buffer that the pair already holds; an image of another
+/// maker stands in it.
+pub fn grow(
+    pair: &mut Pair,
+    base: &Base,
+    steps: &[Given],
+    rng: &mut Rng,
+) -> Result<(), Difference> {
+    let (mut length, mut told) = match base {
+        Base::Start {
+            order,
+            slots,
+            sheet,
+        } => {
+            pair.lend_sheet(sheet);
+            let (order, slots) = (*order, *slots);
+            let call = Call::Start { order, slots };
+            let answer = pair.ask(0, call)?;
+            if answer.number != 0 {
+                return Ok(());
+            }
+            let length = answer.values[0] as usize;
+            let strings = strings_of(sheet, b"\n");
+            let samples = None;
+            (length, vec![Told { strings, samples }])
+        }
+        Base::Image { image } => (image.len(), read_image(pair, image.len(), rng)?),
+    };
+    let line = line_terminator(&pair.memory().buffer);
+    let mut list = Vec::new();
+    for step in steps {
+        let before = pair.memory().buffer.clone();
+        let (answer, call) = add(pair, length, step)?;
+        if answer.number == 0 {
+            let new_length = answer.values[0] as usize;
+            only_named_bytes(pair, &before, length, new_length, call)?;
+            length = new_length;
+            list.push(TraceGiven {
+                sheet: step.sheet.clone(),
+                code: step.code as u8,
+                row: step.row.clone(),
+            });
+            told.push(Told {
+                strings: strings_of(&step.sheet, &line),
+                samples: Some(kept(step)),
+            });
+        }
+        if let Base::Start {
+            order,
+            slots,
+            sheet,
+        } = base
+        {
+            let defined = reference::file_of(*order, u64::from(*slots), sheet, &list);
+            if defined.as_deref() != Ok(&pair.memory().buffer[..length]) {
+                let what = format!("not the file of the {} traces so far", list.len());
+                return Err(pair.differs(length, call, what));
+            }
+        }
+        read_back(pair, length, &told, rng)?;
+    }
+    Ok(())
+}
+
+/// One addition on both sides.
+pub fn add(pair: &mut Pair, length: usize, given: &Given) -> Result<(Answer, Call), Difference> {
+    pair.lend_sheet(&given.sheet);
+    let code = given.code;
+    let call = match &given.row {
+        Row::Integers(row) => {
+            pair.lend_integers(row);
+            Call::AddIntegers { code }
+        }
+        Row::Bits(row) => {
+            pair.lend_patterns(row);
+            Call::AddBits { code }
+        }
+    };
+    Ok((pair.ask(length, call)?, call))
+}
+
+/// An addition changes N's two bytes, the first free slot and what lies from the old
+/// end to the new one. Said of the bytes alone, beside the reference's own writer.
+fn only_named_bytes(
+    pair: &Pair,
+    before: &[u8],
+    length: usize,
+    new_length: usize,
+    call: Call,
+) -> Result<(), Difference> {
+    let n = match before[0] {
+        0x55 => u16::from_le_bytes([before[6], before[7]]),
+        _ => u16::from_be_bytes([before[6], before[7]]),
+    };
+    let slot = 32 + 4 * usize::from(n);
+    let mut restored = pair.memory().buffer.clone();
+    for named in [6..8, slot..slot + 4, length..new_length] {
+        restored[named.clone()].copy_from_slice(&before[named]);
+    }
+    match restored == before {
+        true => Ok(()),
+        false => Err(pair.differs(length, call, "changed more than it may".into())),
+    }
+}
+
+/// The keywords and values of a sheet's strings.
+fn strings_of(sheet: &[u8], line_terminator: &[u8]) -> Vec<(Vec<u8>, Vec<u8>)> {
+    let strings = sheet_strings(sheet).unwrap_or_default();
+    strings
+        .into_iter()
+        .map(|s| (s.keyword, s.lines.join(line_terminator)))
+        .collect()
+}
+
+/// None where the buffer is too short for one: then nothing can be added.
+fn line_terminator(buffer: &[u8]) -> Vec<u8> {
+    match buffer.get(11..14) {
+        Some(&[1, c, _]) => vec![c],
+        Some(&[_, c, d]) => vec![c, d],
+        _ => Vec::new(),
+    }
+}
+
+/// What is kept of given samples: under code 3 "low bits are cut toward zero" until 15
+/// are left.
+fn kept(given: &Given) -> Row {
+    let Row::Integers(row) = &given.row else {
+        return given.row.clone();
+    };
+    if given.code != 3 {
+        return given.row.clone();
+    }
+    let cut = |&sample: &i32| {
+        let exponent = 17_u32.saturating_sub(sample.unsigned_abs().leading_zeros());
+        let magnitude = (sample.unsigned_abs() >> exponent << exponent) as i32;
+        magnitude * sample.signum()
+    };
+    Row::Integers(row.iter().map(cut).collect())
+}
+
+/// What another maker's image says before the first addition. The reader refuses an
+/// image without traces; then the check of an addition tells its strings.
+fn read_image(pair: &mut Pair, length: usize, rng: &mut Rng) -> Result<Vec<Told>, Difference> {
+    pair.ask(length, Call::Check)?;
+    let buffer = pair.memory().buffer.clone();
+    let Ok(file) = reference::check_for_addition(&buffer, length) else {
+        return Ok(vec![]);
+    };
+    let texts = |strings: &[StringPlace]| {
+        let text = |s: &StringPlace| {
+            let [key, value] = [&s.keyword, &s.value].map(|range| buffer[range.clone()].to_vec());
+            (key, value)
+        };
+        strings.iter().map(text).collect::<Vec<_>>()
+    };
+    let mut told = vec![Told {
+        strings: texts(&file.strings),
+        samples: None,
+    }];
+    for (k, trace) in file.traces.iter().enumerate() {
+        let (strings, code) = (texts(&trace.strings), trace.code);
+        let samples = read_samples(pair, length, k as i32, code.into(), trace.s as usize, rng)?;
+        told.push(Told {
+            strings,
+            samples: Some(samples),
+        });
+    }
+    Ok(told)
+}
+
+/// A trace's samples through the archive.
+fn read_samples(
+    pair: &mut Pair,
+    length: usize,
+    trace: i32,
+    code: u64,
+    count: usize,
+    rng: &mut Rng,
+) -> Result<Row, Difference> {
+    lend_rows(pair, count, count, rng);
+    Ok(match code {
+        1..=3 => {
+            pair.ask(length, Call::Integers { trace })?;
+            Row::Integers(pair.memory().integers.clone())
+        }
+        _ => {
+            pair.ask(length, Call::Bits { trace })?;
+            Row::Bits(pair.memory().patterns.clone())
+        }
+    })
+}
+
+/// Every string and every sample as they were given or stood before.
+fn read_back(
+    pair: &mut Pair,
+    length: usize,
+    told: &[Told],
+    rng: &mut Rng,
+) -> Result<(), Difference> {
+    if told.len() < 2 {
+        // Without a trace the reader refuses, by 5.
+        pair.ask(length, Call::Check)?;
+        return Ok(());
+    }
+    for (i, expected) in told.iter().enumerate() {
+        let part = i as i32 - 1;
+        let call = Call::StringCount { part };
+        let count = pair.ask(length, call)?;
+        if count != Answer::good([expected.strings.len() as u64]) {
+            let what = format!("{count:?} for {} strings", expected.strings.len());
+            return Err(pair.differs(length, call, what));
+        }
+        for (index, (key, value)) in expected.strings.iter().enumerate() {
+            read_string(pair, length, part, index, key, value)?;
+        }
+        let Some(samples) = &expected.samples else {
+            continue;
+        };
+        let call = Call::TraceBlock { trace: part };
+        let block = pair.ask(length, call)?;
+        let (count, code) = (block.values[3] as usize, block.values[4]);
+        let read = read_samples(pair, length, part, code, count, rng)?;
+        if &read != samples {
+            let what = format!("read {read:?}, given {samples:?}");
+            return Err(pair.differs(length, call, what));
+        }
+    }
+    Ok(())
+}
+
+/// A string by its index, and its value by its keyword.
+fn read_string(
+    pair: &mut Pair,
+    length: usize,
+    part: i32,
+    index: usize,
+    key: &[u8],
+    value: &[u8],
+) -> Result<(), Difference> {
+    let call = Call::String { part, index };
+    let [found, at, letters, start, size] = pair.ask(length, call)?.values.map(|v| v as usize);
+    pair.lend_key(key);
+    let same = pair.ask(length, Call::Value { part })?;
+    let buffer = &pair.memory().buffer;
+    let right = found == 1
+        && &buffer[at..at + letters] == key
+        && &buffer[start..start + size] == value
+        && same == Answer::good([start as u64, size as u64]);
+    match right {
+        true => Ok(()),
+        false => Err(pair.differs(length, call, "another string than was given".into())),
+    }
+}

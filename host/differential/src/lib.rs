@@ -1,0 +1,41 @@
+//! The proved archive beside the independent reader and writer.
+//!
+//! One comparison serves the tests and the fuzzer. A [`Case`] is all that a run of
+//! calls depends on, so it can be saved and run again. Each call goes to the archive
+//! and to the reference; compared are the whole answer (doubles by their bits), all
+//! lent memory, and a pattern before and behind each lent piece.
+//!
+//! - [`answer`]: the answers in one form.
+//! - [`lent`]: lent memory inside larger pieces.
+//! - [`call`]: the calls, and the archive as Rust calls it.
+//! - [`expected`]: the same calls answered by the reference.
+//! - [`pair`]: both beside each other.
+//! - [`asking`], [`growing`]: every question about a buffer; files that grow.
+//! - [`case`], [`text`]: cases, and cases as text.
+//! - [`draw`]: random cases.
+//! - [`run`]: many cases from a seed.
+//! - [`shrink`]: a smaller case with a difference.
+//! - `guarded`: lent memory beside pages that cannot be touched (Linux).
+//! - [`spoiled`]: libraries with one fault, which the comparison has to notice.
+
+pub mod answer;
+pub mod asking;
+pub mod call;
+pub mod case;
+pub mod draw;
+pub mod expected;
+pub mod growing;
+#[cfg(target_os = "linux")]
+pub mod guarded;
+pub mod lent;
+pub mod pair;
+pub mod run;
+pub mod shrink;
+pub mod spoiled;
+pub mod text;
+
+pub use answer::Answer;
+pub use call::{Archive, Call, Library};
+pub use case::Case;
+pub use pair::{Difference, Pair, Tally};
+pub use run::all_alike;

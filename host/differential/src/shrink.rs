@@ -1,0 +1,208 @@
+//! A smaller case that still shows a difference.
+
+use crate::call::Library;
+use crate::case::{Base, Case, Given, Kind};
+use seg2_reference::Row;
+use std::time::{Duration, Instant};
+
+/// Takes bytes, samples, lines and traces away and sets bytes to zero as long as a
+/// difference stays, for so long at most.
+pub fn shrunk(case: &Case, library: &dyn Library, most: Duration) -> Case {
+    let began = Instant::now();
+    let differs = |case: &Case| case.compare(library).is_err();
+    let mut best = case.clone();
+    loop {
+        let smaller = candidates(&best)
+            .into_iter()
+            .take_while(|_| began.elapsed() < most)
+            .find(differs);
+        match smaller {
+            Some(case) => best = case,
+            None => return best,
+        }
+    }
+}
+
+/// Simpler cases, the boldest first. Each has less in it than the case, so there is an
+/// end.
+fn candidates(case: &Case) -> Vec<Case> {
+    let kinds = match &case.kind {
+        Kind::Asked { buffer, length } => file_candidates(buffer, *length, |buffer, length| {
+            Kind::Asked { buffer, length }
+        }),
+        Kind::Started {
+            buffer,
+            order,
+            slots,
+            sheet,
+        } => {
+            let (order, slots) = (*order, *slots);
+            let start = |buffer: &[u8], sheet: &[u8]| Kind::Started {
+                buffer: buffer.to_vec(),
+                order,
+                slots,
+                sheet: sheet.to_vec(),
+            };
+            let sheets = simpler(sheet).into_iter();
+            let buffers = simpler(buffer).into_iter();
+            sheets
+                .map(|sheet| start(buffer, &sheet))
+                .chain(buffers.map(|buffer| start(&buffer, sheet)))
+                .collect()
+        }
+        Kind::Added {
+            buffer,
+            length,
+            given,
+        } => {
+            let given_first = given_candidates(given)
+                .into_iter()
+                .map(|given| Kind::Added {
+                    buffer: buffer.clone(),
+                    length: *length,
+                    given,
+                });
+            let files = file_candidates(buffer, *length, |buffer, length| Kind::Added {
+                buffer,
+                length,
+                given: given.clone(),
+            });
+            given_first.chain(files).collect()
+        }
+        Kind::Grown { base, room, steps } => {
+            let with = |base: &Base, room: usize, steps: Vec<Given>| Kind::Grown {
+                base: base.clone(),
+                room,
+                steps,
+            };
+            let mut kinds: Vec<Kind> = parts_away(steps)
+                .into_iter()
+                .map(|steps| with(base, *room, steps))
+                .collect();
+            for (i, step) in steps.iter().enumerate() {
+                for smaller in given_candidates(step) {
+                    let mut steps = steps.clone();
+                    steps[i] = smaller;
+                    kinds.push(with(base, *room, steps));
+                }
+            }
+            for base in base_candidates(base) {
+                kinds.push(with(&base, *room, steps.clone()));
+            }
+            for less in [room / 2, room.saturating_sub(1)] {
+                if less < *room {
+                    kinds.push(with(base, less, steps.clone()));
+                }
+            }
+            kinds
+        }
+    };
+    let seed = case.seed;
+    kinds.into_iter().map(|kind| Case { seed, kind }).collect()
+}
+
+/// One trace less, and then bytes away or zero; the length goes with the bytes.
+fn file_candidates(
+    buffer: &[u8],
+    length: usize,
+    kind: impl Fn(Vec<u8>, usize) -> Kind,
+) -> Vec<Kind> {
+    let mut kinds = Vec::new();
+    if let Some(fewer) = one_trace_less(buffer) {
+        kinds.push(kind(fewer, length));
+    }
+    for bytes in simpler(buffer) {
+        let away = buffer.len() - bytes.len();
+        if away > 0 && length <= buffer.len() {
+            kinds.push(kind(bytes.clone(), length.saturating_sub(away)));
+        }
+        kinds.push(kind(bytes, length));
+    }
+    kinds
+}
+
+/// N one less: the last trace becomes bytes that nothing names.
+fn one_trace_less(buffer: &[u8]) -> Option<Vec<u8>> {
+    let low = match buffer.first()? {
+        0x55 => 6,
+        _ => 7,
+    };
+    let mut fewer = buffer.to_vec();
+    let n = fewer.get_mut(low)?;
+    *n = n.checked_sub(1)?;
+    Some(fewer)
+}
+
+fn base_candidates(base: &Base) -> Vec<Base> {
+    match base {
+        Base::Start {
+            order,
+            slots,
+            sheet,
+        } => simpler(sheet)
+            .into_iter()
+            .map(|sheet| Base::Start {
+                order: *order,
+                slots: *slots,
+                sheet,
+            })
+            .collect(),
+        Base::Image { image } => simpler(image)
+            .into_iter()
+            .map(|image| Base::Image { image })
+            .collect(),
+    }
+}
+
+fn given_candidates(given: &Given) -> Vec<Given> {
+    let mut all = Vec::new();
+    for sheet in simpler(&given.sheet) {
+        all.push(Given {
+            sheet,
+            ..given.clone()
+        });
+    }
+    let rows: Vec<Row> = match &given.row {
+        Row::Integers(row) => simpler(row).into_iter().map(Row::Integers).collect(),
+        Row::Bits(row) => simpler(row).into_iter().map(Row::Bits).collect(),
+    };
+    for row in rows {
+        all.push(Given {
+            row,
+            ..given.clone()
+        });
+    }
+    all
+}
+
+/// Parts away, then parts zero.
+fn simpler<T: Clone + Default + PartialEq>(row: &[T]) -> Vec<Vec<T>> {
+    let mut all = parts_away(row);
+    let zero = T::default();
+    for (start, end) in parts(row.len()) {
+        if row[start..end].iter().any(|value| *value != zero) {
+            let mut zeroed = row.to_vec();
+            zeroed[start..end].fill(zero.clone());
+            all.push(zeroed);
+        }
+    }
+    all
+}
+
+fn parts_away<T: Clone>(row: &[T]) -> Vec<Vec<T>> {
+    let without = |(start, end): (usize, usize)| [&row[..start], &row[end..]].concat();
+    parts(row.len()).into_iter().map(without).collect()
+}
+
+/// All of it, halves, quarters and so on; single ones only where there are few.
+fn parts(size: usize) -> Vec<(usize, usize)> {
+    let mut all = Vec::new();
+    let mut step = size;
+    while step > 0 && size / step <= 512 {
+        for start in (0..size).step_by(step) {
+            all.push((start, (start + step).min(size)));
+        }
+        step /= 2;
+    }
+    all
+}

@@ -1,0 +1,114 @@
+//! Document 01's worked values, through the archive alone.
+
+use seg2_differential::case::Given;
+use seg2_differential::growing::add;
+use seg2_differential::{Answer, Archive, Call, Pair};
+use seg2_reference::Row;
+
+/// The listing program's example, as the two writers make it.
+#[test]
+fn the_file_of_108_bytes() {
+    let mut pair = Pair::new(&Archive, 1, &[7; 120]);
+    pair.lend_sheet(b"UNITS\tMETERS\n");
+    let start = Call::Start { order: 0, slots: 1 };
+    assert_eq!(pair.ask(0, start), Ok(Answer::good([56])));
+    let given = Given {
+        sheet: b"STACK\t1\n".to_vec(),
+        code: 1,
+        row: Row::Integers(vec![1, -1, 256]),
+    };
+    let (answer, _) = add(&mut pair, 56, &given).expect("alike");
+    assert_eq!(answer, Answer::good([108]));
+    let file_block = pair.ask(108, Call::FileBlock);
+    assert_eq!(file_block, Ok(Answer::good([0, 4, 1, 1, 1])));
+    let trace_block = pair.ask(108, Call::TraceBlock { trace: 0 });
+    assert_eq!(trace_block, Ok(Answer::good([56, 44, 8, 3, 1])));
+    pair.lend_integers(&[7; 3]);
+    let integers = pair.ask(108, Call::Integers { trace: 0 });
+    assert_eq!(integers, Ok(Answer::good([])));
+    assert_eq!(pair.memory().integers, [1, -1, 256]);
+    let value = |pair: &mut Pair, part, key: &[u8]| {
+        pair.lend_key(key);
+        let [start, size, ..] = pair.ask(108, Call::Value { part }).expect("alike").values;
+        pair.memory().buffer[start as usize..(start + size) as usize].to_vec()
+    };
+    assert_eq!(value(&mut pair, -1, b"UNITS"), b"METERS");
+    assert_eq!(value(&mut pair, 0, b"STACK"), b"1");
+    assert_eq!(value(&mut pair, 0, b"UNITS"), b"");
+    assert_eq!(pair.memory().buffer[108..], [7; 12]);
+}
+
+/// A file with one trace, whose sheet and integers are given; its length.
+fn file_with<'a>(sheet: &[u8], code: u32, row: &[i32]) -> (Pair<'a>, Answer) {
+    let mut pair = Pair::new(&Archive, 2, &[7; 4_000]);
+    let start = Call::Start { order: 1, slots: 1 };
+    let length = pair.ask(0, start).expect("alike").values[0] as usize;
+    let given = Given {
+        sheet: sheet.to_vec(),
+        code,
+        row: Row::Integers(row.to_vec()),
+    };
+    let (answer, _) = add(&mut pair, length, &given).expect("alike");
+    (pair, answer)
+}
+
+#[test]
+fn numbers() {
+    let asked = |text: &str| {
+        let sheet = format!("DELAY\t{text}\n");
+        let (mut pair, length) = file_with(sheet.as_bytes(), 1, &[]);
+        pair.lend_key(b"DELAY");
+        let length = length.values[0] as usize;
+        let [number, double, location] = [
+            Call::Number { part: 0 },
+            Call::Double { part: 0 },
+            Call::Location { part: 0 },
+        ]
+        .map(|call| pair.ask(length, call).expect("alike"));
+        (number, double, location)
+    };
+    let power = |power: i64| power as u64;
+    assert_eq!(asked("0.020").0, Answer::good([0, power(-3), 20]));
+    assert_eq!(asked("-34.6").0, Answer::good([1, power(-1), 346]));
+    assert_eq!(asked("-34.6").1, Answer::good([(-34.6_f64).to_bits()]));
+    assert_eq!(asked("-2.3E6").0, Answer::good([1, 5, 23]));
+    assert_eq!(asked("0,020").0, Answer::refused(20, -1, 0));
+    assert_eq!(asked("12.").0, Answer::refused(20, -1, 0));
+    assert_eq!(asked("1.345E24").0, Answer::good([0, 21, 1345]));
+    assert_eq!(asked("1.345E24").1, Answer::refused(22, -1, 0));
+    assert_eq!(asked("1 2").2, Answer::refused(23, -1, 0));
+    assert_eq!(asked("1 2 x").2, Answer::refused(20, -1, 4));
+    let [x, y, z] = [1.0_f64, -2.5, 3.0].map(f64::to_bits);
+    assert_eq!(asked("1 -2.5  3").2, Answer::good([3, x, y, z]));
+    // An absent keyword: no number, no location.
+    let (mut pair, length) = file_with(b"", 1, &[]);
+    let length = length.values[0] as usize;
+    pair.lend_key(b"DELAY");
+    for (call, number) in [
+        (Call::Number { part: 0 }, 20),
+        (Call::Double { part: 0 }, 20),
+        (Call::Location { part: 0 }, 23),
+    ] {
+        assert_eq!(pair.ask(length, call), Ok(Answer::refused(number, -1, 0)));
+    }
+}
+
+#[test]
+fn code_3() {
+    let read = |samples: [i32; 4]| {
+        let (mut pair, answer) = file_with(b"", 3, &samples);
+        if answer.number != 0 {
+            return Err(answer);
+        }
+        pair.lend_integers(&[7; 4]);
+        let length = answer.values[0] as usize;
+        let asked = pair.ask(length, Call::Integers { trace: 0 });
+        assert_eq!(asked, Ok(Answer::good([])));
+        Ok(pair.memory().integers.clone())
+    };
+    let given = [100_000, -32_769, 1_073_741_823, 0];
+    let kept = vec![100_000, -32_768, 1_073_709_056, 0];
+    assert_eq!(read(given), Ok(kept));
+    let over = read([0, 0, 1_073_741_824, 0]);
+    assert_eq!(over, Err(Answer::refused(29, -1, 2)));
+}

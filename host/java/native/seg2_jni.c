@@ -1,0 +1,322 @@
+/* The native side of wasinthao.seg2.Seg2: each function takes what Java lends, calls its namesake of seg2.h, and hands the answer back as a row of
+ * longs: number, part, place, then the answer's fields in the header's order (doubles as their bits).
+ *
+ * The Java side has looked at what it was given. Here stands what only this side can see: that memory can be reached, is aligned, does not overlap,
+ * and that no size goes past what there is. What is not so becomes an IllegalArgumentException before the library is called. An exception that the
+ * machine raises (no memory for an array's copy) stays pending and is Java's to meet. There is no state. */
+#include <jni.h>
+#include <stdbool.h>
+#include <stdint.h>
+#include <string.h>
+
+#include "seg2.h"
+
+_Static_assert(sizeof(size_t) == 8, "size_t has 64 bits: the library is for 64-bit machines");
+_Static_assert(sizeof(jint) == sizeof(int32_t) && sizeof(jlong) == sizeof(uint64_t) && sizeof(jbyte) == 1, "Java's numbers are the library's");
+
+#define NATIVE(type, name) JNIEXPORT type JNICALL Java_wasinthao_seg2_Seg2_##name
+#define UNUSED __attribute__((unused))
+
+static void misuse(JNIEnv *env, const char *sentence) {
+    jclass kind = (*env)->FindClass(env, "java/lang/IllegalArgumentException");
+    if (kind != NULL) { /* else FindClass has left an exception of its own */
+        (*env)->ThrowNew(env, kind, sentence);
+    }
+}
+
+/* ---- what Java lends */
+
+typedef struct lent {
+    void *at;
+    size_t size; /* in bytes */
+} lent;
+
+/* An address for memory of no bytes, which has to be none but null. Nothing is read or written there. */
+static const uint64_t nowhere = 0;
+
+/* The first `count` elements, of `width` bytes each, of a direct buffer. */
+static bool direct(JNIEnv *env, jobject buffer, jint count, size_t width, lent *l) {
+    void *at = buffer == NULL ? NULL : (*env)->GetDirectBufferAddress(env, buffer);
+    jlong capacity = buffer == NULL ? -1 : (*env)->GetDirectBufferCapacity(env, buffer);
+    if (count < 0 || capacity < count || (at == NULL && count > 0)) {
+        misuse(env, "the memory of a direct buffer cannot be reached, or it has less than its limit says");
+        return false;
+    }
+    if ((uintptr_t)at % width != 0) {
+        misuse(env, "a row does not start at a multiple of its element's size in memory");
+        return false;
+    }
+    l->at = at == NULL ? (void *)(uintptr_t)&nowhere : at;
+    l->size = (size_t)count * width;
+    return true;
+}
+
+/* What is written may be nothing else that is lent. */
+static bool apart(JNIEnv *env, lent a, lent b) {
+    uintptr_t x = (uintptr_t)a.at, y = (uintptr_t)b.at;
+    if (a.size > 0 && b.size > 0 && x < y + b.size && y < x + a.size) {
+        misuse(env, "the row lies in the buffer's own memory");
+        return false;
+    }
+    return true;
+}
+
+/* The bytes of a keyword or a sheet; to be given back by `returned`. */
+static bool bytes(JNIEnv *env, jbyteArray array, lent *l) {
+    if (array == NULL) {
+        misuse(env, "a keyword or sheet is null");
+        return false;
+    }
+    l->size = (size_t)(*env)->GetArrayLength(env, array);
+    l->at = (*env)->GetByteArrayElements(env, array, NULL);
+    return l->at != NULL;
+}
+
+static void returned(JNIEnv *env, jbyteArray array, lent l) {
+    (*env)->ReleaseByteArrayElements(env, array, l.at, JNI_ABORT); /* it was only read */
+}
+
+/* ---- what Java gets */
+
+/* Whether the row for the answer has exactly so many places; asked before the library is called, so that no answer is lost. */
+static bool places(JNIEnv *env, jlongArray answer, jsize count) {
+    if (answer == NULL || (*env)->GetArrayLength(env, answer) != count) {
+        misuse(env, "the row for the answer has another length");
+        return false;
+    }
+    return true;
+}
+
+static void tell(JNIEnv *env, jlongArray answer, const jlong *values, jsize count) {
+    (*env)->SetLongArrayRegion(env, answer, 0, count, values);
+}
+
+static void tell_verdict(JNIEnv *env, jlongArray answer, seg2_verdict v) {
+    const jlong values[] = {v.number, v.part, (jlong)v.place};
+    tell(env, answer, values, 3);
+}
+
+static void tell_length(JNIEnv *env, jlongArray answer, seg2_length a) {
+    const jlong values[] = {a.number, a.part, (jlong)a.place, (jlong)a.length};
+    tell(env, answer, values, 4);
+}
+
+static jlong bits_of(double value) {
+    jlong bits;
+    memcpy(&bits, &value, sizeof bits);
+    return bits;
+}
+
+/* ---- questions */
+
+NATIVE(jstring, nativeText)(JNIEnv *env, UNUSED jclass self, jint number) {
+    return (*env)->NewStringUTF(env, seg2_text((uint32_t)number));
+}
+
+NATIVE(void, nativeCheck)(JNIEnv *env, UNUSED jclass self, jobject buffer, jint size, jlong length, jlongArray answer) {
+    lent b;
+    if (places(env, answer, 3) && direct(env, buffer, size, 1, &b)) {
+        tell_verdict(env, answer, seg2_check(b.at, b.size, (size_t)length));
+    }
+}
+
+NATIVE(void, nativeFileBlock)(JNIEnv *env, UNUSED jclass self, jobject buffer, jint size, jlong length, jlongArray answer) {
+    lent b;
+    if (places(env, answer, 8) && direct(env, buffer, size, 1, &b)) {
+        seg2_file a = seg2_file_block_of(b.at, b.size, (size_t)length);
+        const jlong values[] = {a.number, a.part, (jlong)a.place, a.order, (jlong)a.pointer_room, (jlong)a.trace_count,
+                                (jlong)a.string_terminator_size, (jlong)a.line_terminator_size};
+        tell(env, answer, values, 8);
+    }
+}
+
+NATIVE(void, nativeTraceBlock)(JNIEnv *env, UNUSED jclass self, jobject buffer, jint size, jlong length, jint trace, jlongArray answer) {
+    lent b;
+    if (places(env, answer, 8) && direct(env, buffer, size, 1, &b)) {
+        seg2_trace a = seg2_trace_block_of(b.at, b.size, (size_t)length, trace);
+        const jlong values[] = {a.number, a.part, (jlong)a.place, (jlong)a.start, (jlong)a.block_size, (jlong)a.data_size,
+                                (jlong)a.sample_count, a.format_code};
+        tell(env, answer, values, 8);
+    }
+}
+
+NATIVE(void, nativeStringCount)(JNIEnv *env, UNUSED jclass self, jobject buffer, jint size, jlong length, jint part, jlongArray answer) {
+    lent b;
+    if (places(env, answer, 4) && direct(env, buffer, size, 1, &b)) {
+        seg2_count a = seg2_string_count_of(b.at, b.size, (size_t)length, part);
+        const jlong values[] = {a.number, a.part, (jlong)a.place, (jlong)a.count};
+        tell(env, answer, values, 4);
+    }
+}
+
+NATIVE(void, nativeString)(JNIEnv *env, UNUSED jclass self, jobject buffer, jint size, jlong length, jint part, jlong index, jlongArray answer) {
+    lent b;
+    if (places(env, answer, 8) && direct(env, buffer, size, 1, &b)) {
+        struct seg2_string a = seg2_string_of(b.at, b.size, (size_t)length, part, (size_t)index);
+        const jlong values[] = {a.number, a.part, (jlong)a.place, a.found, (jlong)a.key_start, (jlong)a.key_length,
+                                (jlong)a.value_start, (jlong)a.value_length};
+        tell(env, answer, values, 8);
+    }
+}
+
+NATIVE(void, nativeKeyword)(JNIEnv *env, UNUSED jclass self, jobject buffer, jint size, jlong length, jint part, jbyteArray key, jlongArray answer) {
+    lent b, k;
+    if (places(env, answer, 4) && direct(env, buffer, size, 1, &b) && bytes(env, key, &k)) {
+        struct seg2_keyword a = seg2_keyword_of(b.at, b.size, (size_t)length, part, k.at, k.size);
+        const jlong values[] = {a.number, a.part, (jlong)a.place, a.found};
+        returned(env, key, k);
+        tell(env, answer, values, 4);
+    }
+}
+
+NATIVE(void, nativeValue)(JNIEnv *env, UNUSED jclass self, jobject buffer, jint size, jlong length, jint part, jbyteArray key, jlongArray answer) {
+    lent b, k;
+    if (places(env, answer, 5) && direct(env, buffer, size, 1, &b) && bytes(env, key, &k)) {
+        struct seg2_value a = seg2_value_of(b.at, b.size, (size_t)length, part, k.at, k.size);
+        const jlong values[] = {a.number, a.part, (jlong)a.place, (jlong)a.value_start, (jlong)a.value_length};
+        returned(env, key, k);
+        tell(env, answer, values, 5);
+    }
+}
+
+NATIVE(void, nativeNumber)(JNIEnv *env, UNUSED jclass self, jobject buffer, jint size, jlong length, jint part, jbyteArray key, jlongArray answer) {
+    lent b, k;
+    if (places(env, answer, 6) && direct(env, buffer, size, 1, &b) && bytes(env, key, &k)) {
+        struct seg2_number a = seg2_number_of(b.at, b.size, (size_t)length, part, k.at, k.size);
+        const jlong values[] = {a.number, a.part, (jlong)a.place, a.minus, a.power, (jlong)a.coefficient};
+        returned(env, key, k);
+        tell(env, answer, values, 6);
+    }
+}
+
+NATIVE(void, nativeDouble)(JNIEnv *env, UNUSED jclass self, jobject buffer, jint size, jlong length, jint part, jbyteArray key, jlongArray answer) {
+    lent b, k;
+    if (places(env, answer, 4) && direct(env, buffer, size, 1, &b) && bytes(env, key, &k)) {
+        struct seg2_double a = seg2_double_of(b.at, b.size, (size_t)length, part, k.at, k.size);
+        const jlong values[] = {a.number, a.part, (jlong)a.place, bits_of(a.value)};
+        returned(env, key, k);
+        tell(env, answer, values, 4);
+    }
+}
+
+NATIVE(void, nativeLocation)(JNIEnv *env, UNUSED jclass self, jobject buffer, jint size, jlong length, jint part, jbyteArray key, jlongArray answer) {
+    lent b, k;
+    if (places(env, answer, 7) && direct(env, buffer, size, 1, &b) && bytes(env, key, &k)) {
+        struct seg2_location a = seg2_location_of(b.at, b.size, (size_t)length, part, k.at, k.size);
+        const jlong values[] = {a.number, a.part, (jlong)a.place, a.count, bits_of(a.x), bits_of(a.y), bits_of(a.z)};
+        returned(env, key, k);
+        tell(env, answer, values, 7);
+    }
+}
+
+/* ---- samples. An array goes through a copy, which is handed back only where the library has accepted; a direct buffer's memory is written itself. */
+
+static jint handed_back(seg2_verdict v) {
+    return v.number == 0 ? 0 : JNI_ABORT;
+}
+
+NATIVE(void, nativeIntegersArray)(JNIEnv *env, UNUSED jclass self, jobject buffer, jint size, jlong length, jint trace, jintArray row, jlongArray answer) {
+    lent b;
+    if (row == NULL) {
+        misuse(env, "the row is null");
+    } else if (places(env, answer, 3) && direct(env, buffer, size, 1, &b)) {
+        size_t count = (size_t)(*env)->GetArrayLength(env, row);
+        jint *at = (*env)->GetIntArrayElements(env, row, NULL);
+        if (at != NULL) {
+            seg2_verdict v = seg2_integers(b.at, b.size, (size_t)length, trace, at, count);
+            (*env)->ReleaseIntArrayElements(env, row, at, handed_back(v));
+            tell_verdict(env, answer, v);
+        }
+    }
+}
+
+NATIVE(void, nativeIntegersBuffer)(JNIEnv *env, UNUSED jclass self, jobject buffer, jint size, jlong length, jint trace, jobject row, jint count,
+                                   jlongArray answer) {
+    lent b, r;
+    if (places(env, answer, 3) && direct(env, buffer, size, 1, &b) && direct(env, row, count, sizeof(int32_t), &r) && apart(env, b, r)) {
+        tell_verdict(env, answer, seg2_integers(b.at, b.size, (size_t)length, trace, r.at, (size_t)count));
+    }
+}
+
+NATIVE(void, nativeBits)(JNIEnv *env, UNUSED jclass self, jobject buffer, jint size, jlong length, jint trace, jlongArray row, jbyteArray classes,
+                         jlongArray answer) {
+    lent b;
+    if (row == NULL || classes == NULL) {
+        misuse(env, "a row is null");
+    } else if (places(env, answer, 3) && direct(env, buffer, size, 1, &b)) {
+        size_t count = (size_t)(*env)->GetArrayLength(env, row);
+        size_t class_count = (size_t)(*env)->GetArrayLength(env, classes);
+        jlong *at = (*env)->GetLongArrayElements(env, row, NULL);
+        if (at != NULL) {
+            jbyte *class_at = (*env)->GetByteArrayElements(env, classes, NULL);
+            if (class_at == NULL) {
+                (*env)->ReleaseLongArrayElements(env, row, at, JNI_ABORT);
+            } else {
+                seg2_verdict v = seg2_bits(b.at, b.size, (size_t)length, trace, (uint64_t *)at, count, (uint8_t *)class_at, class_count);
+                (*env)->ReleaseByteArrayElements(env, classes, class_at, handed_back(v));
+                (*env)->ReleaseLongArrayElements(env, row, at, handed_back(v));
+                tell_verdict(env, answer, v);
+            }
+        }
+    }
+}
+
+/* ---- writing */
+
+NATIVE(void, nativeStart)(JNIEnv *env, UNUSED jclass self, jobject buffer, jint size, jint order, jint slots, jbyteArray sheet, jlongArray answer) {
+    lent b, s;
+    if (places(env, answer, 4) && direct(env, buffer, size, 1, &b) && bytes(env, sheet, &s)) {
+        seg2_length a = seg2_start_of(b.at, b.size, (uint32_t)order, (uint32_t)slots, s.at, s.size);
+        returned(env, sheet, s);
+        tell_length(env, answer, a);
+    }
+}
+
+NATIVE(void, nativeAddIntegersArray)(JNIEnv *env, UNUSED jclass self, jobject buffer, jint size, jlong length, jbyteArray sheet, jint code, jintArray row,
+                                     jlongArray answer) {
+    lent b, s;
+    if (row == NULL) {
+        misuse(env, "the row is null");
+    } else if (places(env, answer, 4) && direct(env, buffer, size, 1, &b) && bytes(env, sheet, &s)) {
+        size_t count = (size_t)(*env)->GetArrayLength(env, row);
+        jint *at = (*env)->GetIntArrayElements(env, row, NULL);
+        if (at == NULL) {
+            returned(env, sheet, s);
+        } else {
+            seg2_length a = seg2_add_integers_of(b.at, b.size, (size_t)length, s.at, s.size, (uint32_t)code, at, count);
+            (*env)->ReleaseIntArrayElements(env, row, at, JNI_ABORT);
+            returned(env, sheet, s);
+            tell_length(env, answer, a);
+        }
+    }
+}
+
+NATIVE(void, nativeAddIntegersBuffer)(JNIEnv *env, UNUSED jclass self, jobject buffer, jint size, jlong length, jbyteArray sheet, jint code, jobject row,
+                                      jint count, jlongArray answer) {
+    lent b, s, r;
+    if (places(env, answer, 4) && direct(env, buffer, size, 1, &b) && direct(env, row, count, sizeof(int32_t), &r) && apart(env, b, r) &&
+        bytes(env, sheet, &s)) {
+        seg2_length a = seg2_add_integers_of(b.at, b.size, (size_t)length, s.at, s.size, (uint32_t)code, r.at, (size_t)count);
+        returned(env, sheet, s);
+        tell_length(env, answer, a);
+    }
+}
+
+NATIVE(void, nativeAddBits)(JNIEnv *env, UNUSED jclass self, jobject buffer, jint size, jlong length, jbyteArray sheet, jint code, jlongArray row,
+                            jlongArray answer) {
+    lent b, s;
+    if (row == NULL) {
+        misuse(env, "the row is null");
+    } else if (places(env, answer, 4) && direct(env, buffer, size, 1, &b) && bytes(env, sheet, &s)) {
+        size_t count = (size_t)(*env)->GetArrayLength(env, row);
+        jlong *at = (*env)->GetLongArrayElements(env, row, NULL);
+        if (at == NULL) {
+            returned(env, sheet, s);
+        } else {
+            seg2_length a = seg2_add_bits_of(b.at, b.size, (size_t)length, s.at, s.size, (uint32_t)code, (const uint64_t *)at, count);
+            (*env)->ReleaseLongArrayElements(env, row, at, JNI_ABORT);
+            returned(env, sheet, s);
+            tell_length(env, answer, a);
+        }
+    }
+}

@@ -1,0 +1,686 @@
+package wasinthao.seg2;
+
+import java.nio.ByteBuffer;
+import java.nio.ByteOrder;
+import java.nio.IntBuffer;
+import java.nio.charset.StandardCharsets;
+
+/**
+ * SEG-2 shot files, read and written by a proved library: the functions of {@code seg2.h}, for Java and Kotlin.
+ *
+ * <p><b>Buffers.</b> A file stands in a direct {@link ByteBuffer}: {@link ByteBuffer#allocateDirect}, or a file mapped by
+ * {@link java.nio.channels.FileChannel#map}. Its bytes from 0 to its limit are lent to the library and are not copied; its position is
+ * neither read nor changed, and all places and starts are counted from its byte 0. {@code length} says how many of these bytes are the
+ * file; any length may be given, and one over the limit is refused by 1. A {@code part} is -1 ({@link #FILE}) for the file itself, else a
+ * trace, counted from 0.
+ *
+ * <p><b>Refusals are values.</b> Every answer has {@link Answer#refusal()}: null, or number, part, place and words. After a refusal the
+ * answer's other fields are 0 and no lent memory has changed. Every question checks the whole file first, so its refusal may be any row
+ * from 1 to 17 of the table before one of its own.
+ *
+ * <p><b>Misuse is an {@link IllegalArgumentException}</b>, before the library is called: null, a buffer that is not direct, a read-only
+ * one where something is written, a row in another byte order than the machine's, or one that lies in the file's own memory.
+ *
+ * <p><b>Threads.</b> The library has no state: any number of threads may call it. While a call runs, nobody else may write the memory it
+ * is lent, nor read what it writes. 32 KiB of stack are enough.
+ */
+public final class Seg2 {
+    static {
+        System.loadLibrary("seg2jni");
+    }
+
+    private Seg2() {}
+
+    /** A file is at most this long. */
+    public static final int MAXIMUM_LENGTH = 67108864;
+    /** The strings of one block need at most this many bytes where we write them. */
+    public static final int MAXIMUM_AREA = 65500;
+    /** A new file has at most this many pointer slots. */
+    public static final int MAXIMUM_SLOTS = 16383;
+
+    /** The part that is the file itself. */
+    public static final int FILE = -1;
+
+    /** Byte order: the low byte first. */
+    public static final int LOW_FIRST = 0;
+    /** Byte order: the high byte first. */
+    public static final int HIGH_FIRST = 1;
+
+    /** Format code: 16-bit fixed point. Samples of codes 1 to 3 travel as int. */
+    public static final int FIXED_16 = 1;
+    /** Format code: 32-bit fixed point. */
+    public static final int FIXED_32 = 2;
+    /** Format code: 20-bit floating point, four samples in ten bytes. */
+    public static final int FLOAT_20 = 3;
+    /** Format code: 32-bit floating point. Samples of codes 4 and 5 travel as bit patterns in long. */
+    public static final int FLOAT_32 = 4;
+    /** Format code: 64-bit floating point. */
+    public static final int FLOAT_64 = 5;
+
+    /** Class of a bit pattern: zero. */
+    public static final byte CLASS_ZERO = 0;
+    /** Class of a bit pattern: exponent bits 0, fraction not 0. */
+    public static final byte CLASS_UNDERFLOW = 1;
+    /** Class of a bit pattern: number. */
+    public static final byte CLASS_NUMBER = 2;
+    /** Class of a bit pattern: infinity. */
+    public static final byte CLASS_INFINITY = 3;
+    /** Class of a bit pattern: not a number. */
+    public static final byte CLASS_NOT_A_NUMBER = 4;
+
+    // ---- answers
+
+    /** Which row of the refusal table was met, in which part, at which place. */
+    public static final class Refusal {
+        // The table in its order; each has the name and the number that seg2.h gives it.
+        public static final int LENGTH = 1;
+        public static final int FIRST_BYTES = 2;
+        public static final int REVISION = 3;
+        public static final int POINTER_ROOM = 4;
+        public static final int TRACE_COUNT = 5;
+        public static final int TERMINATOR = 6;
+        public static final int ROOM_END = 7;
+        public static final int POINTER = 8;
+        public static final int TRACE_MARK = 9;
+        public static final int BLOCK_SIZE = 10;
+        public static final int DATA_SIZE = 11;
+        public static final int FORMAT_CODE = 12;
+        public static final int SAMPLE_COUNT = 13;
+        public static final int STRING_OFFSET = 14;
+        public static final int STRING_END = 15;
+        public static final int CHARACTER = 16;
+        public static final int KEYWORD_ORDER = 17;
+        public static final int NO_TRACE = 18;
+        public static final int INPUT_SIZE = 19;
+        public static final int NO_NUMBER = 20;
+        public static final int DIGITS = 21;
+        public static final int NO_DOUBLE = 22;
+        public static final int VALUE_COUNT = 23;
+        public static final int NO_SLOT = 24;
+        public static final int SHEET_LINE = 25;
+        public static final int SHEET_ORDER = 26;
+        public static final int AREA_SIZE = 27;
+        public static final int ENTRY_CODE = 28;
+        public static final int SAMPLE_RANGE = 29;
+        public static final int NO_ROOM = 30;
+        public static final int START_VALUES = 31;
+        public static final int ROW_LENGTH = 32;
+        public static final int CODE_KIND = 33;
+
+        /** The row of the table, 1 to 33. */
+        public final int number;
+        /** -1 for the file, else the trace. */
+        public final int part;
+        /** A byte of the file; for 20 to 22 of the value, for 25 and 26 of the sheet; for 29 the sample's index. */
+        public final long place;
+
+        private Refusal(int number, int part, long place) {
+            this.number = number;
+            this.part = part;
+            this.place = place;
+        }
+
+        /** The row in plain words. */
+        public String text() {
+            return nativeText(number);
+        }
+
+        @Override
+        public String toString() {
+            return "refusal " + number + (part < 0 ? "" : " in trace " + part) + " at " + place + ": " + text();
+        }
+
+        @Override
+        public boolean equals(Object other) {
+            if (!(other instanceof Refusal)) {
+                return false;
+            }
+            Refusal r = (Refusal) other;
+            return r.number == number && r.part == part && r.place == place;
+        }
+
+        @Override
+        public int hashCode() {
+            return (number * 31 + part) * 31 + (int) place;
+        }
+    }
+
+    /** What every answer has. */
+    public abstract static class Answer {
+        private final Refusal refusal;
+
+        private Answer(long[] a) {
+            refusal = a[0] == 0 ? null : new Refusal((int) a[0], (int) a[1], a[2]);
+        }
+
+        /** The refusal, or null where there is none. */
+        public final Refusal refusal() {
+            return refusal;
+        }
+
+        /** Whether there is no refusal. */
+        public final boolean accepted() {
+            return refusal == null;
+        }
+    }
+
+    /** No value beside the refusal. */
+    public static final class Verdict extends Answer {
+        private Verdict(long[] a) {
+            super(a);
+        }
+    }
+
+    /** The file block. */
+    public static final class FileBlock extends Answer {
+        /** {@link #LOW_FIRST} or {@link #HIGH_FIRST}. */
+        public final int order;
+        /** M, in bytes: 4 for each pointer slot. */
+        public final int pointerRoom;
+        /** N. */
+        public final int traceCount;
+        /** The characters that end a string; empty after a refusal. */
+        public final String stringTerminator;
+        /** The characters between the lines of a NOTE; empty after a refusal. */
+        public final String lineTerminator;
+
+        private FileBlock(long[] a, ByteBuffer buffer) {
+            super(a);
+            order = (int) a[3];
+            pointerRoom = (int) a[4];
+            traceCount = (int) a[5];
+            // a refusal has no characters, and perhaps not so many bytes
+            stringTerminator = accepted() ? textOf(part(buffer, 9, a[6])) : "";
+            lineTerminator = accepted() ? textOf(part(buffer, 12, a[7])) : "";
+        }
+    }
+
+    /** A trace block. The data is {@code dataSize} bytes from {@code start + blockSize} on. */
+    public static final class TraceBlock extends Answer {
+        /** The pointer. */
+        public final int start;
+        /** B. */
+        public final int blockSize;
+        /** D. */
+        public final int dataSize;
+        /** S. */
+        public final int sampleCount;
+        /** 1 to 5. */
+        public final int formatCode;
+
+        private TraceBlock(long[] a) {
+            super(a);
+            // a file is at most 2^26 bytes, so what it holds fits an int
+            start = (int) a[3];
+            blockSize = (int) a[4];
+            dataSize = (int) a[5];
+            sampleCount = (int) a[6];
+            formatCode = (int) a[7];
+        }
+    }
+
+    /** How many. */
+    public static final class Count extends Answer {
+        /** How many. */
+        public final int count;
+
+        private Count(long[] a) {
+            super(a);
+            count = (int) a[3];
+        }
+    }
+
+    /** A string of a part. */
+    public static final class Entry extends Answer {
+        /** Whether there is one with this index. */
+        public final boolean found;
+        /** Where the keyword starts in the buffer. */
+        public final int keyStart;
+        /** The keyword's length. */
+        public final int keyLength;
+        /** Where the value starts in the buffer. */
+        public final int valueStart;
+        /** The value's length. */
+        public final int valueLength;
+
+        private final ByteBuffer buffer;
+
+        private Entry(long[] a, ByteBuffer buffer) {
+            super(a);
+            found = a[3] != 0;
+            keyStart = (int) a[4];
+            keyLength = (int) a[5];
+            valueStart = (int) a[6];
+            valueLength = (int) a[7];
+            this.buffer = buffer;
+        }
+
+        /** The keyword as the buffer's own bytes, not a copy. */
+        public ByteBuffer key() {
+            return part(buffer, keyStart, keyLength);
+        }
+
+        /** The value as the buffer's own bytes, not a copy. */
+        public ByteBuffer value() {
+            return part(buffer, valueStart, valueLength);
+        }
+
+        /** The keyword as text: a copy. */
+        public String keyText() {
+            return textOf(key());
+        }
+
+        /** The value as text: a copy. */
+        public String valueText() {
+            return textOf(value());
+        }
+    }
+
+    /** Whether a keyword is there. */
+    public static final class Keyword extends Answer {
+        /** Yes or no. */
+        public final boolean found;
+
+        private Keyword(long[] a) {
+            super(a);
+            found = a[3] != 0;
+        }
+    }
+
+    /** Where a value stands in the buffer; start and length are 0 for a no or a refusal. */
+    public static final class Value extends Answer {
+        /** Where the value starts in the buffer. */
+        public final int start;
+        /** Its length. */
+        public final int length;
+
+        private final ByteBuffer buffer;
+
+        private Value(long[] a, ByteBuffer buffer) {
+            super(a);
+            start = (int) a[3];
+            length = (int) a[4];
+            this.buffer = buffer;
+        }
+
+        /** The value as the buffer's own bytes, not a copy; for a no or a refusal the empty part at the buffer's start. */
+        public ByteBuffer bytes() {
+            return part(buffer, start, length);
+        }
+
+        /** The value as text: a copy. */
+        public String text() {
+            return textOf(bytes());
+        }
+    }
+
+    /** A number: coefficient as written, times ten to the power, negated where minus. Zero has no minus. */
+    public static final class Decimal extends Answer {
+        /** Whether it is below zero. */
+        public final boolean minus;
+        /** All digits before E as one whole number, of at most 18 digits. */
+        public final long coefficient;
+        /** The power of ten. */
+        public final int power;
+
+        private Decimal(long[] a) {
+            super(a);
+            minus = a[3] != 0;
+            power = (int) a[4];
+            coefficient = a[5];
+        }
+    }
+
+    /** A double. */
+    public static final class DoubleValue extends Answer {
+        /** The value. */
+        public final double value;
+
+        private DoubleValue(long[] a) {
+            super(a);
+            value = Double.longBitsToDouble(a[3]);
+        }
+    }
+
+    /** A location: one value or three; absent ones are 0. */
+    public static final class Location extends Answer {
+        /** 1 or 3. */
+        public final int count;
+        public final double x;
+        public final double y;
+        public final double z;
+
+        private Location(long[] a) {
+            super(a);
+            count = (int) a[3];
+            x = Double.longBitsToDouble(a[4]);
+            y = Double.longBitsToDouble(a[5]);
+            z = Double.longBitsToDouble(a[6]);
+        }
+    }
+
+    /** The length of the image after a start or an addition. */
+    public static final class Length extends Answer {
+        /** In bytes. */
+        public final int length;
+
+        private Length(long[] a) {
+            super(a);
+            length = (int) a[3];
+        }
+    }
+
+    // ---- questions
+
+    /** Whether the first {@code length} bytes are a file that keeps the rules; if not, the first row of the table that they meet, 1 to 17. */
+    public static Verdict check(ByteBuffer buffer, long length) {
+        long[] a = new long[3];
+        nativeCheck(lent(buffer), buffer.limit(), length, a);
+        return new Verdict(a);
+    }
+
+    /** The file block: byte order, M, N and the terminators. */
+    public static FileBlock fileBlock(ByteBuffer buffer, long length) {
+        long[] a = new long[8];
+        nativeFileBlock(lent(buffer), buffer.limit(), length, a);
+        return new FileBlock(a, buffer);
+    }
+
+    /** The block of a trace. 18 where there is no such trace; -1 is none. */
+    public static TraceBlock traceBlock(ByteBuffer buffer, long length, int trace) {
+        long[] a = new long[8];
+        nativeTraceBlock(lent(buffer), buffer.limit(), length, trace, a);
+        return new TraceBlock(a);
+    }
+
+    /** How many strings a part has. 18 where there is no such part. */
+    public static Count stringCount(ByteBuffer buffer, long length, int part) {
+        long[] a = new long[4];
+        nativeStringCount(lent(buffer), buffer.limit(), length, part, a);
+        return new Count(a);
+    }
+
+    /** The string of a part with this index, counted from 0; past the last, {@code found} is false, which is no refusal. 18 as above. */
+    public static Entry string(ByteBuffer buffer, long length, int part, long index) {
+        long[] a = new long[8];
+        nativeString(lent(buffer), buffer.limit(), length, part, index, a);
+        return new Entry(a, buffer);
+    }
+
+    /** Whether a part has a keyword: yes, no, or the refusal. What cannot be a keyword is a no. 18 as above. */
+    public static Keyword keyword(ByteBuffer buffer, long length, int part, byte[] key) {
+        long[] a = new long[4];
+        nativeKeyword(lent(buffer), buffer.limit(), length, part, there(key, "keyword"), a);
+        return new Keyword(a);
+    }
+
+    /** The same, of a keyword in a String. */
+    public static Keyword keyword(ByteBuffer buffer, long length, int part, String key) {
+        return keyword(buffer, length, part, bytesOf(key, "keyword"));
+    }
+
+    /**
+     * The value of a keyword as the buffer's own bytes. A no is start 0 and length 0 without a refusal, so {@link #keyword} tells a keyword
+     * without a value from no keyword. 18 as above.
+     */
+    public static Value value(ByteBuffer buffer, long length, int part, byte[] key) {
+        long[] a = new long[5];
+        nativeValue(lent(buffer), buffer.limit(), length, part, there(key, "keyword"), a);
+        return new Value(a, buffer);
+    }
+
+    /** The same, of a keyword in a String. */
+    public static Value value(ByteBuffer buffer, long length, int part, String key) {
+        return value(buffer, length, part, bytesOf(key, "keyword"));
+    }
+
+    /** The value of a keyword as a number. 18 as above, 20 where it is no number (so where the keyword is missing), 21 too many digits. */
+    public static Decimal number(ByteBuffer buffer, long length, int part, byte[] key) {
+        long[] a = new long[6];
+        nativeNumber(lent(buffer), buffer.limit(), length, part, there(key, "keyword"), a);
+        return new Decimal(a);
+    }
+
+    /** The same, of a keyword in a String. */
+    public static Decimal number(ByteBuffer buffer, long length, int part, String key) {
+        return number(buffer, length, part, bytesOf(key, "keyword"));
+    }
+
+    /** The value of a keyword as a double. The refusals of {@link #number}, then 22. {@code double} is a word of Java's, hence the name. */
+    public static DoubleValue doubleValue(ByteBuffer buffer, long length, int part, byte[] key) {
+        long[] a = new long[4];
+        nativeDouble(lent(buffer), buffer.limit(), length, part, there(key, "keyword"), a);
+        return new DoubleValue(a);
+    }
+
+    /** The same, of a keyword in a String. */
+    public static DoubleValue doubleValue(ByteBuffer buffer, long length, int part, String key) {
+        return doubleValue(buffer, length, part, bytesOf(key, "keyword"));
+    }
+
+    /** The value of a keyword as a location. 18 as above, 23 where the values are neither one nor three, then 20 to 22 value by value. */
+    public static Location location(ByteBuffer buffer, long length, int part, byte[] key) {
+        long[] a = new long[7];
+        nativeLocation(lent(buffer), buffer.limit(), length, part, there(key, "keyword"), a);
+        return new Location(a);
+    }
+
+    /** The same, of a keyword in a String. */
+    public static Location location(ByteBuffer buffer, long length, int part, String key) {
+        return location(buffer, length, part, bytesOf(key, "keyword"));
+    }
+
+    /**
+     * The samples of a trace of code 1 to 3, into an array of exactly S elements. Goes through a copy of the array; a direct
+     * {@link IntBuffer} does not. 18 where there is no such trace, 33 where its code is 4 or 5, 32 where the row has another length.
+     */
+    public static Verdict integers(ByteBuffer buffer, long length, int trace, int[] row) {
+        long[] a = new long[3];
+        nativeIntegersArray(lent(buffer), buffer.limit(), length, trace, there(row), a);
+        return new Verdict(a);
+    }
+
+    /**
+     * The same, straight into a direct buffer's memory, without a copy: its elements from 0 to its limit are the row. It has the machine's
+     * own byte order: {@code ByteBuffer.allocateDirect(4 * s).order(ByteOrder.nativeOrder()).asIntBuffer()}.
+     */
+    public static Verdict integers(ByteBuffer buffer, long length, int trace, IntBuffer row) {
+        long[] a = new long[3];
+        if (there(row).isReadOnly()) {
+            throw new IllegalArgumentException("the row is read-only, and the samples go into it");
+        }
+        nativeIntegersBuffer(lent(buffer), buffer.limit(), length, trace, row, row.limit(), a);
+        return new Verdict(a);
+    }
+
+    /**
+     * The bit patterns of the samples of a trace of code 4 or 5 and their classes, into two arrays of exactly S elements, by way of a copy.
+     * A pattern of code 4 is in the low 32 bits: {@code Float.intBitsToFloat((int) row[i])}; one of code 5 is
+     * {@code Double.longBitsToDouble(row[i])}. 18, 33 (its code is 1 to 3) and 32 as above.
+     */
+    public static Verdict bits(ByteBuffer buffer, long length, int trace, long[] row, byte[] classes) {
+        long[] a = new long[3];
+        if (row == null || classes == null) {
+            throw new IllegalArgumentException("a row is null");
+        }
+        nativeBits(lent(buffer), buffer.limit(), length, trace, row, classes, a);
+        return new Verdict(a);
+    }
+
+    // ---- writing. A refusal has changed no byte; bytes past the answered length stay as they were.
+
+    /**
+     * Writes the image of a new file without traces at the buffer's start and answers its length. The sheet is lines of text, each a
+     * keyword, a tab, a value and a line feed, with the keywords rising; consecutive NOTE lines at its end are the lines of one NOTE.
+     * Refusals in order: 31, 25, 26 (line by line), 27, 30. The image is no file yet: the questions refuse it by 5.
+     */
+    public static Length start(ByteBuffer buffer, int order, int slots, byte[] sheet) {
+        long[] a = new long[4];
+        nativeStart(written(buffer), buffer.limit(), order, slots, there(sheet, "sheet"), a);
+        return new Length(a);
+    }
+
+    /** The same, of a sheet in a String; a place in it is an index of the String. */
+    public static Length start(ByteBuffer buffer, int order, int slots, String sheet) {
+        return start(buffer, order, slots, bytesOf(sheet, "sheet"));
+    }
+
+    /**
+     * Adds a trace of code 1 to 3 behind the file, or new image, that the first {@code length} bytes are, and answers the new length.
+     * The samples go through a copy; those of a direct {@link IntBuffer} do not. Refusals in order: 1 to 17 for the file, 24, 25, 26 (line
+     * by line), 27, 28, 29, 30.
+     */
+    public static Length addIntegers(ByteBuffer buffer, long length, byte[] sheet, int code, int[] row) {
+        long[] a = new long[4];
+        nativeAddIntegersArray(written(buffer), buffer.limit(), length, there(sheet, "sheet"), code, there(row), a);
+        return new Length(a);
+    }
+
+    /** The same, of a sheet in a String. */
+    public static Length addIntegers(ByteBuffer buffer, long length, String sheet, int code, int[] row) {
+        return addIntegers(buffer, length, bytesOf(sheet, "sheet"), code, row);
+    }
+
+    /** The same, straight from a direct buffer's memory, without a copy: its elements from 0 to its limit are the row. */
+    public static Length addIntegers(ByteBuffer buffer, long length, byte[] sheet, int code, IntBuffer row) {
+        long[] a = new long[4];
+        there(row);
+        nativeAddIntegersBuffer(written(buffer), buffer.limit(), length, there(sheet, "sheet"), code, row, row.limit(), a);
+        return new Length(a);
+    }
+
+    /** The same, of a sheet in a String. */
+    public static Length addIntegers(ByteBuffer buffer, long length, String sheet, int code, IntBuffer row) {
+        return addIntegers(buffer, length, bytesOf(sheet, "sheet"), code, row);
+    }
+
+    /** Adds a trace of code 4 or 5 from bit patterns, in the same way and with the same refusals, by way of a copy. */
+    public static Length addBits(ByteBuffer buffer, long length, byte[] sheet, int code, long[] row) {
+        long[] a = new long[4];
+        if (row == null) {
+            throw new IllegalArgumentException("the row is null");
+        }
+        nativeAddBits(written(buffer), buffer.limit(), length, there(sheet, "sheet"), code, row, a);
+        return new Length(a);
+    }
+
+    /** The same, of a sheet in a String. */
+    public static Length addBits(ByteBuffer buffer, long length, String sheet, int code, long[] row) {
+        return addBits(buffer, length, bytesOf(sheet, "sheet"), code, row);
+    }
+
+    // ---- what is lent
+
+    private static ByteBuffer lent(ByteBuffer buffer) {
+        if (buffer == null) {
+            throw new IllegalArgumentException("the buffer is null");
+        }
+        if (!buffer.isDirect()) {
+            throw new IllegalArgumentException("the buffer is not direct: use ByteBuffer.allocateDirect, or map the file");
+        }
+        return buffer;
+    }
+
+    private static ByteBuffer written(ByteBuffer buffer) {
+        if (lent(buffer).isReadOnly()) {
+            throw new IllegalArgumentException("the buffer is read-only, and the file is written into it");
+        }
+        return buffer;
+    }
+
+    private static byte[] there(byte[] bytes, String what) {
+        if (bytes == null) {
+            throw new IllegalArgumentException("the " + what + " is null");
+        }
+        return bytes;
+    }
+
+    private static int[] there(int[] row) {
+        if (row == null) {
+            throw new IllegalArgumentException("the row is null");
+        }
+        return row;
+    }
+
+    private static IntBuffer there(IntBuffer row) {
+        if (row == null) {
+            throw new IllegalArgumentException("the row is null");
+        }
+        if (!row.isDirect()) {
+            throw new IllegalArgumentException("the row is not direct: use an int[], or asIntBuffer of a direct ByteBuffer");
+        }
+        if (row.order() != ByteOrder.nativeOrder()) {
+            throw new IllegalArgumentException("the row has not the machine's byte order: set ByteOrder.nativeOrder() before asIntBuffer");
+        }
+        return row;
+    }
+
+    /**
+     * One byte a character, so that places in a sheet are indexes of the String. A character that is no ASCII becomes 80h, which neither
+     * keyword nor value may hold; no encoding does this, as each has something, often '?', that it puts for what it cannot say.
+     */
+    private static byte[] bytesOf(String text, String what) {
+        if (text == null) {
+            throw new IllegalArgumentException("the " + what + " is null");
+        }
+        byte[] bytes = new byte[text.length()];
+        for (int i = 0; i < bytes.length; i++) {
+            char c = text.charAt(i);
+            bytes[i] = c < 0x80 ? (byte) c : (byte) 0x80;
+        }
+        return bytes;
+    }
+
+    /** Bytes of the buffer that share its memory, whatever its position and limit are. */
+    private static ByteBuffer part(ByteBuffer buffer, long start, long length) {
+        ByteBuffer all = buffer.duplicate();
+        all.clear();
+        all.limit((int) (start + length));
+        all.position((int) start);
+        return all.slice();
+    }
+
+    private static String textOf(ByteBuffer bytes) {
+        byte[] copy = new byte[bytes.remaining()];
+        bytes.get(copy);
+        return new String(copy, StandardCharsets.ISO_8859_1);
+    }
+
+    // ---- the native side: each fills `answer` with number, part, place and its fields
+
+    private static native String nativeText(int number);
+
+    private static native void nativeCheck(ByteBuffer buffer, int size, long length, long[] answer);
+
+    private static native void nativeFileBlock(ByteBuffer buffer, int size, long length, long[] answer);
+
+    private static native void nativeTraceBlock(ByteBuffer buffer, int size, long length, int trace, long[] answer);
+
+    private static native void nativeStringCount(ByteBuffer buffer, int size, long length, int part, long[] answer);
+
+    private static native void nativeString(ByteBuffer buffer, int size, long length, int part, long index, long[] answer);
+
+    private static native void nativeKeyword(ByteBuffer buffer, int size, long length, int part, byte[] key, long[] answer);
+
+    private static native void nativeValue(ByteBuffer buffer, int size, long length, int part, byte[] key, long[] answer);
+
+    private static native void nativeNumber(ByteBuffer buffer, int size, long length, int part, byte[] key, long[] answer);
+
+    private static native void nativeDouble(ByteBuffer buffer, int size, long length, int part, byte[] key, long[] answer);
+
+    private static native void nativeLocation(ByteBuffer buffer, int size, long length, int part, byte[] key, long[] answer);
+
+    private static native void nativeIntegersArray(ByteBuffer buffer, int size, long length, int trace, int[] row, long[] answer);
+
+    private static native void nativeIntegersBuffer(ByteBuffer buffer, int size, long length, int trace, IntBuffer row, int count, long[] answer);
+
+    private static native void nativeBits(ByteBuffer buffer, int size, long length, int trace, long[] row, byte[] classes, long[] answer);
+
+    private static native void nativeStart(ByteBuffer buffer, int size, int order, int slots, byte[] sheet, long[] answer);
+
+    private static native void nativeAddIntegersArray(ByteBuffer buffer, int size, long length, byte[] sheet, int code, int[] row, long[] answer);
+
+    private static native void nativeAddIntegersBuffer(ByteBuffer buffer, int size, long length, byte[] sheet, int code, IntBuffer row, int count, long[] answer);
+
+    private static native void nativeAddBits(ByteBuffer buffer, int size, long length, byte[] sheet, int code, long[] row, long[] answer);
+}

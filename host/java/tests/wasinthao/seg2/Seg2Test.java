@@ -1,0 +1,622 @@
+package wasinthao.seg2;
+
+import java.io.IOException;
+import java.io.RandomAccessFile;
+import java.lang.reflect.Field;
+import java.lang.reflect.Modifier;
+import java.nio.ByteBuffer;
+import java.nio.ByteOrder;
+import java.nio.IntBuffer;
+import java.nio.channels.FileChannel;
+import java.nio.charset.StandardCharsets;
+import java.nio.file.Files;
+import java.nio.file.Path;
+import java.nio.file.Paths;
+import java.util.Arrays;
+import java.util.HashSet;
+import java.util.Random;
+import java.util.Set;
+import java.util.concurrent.atomic.AtomicReference;
+import java.util.regex.Matcher;
+import java.util.regex.Pattern;
+
+/** Tests of Seg2: a main that counts, and no library beside Java's own. The argument is the path of seg2.h. */
+public final class Seg2Test {
+    private Seg2Test() {}
+
+    private interface Body {
+        void run() throws Exception;
+    }
+
+    private static int passed;
+    private static int failed;
+
+    private static void test(String name, Body body) {
+        try {
+            body.run();
+            passed++;
+            System.out.println("test " + name + " ... ok");
+        } catch (Exception | AssertionError e) {
+            failed++;
+            System.out.println("test " + name + " ... FAILED");
+            e.printStackTrace(System.out);
+        }
+    }
+
+    private static void same(Object wanted, Object is) {
+        if (!java.util.Objects.deepEquals(wanted, is)) {
+            throw new AssertionError("wanted " + wanted + ", got " + is);
+        }
+    }
+
+    private static void accepted(Seg2.Answer answer) {
+        if (!answer.accepted() || answer.refusal() != null) {
+            throw new AssertionError("refused: " + answer.refusal());
+        }
+    }
+
+    private static void refused(int number, int part, long place, Seg2.Answer answer) {
+        Seg2.Refusal r = answer.refusal();
+        if (r == null || answer.accepted() || r.number != number || r.part != part || r.place != place) {
+            throw new AssertionError("wanted " + number + " " + part + " " + place + ", got " + r);
+        }
+    }
+
+    /** Misuse: IllegalArgumentException with a sentence that has these words. */
+    private static void misused(String words, Body body) throws Exception {
+        try {
+            body.run();
+        } catch (IllegalArgumentException e) {
+            if (e.getMessage() == null || !e.getMessage().contains(words)) {
+                throw new AssertionError("wanted a sentence with '" + words + "', got " + e.getMessage());
+            }
+            return;
+        }
+        throw new AssertionError("no IllegalArgumentException: " + words);
+    }
+
+    private static byte[] copy(ByteBuffer buffer) {
+        byte[] all = new byte[buffer.capacity()];
+        ByteBuffer view = buffer.duplicate();
+        view.clear();
+        view.get(all);
+        return all;
+    }
+
+    private static ByteBuffer painted(int size) {
+        ByteBuffer buffer = ByteBuffer.allocateDirect(size);
+        for (int i = 0; i < size; i++) {
+            buffer.put(i, (byte) 0xA5);
+        }
+        return buffer;
+    }
+
+    private static IntBuffer direct(int... values) {
+        IntBuffer row = ByteBuffer.allocateDirect(4 * values.length).order(ByteOrder.nativeOrder()).asIntBuffer();
+        for (int i = 0; i < values.length; i++) {
+            row.put(i, values[i]);
+        }
+        return row;
+    }
+
+    /** Document 01's example, in a buffer of 200 bytes. */
+    private static ByteBuffer example() {
+        ByteBuffer buffer = painted(200);
+        Seg2.Length started = Seg2.start(buffer, Seg2.LOW_FIRST, 1, "UNITS\tMETERS\n");
+        accepted(started);
+        Seg2.Length added = Seg2.addIntegers(buffer, started.length, "STACK\t1\n", Seg2.FIXED_16, new int[] {1, -1, 256});
+        accepted(added);
+        same(108, added.length);
+        return buffer;
+    }
+
+    /** A file of one trace without samples, whose sheet is given. */
+    private static ByteBuffer withSheet(String sheet) {
+        ByteBuffer buffer = painted(2000);
+        Seg2.Length started = Seg2.start(buffer, Seg2.HIGH_FIRST, 1, "");
+        accepted(started);
+        Seg2.Length added = Seg2.addIntegers(buffer, started.length, sheet, Seg2.FIXED_32, new int[0]);
+        accepted(added);
+        buffer.limit(added.length);
+        return buffer;
+    }
+
+    private static void theExample() {
+        ByteBuffer b = example();
+        accepted(Seg2.check(b, 108));
+        Seg2.FileBlock file = Seg2.fileBlock(b, 108);
+        accepted(file);
+        same(Seg2.LOW_FIRST, file.order);
+        same(4, file.pointerRoom);
+        same(1, file.traceCount);
+        same("\0", file.stringTerminator);
+        same("\n", file.lineTerminator);
+        Seg2.TraceBlock trace = Seg2.traceBlock(b, 108, 0);
+        accepted(trace);
+        same(56, trace.start);
+        same(44, trace.blockSize);
+        same(8, trace.dataSize);
+        same(3, trace.sampleCount);
+        same(Seg2.FIXED_16, trace.formatCode);
+        int[] row = new int[3];
+        accepted(Seg2.integers(b, 108, 0, row));
+        same(new int[] {1, -1, 256}, row);
+        same((byte) 0xA5, b.get(108)); // past the answered length nothing changed
+        same(1, Seg2.stringCount(b, 108, Seg2.FILE).count);
+        Seg2.Entry units = Seg2.string(b, 108, Seg2.FILE, 0);
+        same(true, units.found);
+        same("UNITS", units.keyText());
+        same("METERS", units.valueText());
+        Seg2.Entry past = Seg2.string(b, 108, Seg2.FILE, 1);
+        accepted(past);
+        same(false, past.found);
+        same(0, past.key().remaining() + past.value().remaining());
+        same("1", Seg2.value(b, 108, 0, "STACK").text());
+    }
+
+    private static void theSameBytesFromBothRows() {
+        ByteBuffer a = painted(300);
+        ByteBuffer b = painted(300);
+        for (int order = 0; order < 2; order++) {
+            for (int code = 1; code <= 3; code++) {
+                int[] samples = {1, -1, 256, -32768, 32767, 0, 77, -77};
+                int length = Seg2.start(a, order, 2, "").length;
+                same(length, Seg2.start(b, order, 2, "").length);
+                Seg2.Length x = Seg2.addIntegers(a, length, "A\tb\n", code, samples);
+                Seg2.Length y = Seg2.addIntegers(b, length, "A\tb\n", code, direct(samples));
+                accepted(x);
+                same(x.length, y.length);
+                same(copy(a), copy(b));
+                int[] row = new int[8];
+                IntBuffer view = direct(new int[8]);
+                accepted(Seg2.integers(a, x.length, 0, row));
+                accepted(Seg2.integers(b, x.length, 0, view));
+                for (int i = 0; i < 8; i++) {
+                    same(samples[i], row[i]);
+                    same(samples[i], view.get(i));
+                }
+            }
+        }
+    }
+
+    private static void valuesAreTheBuffersOwnBytes() {
+        ByteBuffer b = example();
+        b.position(17);
+        Seg2.Value value = Seg2.value(b, 108, Seg2.FILE, "UNITS");
+        accepted(value);
+        same(17, b.position());
+        ByteBuffer bytes = value.bytes();
+        same(6, bytes.remaining());
+        same(true, bytes.isDirect());
+        b.put(value.start, (byte) 'X');
+        same((byte) 'X', bytes.get(0));
+        same("XETERS", value.text());
+        // a no: the empty part at the start, no refusal; and a keyword without a value is another thing
+        Seg2.Value no = Seg2.value(b, 108, Seg2.FILE, "NOTHING");
+        accepted(no);
+        same(0, no.start + no.length + no.bytes().remaining());
+        same(false, Seg2.keyword(b, 108, Seg2.FILE, "NOTHING").found);
+        same(true, Seg2.keyword(b, 108, Seg2.FILE, "UNITS").found);
+        same(true, Seg2.keyword(b, 108, Seg2.FILE, "UNITS".getBytes(StandardCharsets.US_ASCII)).found);
+        // a refusal: the same empty part
+        Seg2.Value refusal = Seg2.value(b, 107, Seg2.FILE, "UNITS");
+        refused(11, 0, 60, refusal);
+        same(0, refusal.start + refusal.length + refusal.bytes().remaining());
+        ByteBuffer empty = withSheet("EMPTY\t\n");
+        same(true, Seg2.keyword(empty, empty.limit(), 0, "EMPTY").found);
+        same("", Seg2.value(empty, empty.limit(), 0, "EMPTY").text());
+        Seg2.Value readOnly = Seg2.value(b.asReadOnlyBuffer(), 108, Seg2.FILE, "UNITS");
+        same(true, readOnly.bytes().isReadOnly());
+        same("XETERS", readOnly.text());
+    }
+
+    private static void refusals() {
+        ByteBuffer b = example();
+        b.put(90, (byte) 's');
+        Seg2.Verdict verdict = Seg2.check(b, 108);
+        refused(16, 0, 88, verdict);
+        same("a forbidden character in a keyword or value", verdict.refusal().text());
+        same("refusal 16 in trace 0 at 88: a forbidden character in a keyword or value", verdict.refusal().toString());
+        same(verdict.refusal(), Seg2.fileBlock(b, 108).refusal());
+        same(verdict.refusal().hashCode(), Seg2.fileBlock(b, 108).refusal().hashCode());
+        Seg2.FileBlock file = Seg2.fileBlock(b, 108);
+        same(0, file.order + file.pointerRoom + file.traceCount + file.stringTerminator.length() + file.lineTerminator.length());
+        ByteBuffer good = example();
+        for (long length : new long[] {0, 31, 201, Long.MAX_VALUE, -1, Long.MIN_VALUE}) {
+            refused(1, -1, 0, Seg2.check(good, length));
+        }
+        same("refusal 1 at 0: the length is under 32 bytes, over 67,108,864 bytes, or over the buffer", Seg2.check(good, 0).refusal().toString());
+        refused(1, -1, 0, Seg2.check(ByteBuffer.allocateDirect(0), 0));
+        refused(1, -1, 0, Seg2.fileBlock(ByteBuffer.allocateDirect(0), 0));
+        for (int part : new int[] {-2, 1, Integer.MIN_VALUE, Integer.MAX_VALUE}) {
+            refused(18, -1, 0, Seg2.traceBlock(good, 108, part));
+            refused(18, -1, 0, Seg2.stringCount(good, 108, part));
+            refused(18, -1, 0, Seg2.string(good, 108, part, 0));
+            refused(18, -1, 0, Seg2.keyword(good, 108, part, "UNITS"));
+            refused(18, -1, 0, Seg2.value(good, 108, part, "UNITS"));
+            refused(18, -1, 0, Seg2.number(good, 108, part, "UNITS"));
+            refused(18, -1, 0, Seg2.doubleValue(good, 108, part, "UNITS"));
+            refused(18, -1, 0, Seg2.location(good, 108, part, "UNITS"));
+            refused(18, -1, 0, Seg2.integers(good, 108, part, new int[3]));
+            refused(18, -1, 0, Seg2.bits(good, 108, part, new long[3], new byte[3]));
+        }
+        refused(18, -1, 0, Seg2.traceBlock(good, 108, Seg2.FILE));
+        int[] row = {7, 7};
+        refused(32, -1, 0, Seg2.integers(good, 108, 0, row));
+        same(new int[] {7, 7}, row);
+        IntBuffer view = direct(7, 7, 7, 7);
+        refused(32, -1, 0, Seg2.integers(good, 108, 0, view));
+        same(7, view.get(0) & view.get(3));
+        long[] patterns = {7, 7, 7};
+        byte[] classes = {7, 7, 7};
+        refused(33, -1, 0, Seg2.bits(good, 108, 0, patterns, classes));
+        same(new long[] {7, 7, 7}, patterns);
+        same(new byte[] {7, 7, 7}, classes);
+        same(false, Seg2.string(good, 108, Seg2.FILE, -1).found);
+        same(false, Seg2.string(good, 108, Seg2.FILE, Long.MAX_VALUE).found);
+    }
+
+    /** The constants and the texts are those of the header. */
+    private static void theTable(Path header) throws Exception {
+        String text = new String(Files.readAllBytes(header), StandardCharsets.US_ASCII);
+        int found = 0;
+        Set<String> words = new HashSet<>();
+        for (Field field : Seg2.Refusal.class.getFields()) {
+            if (!Modifier.isStatic(field.getModifiers())) {
+                continue;
+            }
+            Matcher m = Pattern.compile("\\bSEG2_" + field.getName() + " = (\\d+)\\b").matcher(text);
+            same(true, m.find());
+            int number = field.getInt(null);
+            same(Integer.parseInt(m.group(1)), number);
+            Matcher said = Pattern.compile("case SEG2_" + field.getName() + ": return \"(.*)\";").matcher(text);
+            same(true, said.find());
+            same(true, words.add(said.group(1)));
+            found++;
+        }
+        same(33, found);
+        for (String[] pair : new String[][] {{"MAXIMUM_LENGTH", "67108864"}, {"MAXIMUM_AREA", "65500"}, {"MAXIMUM_SLOTS", "16383"}}) {
+            same(true, text.contains("#define SEG2_" + pair[0] + " " + pair[1]));
+            same(Integer.parseInt(pair[1]), Seg2.class.getField(pair[0]).getInt(null));
+        }
+        for (String name : new String[] {"LOW_FIRST", "HIGH_FIRST", "FIXED_16", "FIXED_32", "FLOAT_20", "FLOAT_32", "FLOAT_64",
+            "CLASS_ZERO", "CLASS_UNDERFLOW", "CLASS_NUMBER", "CLASS_INFINITY", "CLASS_NOT_A_NUMBER"}) {
+            Matcher m = Pattern.compile("\\bSEG2_" + name + " = (\\d+)\\b").matcher(text);
+            same(true, m.find());
+            same(Long.parseLong(m.group(1)), ((Number) Seg2.class.getField(name).get(null)).longValue());
+        }
+    }
+
+    private static void bitsAndClasses() {
+        long[] four = {0, 0x80000000L, 1, Float.floatToRawIntBits(1.5f), 0x7F800000L, 0xFF800000L, 0x7FC00000L, 0x7F800001L};
+        long[] five = {0, Long.MIN_VALUE, 1, Double.doubleToRawLongBits(-1.5), 0x7FF0000000000000L, 0xFFF0000000000000L, 0x7FF8000000000000L,
+            0x7FF0000000000001L};
+        byte[] wanted = {Seg2.CLASS_ZERO, Seg2.CLASS_ZERO, Seg2.CLASS_UNDERFLOW, Seg2.CLASS_NUMBER, Seg2.CLASS_INFINITY, Seg2.CLASS_INFINITY,
+            Seg2.CLASS_NOT_A_NUMBER, Seg2.CLASS_NOT_A_NUMBER};
+        for (int order = 0; order < 2; order++) {
+            ByteBuffer b = painted(600);
+            int length = Seg2.start(b, order, 2, "").length;
+            Seg2.Length one = Seg2.addBits(b, length, "", Seg2.FLOAT_32, four);
+            accepted(one);
+            Seg2.Length two = Seg2.addBits(b, one.length, "", Seg2.FLOAT_64, five);
+            accepted(two);
+            for (int trace = 0; trace < 2; trace++) {
+                long[] row = new long[8];
+                byte[] classes = new byte[8];
+                accepted(Seg2.bits(b, two.length, trace, row, classes));
+                same(trace == 0 ? four : five, row);
+                same(wanted, classes);
+                refused(33, -1, 0, Seg2.integers(b, two.length, trace, new int[8]));
+                refused(32, -1, 0, Seg2.bits(b, two.length, trace, row, new byte[7]));
+                refused(32, -1, 0, Seg2.bits(b, two.length, trace, new long[9], classes));
+            }
+            refused(24, -1, 0, Seg2.addBits(b, two.length, "", Seg2.FLOAT_64, five));
+        }
+        ByteBuffer b = painted(600);
+        int length = Seg2.start(b, 0, 1, "").length;
+        byte[] before = copy(b);
+        refused(29, -1, 2, Seg2.addBits(b, length, "", Seg2.FLOAT_32, new long[] {0, 1, 1L << 32}));
+        refused(28, -1, 0, Seg2.addBits(b, length, "", Seg2.FIXED_16, new long[] {0}));
+        refused(28, -1, 0, Seg2.addBits(b, length, "", -1, new long[] {0}));
+        same(before, copy(b));
+    }
+
+    private static void numbersAndLocations() {
+        ByteBuffer b = withSheet("DELAY\t-0.020\nLINE\t0,020\nRECEIVER_LOCATION\t12.5\nSOURCE_LOCATION\t1 -2  0.5\nSTACK\t1.345E24\nZ\t1 2\n");
+        int n = b.limit();
+        Seg2.Decimal delay = Seg2.number(b, n, 0, "DELAY");
+        accepted(delay);
+        same(true, delay.minus);
+        same(20L, delay.coefficient);
+        same(-3, delay.power);
+        Seg2.DoubleValue asDouble = Seg2.doubleValue(b, n, 0, "DELAY");
+        accepted(asDouble);
+        same(-0.020, asDouble.value);
+        refused(20, -1, 0, Seg2.number(b, n, 0, "LINE"));
+        refused(20, -1, 0, Seg2.number(b, n, 0, "MISSING"));
+        refused(22, -1, 0, Seg2.doubleValue(b, n, 0, "STACK"));
+        same(21, Seg2.number(b, n, 0, "STACK").power);
+        Seg2.Location source = Seg2.location(b, n, 0, "SOURCE_LOCATION");
+        accepted(source);
+        same(3, source.count);
+        same(1.0, source.x);
+        same(-2.0, source.y);
+        same(0.5, source.z);
+        Seg2.Location receiver = Seg2.location(b, n, 0, "RECEIVER_LOCATION");
+        same(1, receiver.count);
+        same(12.5, receiver.x);
+        same(0.0, receiver.y);
+        refused(23, -1, 0, Seg2.location(b, n, 0, "Z"));
+        refused(20, -1, 0, Seg2.location(b, n, 0, "LINE"));
+        refused(23, -1, 0, Seg2.location(b, n, 0, "MISSING"));
+        Seg2.Location none = Seg2.location(b, n, 0, "Z");
+        same(0.0, none.x + none.y + none.z + none.count);
+    }
+
+    private static void noteLines() {
+        ByteBuffer b = withSheet("DATE\tTODAY\nNOTE\tfirst line\nNOTE\t\nNOTE\t indented\n");
+        Seg2.Value note = Seg2.value(b, b.limit(), 0, "NOTE");
+        String[] lines = note.text().split(Pattern.quote(Seg2.fileBlock(b, b.limit()).lineTerminator), -1);
+        same(new String[] {"first line", "", " indented"}, lines);
+        same(2, Seg2.stringCount(b, b.limit(), 0).count);
+    }
+
+    private static void refusedAdditionsChangeNothing() {
+        ByteBuffer b = example();
+        byte[] before = copy(b);
+        refused(24, -1, 0, Seg2.addIntegers(b, 108, "", Seg2.FIXED_16, new int[1]));
+        refused(1, -1, 0, Seg2.addIntegers(b, 300, "", Seg2.FIXED_16, new int[1]));
+        same(before, copy(b));
+        ByteBuffer image = painted(64);
+        int length = Seg2.start(image, 0, 2, "").length;
+        before = copy(image);
+        Seg2.Length answer = Seg2.addIntegers(image, length, "", Seg2.FIXED_16, new int[1]);
+        refused(30, -1, 0, answer);
+        same(0, answer.length);
+        refused(30, -1, 0, Seg2.addIntegers(image, length, "", Seg2.FIXED_16, direct(1)));
+        refused(25, -1, 4, Seg2.addIntegers(image, length, "A\t1\nb\t2\n", Seg2.FIXED_16, new int[1]));
+        refused(26, -1, 4, Seg2.addIntegers(image, length, "B\t1\nA\t2\n", Seg2.FIXED_16, new int[1]));
+        refused(28, -1, 0, Seg2.addIntegers(image, length, "", Seg2.FLOAT_32, new int[1]));
+        refused(28, -1, 0, Seg2.addIntegers(image, length, "", Seg2.FLOAT_20, new int[3]));
+        refused(29, -1, 1, Seg2.addIntegers(image, length, "", Seg2.FIXED_16, new int[] {0, 32768}));
+        char[] long_ = new char[Seg2.MAXIMUM_AREA];
+        Arrays.fill(long_, 'X');
+        refused(27, -1, 0, Seg2.addIntegers(image, length, "A\t" + new String(long_) + "\n", Seg2.FIXED_16, new int[1]));
+        same(before, copy(image));
+        refused(31, -1, 0, Seg2.start(image, 2, 1, ""));
+        refused(31, -1, 0, Seg2.start(image, -1, 1, ""));
+        refused(31, -1, 0, Seg2.start(image, 0, 0, ""));
+        refused(31, -1, 0, Seg2.start(image, 0, -1, ""));
+        refused(31, -1, 0, Seg2.start(image, 0, Seg2.MAXIMUM_SLOTS + 1, ""));
+        refused(30, -1, 0, Seg2.start(image, 0, Seg2.MAXIMUM_SLOTS, ""));
+        refused(25, -1, 0, Seg2.start(image, 0, 1, "UNITS METERS"));
+        same(before, copy(image));
+    }
+
+    /** What a String holds beside ASCII is no keyword and no value, and stands for nothing else. */
+    private static void otherCharacters() {
+        ByteBuffer b = withSheet("?\t1\nA\t2\n");
+        same(true, Seg2.keyword(b, b.limit(), 0, "?").found);
+        for (String key : new String[] {"\u00c4", "\uD800", "\u0141", "\uD83D\uDE00", "", "a", "A ", "?\u00e9"}) {
+            Seg2.Keyword answer = Seg2.keyword(b, b.limit(), 0, key);
+            accepted(answer);
+            same(false, answer.found);
+        }
+        ByteBuffer image = painted(200);
+        refused(25, -1, 4, Seg2.start(image, 0, 1, "A\t1\nB\tZ\u00fcrich\n"));
+        refused(25, -1, 6, Seg2.start(image, 0, 1, "A\t123\nB\t\uD83D\uDE00\n"));
+    }
+
+    /** The bytes past the limit are not lent. */
+    private static void theLimitHolds() {
+        ByteBuffer b = painted(200);
+        b.limit(55);
+        refused(30, -1, 0, Seg2.start(b, 0, 1, "UNITS\tMETERS\n"));
+        b.limit(56);
+        Seg2.Length started = Seg2.start(b, 0, 1, "UNITS\tMETERS\n");
+        accepted(started);
+        same(56, started.length);
+        refused(30, -1, 0, Seg2.addIntegers(b, 56, "", 1, new int[3]));
+        refused(1, -1, 0, Seg2.addIntegers(b, 57, "", 1, new int[3]));
+        refused(5, -1, 6, Seg2.check(b, 56));
+        byte[] all = copy(b);
+        for (int i = 56; i < 200; i++) {
+            same((byte) 0xA5, all[i]);
+        }
+        // a slice is a buffer of its own
+        ByteBuffer outer = painted(300);
+        outer.position(100);
+        ByteBuffer inner = outer.slice();
+        accepted(Seg2.start(inner, 1, 1, ""));
+        same((byte) 0xA5, outer.get(99));
+        same((byte) 0x3A, outer.get(100));
+        // and a row's limit is its length
+        IntBuffer row = direct(9, 9, 9, 9);
+        row.limit(3);
+        row.position(1);
+        accepted(Seg2.integers(example(), 108, 0, row));
+        same(1, row.position());
+        row.limit(4);
+        same(1, row.get(0));
+        same(256, row.get(2));
+        same(9, row.get(3));
+    }
+
+    private static void mappedFile() throws IOException {
+        Path path = Files.createTempFile("seg2", ".sg2");
+        try {
+            ByteBuffer b = example();
+            byte[] all = Arrays.copyOf(copy(b), 108);
+            Files.write(path, all);
+            try (RandomAccessFile file = new RandomAccessFile(path.toFile(), "r")) {
+                ByteBuffer mapped = file.getChannel().map(FileChannel.MapMode.READ_ONLY, 0, file.length());
+                accepted(Seg2.check(mapped, mapped.limit()));
+                int[] row = new int[3];
+                accepted(Seg2.integers(mapped, mapped.limit(), 0, row));
+                same(new int[] {1, -1, 256}, row);
+                same("METERS", Seg2.value(mapped, mapped.limit(), Seg2.FILE, "UNITS").text());
+            }
+        } finally {
+            Files.delete(path);
+        }
+    }
+
+    private static void misuse() throws Exception {
+        ByteBuffer good = example();
+        ByteBuffer heap = ByteBuffer.wrap(Arrays.copyOf(copy(good), 108));
+        ByteBuffer readOnly = good.asReadOnlyBuffer();
+        byte[] none = null;
+        String noText = null;
+        int[] noRow = null;
+        IntBuffer noView = null;
+        byte[] key = {'A'};
+        for (ByteBuffer bad : new ByteBuffer[] {null, heap}) {
+            String words = bad == null ? "the buffer is null" : "not direct";
+            misused(words, () -> Seg2.check(bad, 108));
+            misused(words, () -> Seg2.fileBlock(bad, 108));
+            misused(words, () -> Seg2.traceBlock(bad, 108, 0));
+            misused(words, () -> Seg2.stringCount(bad, 108, 0));
+            misused(words, () -> Seg2.string(bad, 108, 0, 0));
+            misused(words, () -> Seg2.keyword(bad, 108, 0, key));
+            misused(words, () -> Seg2.value(bad, 108, 0, key));
+            misused(words, () -> Seg2.number(bad, 108, 0, key));
+            misused(words, () -> Seg2.doubleValue(bad, 108, 0, key));
+            misused(words, () -> Seg2.location(bad, 108, 0, key));
+            misused(words, () -> Seg2.integers(bad, 108, 0, new int[3]));
+            misused(words, () -> Seg2.integers(bad, 108, 0, direct(0, 0, 0)));
+            misused(words, () -> Seg2.bits(bad, 108, 0, new long[3], new byte[3]));
+            misused(words, () -> Seg2.start(bad, 0, 1, key));
+            misused(words, () -> Seg2.addIntegers(bad, 108, key, 1, new int[3]));
+            misused(words, () -> Seg2.addIntegers(bad, 108, key, 1, direct(0)));
+            misused(words, () -> Seg2.addBits(bad, 108, key, 4, new long[3]));
+        }
+        misused("read-only", () -> Seg2.start(readOnly, 0, 1, ""));
+        misused("read-only", () -> Seg2.addIntegers(readOnly, 108, "", 1, new int[1]));
+        misused("read-only", () -> Seg2.addIntegers(readOnly, 108, "", 1, direct(1)));
+        misused("read-only", () -> Seg2.addBits(readOnly, 108, "", 4, new long[1]));
+        misused("read-only", () -> Seg2.integers(good, 108, 0, direct(0, 0, 0).asReadOnlyBuffer()));
+        misused("keyword is null", () -> Seg2.keyword(good, 108, 0, none));
+        misused("keyword is null", () -> Seg2.value(good, 108, 0, noText));
+        misused("keyword is null", () -> Seg2.number(good, 108, 0, none));
+        misused("keyword is null", () -> Seg2.doubleValue(good, 108, 0, noText));
+        misused("keyword is null", () -> Seg2.location(good, 108, 0, none));
+        misused("sheet is null", () -> Seg2.start(good, 0, 1, none));
+        misused("sheet is null", () -> Seg2.addIntegers(good, 108, noText, 1, new int[1]));
+        misused("sheet is null", () -> Seg2.addBits(good, 108, none, 4, new long[1]));
+        misused("row is null", () -> Seg2.integers(good, 108, 0, noRow));
+        misused("row is null", () -> Seg2.integers(good, 108, 0, noView));
+        misused("row is null", () -> Seg2.bits(good, 108, 0, null, new byte[3]));
+        misused("row is null", () -> Seg2.bits(good, 108, 0, new long[3], null));
+        misused("row is null", () -> Seg2.addIntegers(good, 108, "", 1, noRow));
+        misused("row is null", () -> Seg2.addIntegers(good, 108, "", 1, noView));
+        misused("row is null", () -> Seg2.addBits(good, 108, "", 4, null));
+        misused("row is not direct", () -> Seg2.integers(good, 108, 0, IntBuffer.allocate(3)));
+        misused("row is not direct", () -> Seg2.addIntegers(good, 108, "", 1, IntBuffer.wrap(new int[3])));
+        // Java's own default order is high byte first, so this is easy to get wrong
+        ByteOrder other = ByteOrder.nativeOrder() == ByteOrder.LITTLE_ENDIAN ? ByteOrder.BIG_ENDIAN : ByteOrder.LITTLE_ENDIAN;
+        IntBuffer swapped = ByteBuffer.allocateDirect(12).order(other).asIntBuffer();
+        misused("byte order", () -> Seg2.integers(good, 108, 0, swapped));
+        misused("byte order", () -> Seg2.addIntegers(good, 108, "", 1, swapped));
+        ByteBuffer odd = ByteBuffer.allocateDirect(16);
+        odd.position(1);
+        IntBuffer crooked = odd.slice().order(ByteOrder.nativeOrder()).asIntBuffer();
+        misused("multiple of its element's size", () -> Seg2.integers(good, 108, 0, crooked));
+        // a row in the file's own memory
+        ByteBuffer arena = ByteBuffer.allocateDirect(400).order(ByteOrder.nativeOrder());
+        ByteBuffer file = arena.duplicate();
+        file.put(copy(good), 0, 108);
+        file.clear();
+        file.limit(120);
+        arena.position(116);
+        IntBuffer inside = arena.slice().order(ByteOrder.nativeOrder()).asIntBuffer();
+        inside.limit(3);
+        misused("own memory", () -> Seg2.integers(file, 108, 0, inside));
+        misused("own memory", () -> Seg2.addIntegers(file, 108, "", 1, inside));
+        arena.position(120);
+        IntBuffer beside = arena.slice().order(ByteOrder.nativeOrder()).asIntBuffer();
+        beside.limit(3);
+        accepted(Seg2.integers(file, 108, 0, beside));
+        same(256, beside.get(2));
+    }
+
+    /** All that a crew's app does with a file, on the calling thread. */
+    private static void everything(int seed) {
+        Random random = new Random(seed);
+        int[] samples = new int[4 * (1 + random.nextInt(50))];
+        for (int i = 0; i < samples.length; i++) {
+            samples[i] = random.nextInt(65536) - 32768;
+        }
+        ByteBuffer b = painted(10000);
+        int length = Seg2.start(b, seed & 1, 5, "UNITS\tMETERS\n").length;
+        for (int trace = 0; trace < 5; trace++) {
+            long[] patterns = {random.nextInt() & 0xFFFFFFFFL, trace};
+            Seg2.Length added = trace < 3
+                ? Seg2.addIntegers(b, length, "RECEIVER_LOCATION\t" + trace + ".5\n", trace + 1, samples)
+                : Seg2.addBits(b, length, "RECEIVER_LOCATION\t" + trace + ".5\n", trace + 1, patterns);
+            accepted(added);
+            length = added.length;
+        }
+        for (int trace = 0; trace < 5; trace++) {
+            Seg2.TraceBlock block = Seg2.traceBlock(b, length, trace);
+            same(trace + 1, block.formatCode);
+            same(trace + 0.5, Seg2.location(b, length, trace, "RECEIVER_LOCATION").x);
+            same(trace + 0.5, Seg2.doubleValue(b, length, trace, "RECEIVER_LOCATION").value);
+            same(trace * 10L + 5, Seg2.number(b, length, trace, "RECEIVER_LOCATION").coefficient);
+            same("RECEIVER_LOCATION", Seg2.string(b, length, trace, 0).keyText());
+            same(1, Seg2.stringCount(b, length, trace).count);
+            if (trace < 3) {
+                int[] row = new int[block.sampleCount];
+                accepted(Seg2.integers(b, length, trace, row));
+                for (int i = 0; i < row.length; i++) {
+                    same(samples[i], row[i]);
+                }
+            } else {
+                accepted(Seg2.bits(b, length, trace, new long[2], new byte[2]));
+            }
+        }
+        accepted(Seg2.check(b, length));
+        same(5, Seg2.fileBlock(b, length).traceCount);
+    }
+
+    private static void onThreads(int count, long stack, int rounds) throws Exception {
+        AtomicReference<Throwable> wrong = new AtomicReference<>();
+        Thread[] threads = new Thread[count];
+        for (int t = 0; t < count; t++) {
+            int from = t * rounds;
+            threads[t] = new Thread(null, () -> {
+                for (int i = 0; i < rounds; i++) {
+                    everything(from + i);
+                }
+            }, "reader " + t, stack);
+            threads[t].setUncaughtExceptionHandler((thread, e) -> wrong.compareAndSet(null, e));
+            threads[t].start();
+        }
+        for (Thread thread : threads) {
+            thread.join();
+        }
+        if (wrong.get() != null) {
+            throw new AssertionError("on a thread", wrong.get());
+        }
+    }
+
+    public static void main(String[] args) {
+        test("document 01's example, written and read back", Seg2Test::theExample);
+        test("an array and a direct row give the same", Seg2Test::theSameBytesFromBothRows);
+        test("values are the buffer's own bytes", Seg2Test::valuesAreTheBuffersOwnBytes);
+        test("refusals with part, place and words", Seg2Test::refusals);
+        test("numbers, names and limits are the header's", () -> theTable(Paths.get(args[0])));
+        test("bit patterns and classes", Seg2Test::bitsAndClasses);
+        test("numbers, doubles and locations", Seg2Test::numbersAndLocations);
+        test("the lines of a NOTE", Seg2Test::noteLines);
+        test("a refused start or addition changes nothing", Seg2Test::refusedAdditionsChangeNothing);
+        test("characters that are no ASCII", Seg2Test::otherCharacters);
+        test("the limit of a buffer holds", Seg2Test::theLimitHolds);
+        test("a mapped file", Seg2Test::mappedFile);
+        test("misuse is told before the library is called", Seg2Test::misuse);
+        // the machine gives a Java thread the least it can live with where less is asked for
+        test("a thread with a small stack", () -> onThreads(1, 32 * 1024, 50));
+        test("many threads at a time", () -> onThreads(8, 0, 50));
+        System.out.println(passed + " passed, " + failed + " failed");
+        System.exit(failed == 0 ? 0 : 1);
+    }
+}

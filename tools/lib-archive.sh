@@ -1,0 +1,124 @@
+# Sourced by tools/native-archive and tools/phone-archive: how a proved crate becomes an archive for an AArch64 machine.
+#
+# `rt staticlib` proves a library and compiles it for x86-64 alone. Here the LLVM module that the kit made of the proved crate is kept while
+# `rt staticlib` runs, and the kit's own clang compiles the same module for another triple. Only what names x86-64 in it is changed: the triple, the
+# data layout and the processor's name. Whatever else could differ between the two machines ends the script.
+#
+# The script that sources this has set `me`, its own name for messages, and stands in the repository's root.
+
+die() {
+    printf '%s: %s\n' "$me" "$*" >&2
+    exit 1
+}
+
+# The kit, found as rt finds itself. Sets kit, machine, tools and clang.
+find_kit() {
+    self=$(command -v rt) || die "rt is missing: the Rattle kit has to be installed and on PATH"
+    kit=${RATTLE_HOME:-$(dirname "$(readlink -f "$self")")/..}
+    kit=$(cd "$kit" && pwd -P)
+    machine=$(uname -m)
+    tools=$kit/on/$machine/toolchain
+    clang=$tools/bin/clang
+    for tool in clang llvm-ar; do
+        [ -x "$tools/bin/$tool" ] || die "the kit at $kit has no $tool for $machine"
+    done
+}
+
+links() { # FROM TO EXCEPT: in TO a link to each entry of FROM but one
+    mkdir -p "$2"
+    for entry in "$1"/*; do
+        [ "$(basename "$entry")" = "$3" ] || ln -s "$entry" "$2/"
+    done
+}
+
+# prove_module NAME WORK: proves the crate and leaves its module, for x86-64, as text in WORK/x86.ll. WORK is an absolute path to an empty folder.
+prove_module() {
+    find_kit
+    # A folder of links that is the kit but for its clang: a script that keeps the module that it is given, and then compiles it as asked. So
+    # `rt staticlib` itself proves, and no word of its command is repeated here.
+    shadow=$2/kit
+    links "$kit" "$shadow" on
+    links "$kit/on/$machine" "$shadow/on/$machine" toolchain
+    links "$tools" "$shadow/on/$machine/toolchain" bin
+    links "$tools/bin" "$shadow/on/$machine/toolchain/bin" clang
+    cat >"$shadow/on/$machine/toolchain/bin/clang" <<WRAPPER
+#!/bin/sh
+# Keeps the LLVM module among the arguments, then compiles it as asked.
+set -eu
+for word in "\$@"; do
+    case \$word in
+    *.bc)
+        [ ! -e '$2/module.bc' ] || { echo '$me: a second module' >&2; exit 1; }
+        cp "\$word" '$2/module.bc'
+        ;;
+    esac
+done
+exec '$clang' "\$@"
+WRAPPER
+    chmod +x "$shadow/on/$machine/toolchain/bin/clang"
+    RATTLE_HOME=$shadow rt staticlib "$1" >"$2/rt.out" 2>&1 || {
+        cat "$2/rt.out" >&2
+        die "$1 is not proved, so nothing is built"
+    }
+    grep -q '^logic=proved ' "$2/rt.out" || die "rt staticlib did not say that $1 is proved"
+    [ -s "$2/module.bc" ] || die "the kit's compiler was given no module"
+
+    x86_triple=x86_64-unknown-linux-gnu
+    x86_layout=e-m:e-p270:32:32-p271:32:32-p272:64:64-i64:64-i128:128-f80:128-n8:16:32:64-S128
+    "$clang" --target=$x86_triple -x ir -S -emit-llvm -Xclang -disable-llvm-passes -o "$2/x86.ll" "$2/module.bc"
+    for line in "target datalayout = \"$x86_layout\"" "target triple = \"$x86_triple\""; do
+        [ "$(grep -cFx -- "$line" "$2/x86.ll")" = 1 ] || die "the module has not the one line: $line"
+    done
+    same_everywhere "$1" "$2"
+}
+
+# same_everywhere NAME WORK: ends the script if the module could mean something else on AArch64.
+same_everywhere() {
+    sed -e '/^;/d' -e '/^target /d' -e '/^attributes #/s/ "target-cpu"="x86-64"//' "$2/x86.ll" >"$2/plain.ll"
+    # x86 by name, its own number type, and machine code in the text
+    if grep -nE 'x86|"target-(cpu|features)"|"tune-cpu"|(call|invoke)[^@]* asm |^module asm' "$2/plain.ll" >"$2/left"; then
+        head -n 5 "$2/left" >&2
+        die "the module still has what is x86-64's alone"
+    fi
+    # Nothing in it is left to a data layout but the sizes of plain numbers and pointers: every place is counted in bytes, and everything that lies in
+    # memory is a plain number, a pointer or a row of bytes (or a result's two words of 64 bits, between which neither has a gap), with its alignment
+    # written beside it.
+    held='(i8|i16|i32|i64|float|double|ptr)'
+    if grep -E '(^|[ (])getelementptr ' "$2/plain.ll" | grep -vE ' getelementptr (inbounds |nuw |nusw )*i8, ptr ' >"$2/left" ||
+        grep -E '(^|[ (])alloca ' "$2/plain.ll" | grep -vE " = alloca ($held|\[[0-9]+ x i8\]), align [0-9]+\$" >"$2/left" ||
+        grep -E '(^|[ (])load ' "$2/plain.ll" | grep -vE " = load ($held|\{ i64, i64 \}), ptr [^,]+, align [0-9]+(, ![^ ]+ ![0-9]+)*\$" >"$2/left" ||
+        grep -E '(^|[ (])store ' "$2/plain.ll" | grep -vE " store $held [^,]+, ptr [^,]+, align [0-9]+\$" >"$2/left"; then
+        head -n 5 "$2/left" >&2
+        die "the module leaves a size or an alignment to the data layout"
+    fi
+    # How arguments and results go is settled in the module, as C does it on x86-64. Numbers, bools and pointers go alike on both machines. So does a
+    # struct that C returns through memory: its place is the first argument of all, which is how a caller has to declare it on Arm (there C keeps that
+    # place in another register); and one of integers alone in two words of 64 bits, which both return in two registers. Any other struct in registers,
+    # or one on the stack, would not, and no other code may be called.
+    plain='(i1|i8|i16|i32|i64|float|double|ptr)'
+    grep '^define ' "$2/plain.ll" | grep -v '^define internal ' >"$2/exported" || die "the module exports nothing"
+    if grep -vE "^define (noundef )?((zeroext|signext) )?(void|\{ i64, i64 \}|$plain) @[A-Za-z0-9_]+\\(($plain noundef %a[0-9]+(, )?)*\\) #[0-9]+ \\{\$" "$2/exported" >"$2/left"; then
+        cat "$2/left" >&2
+        die "an exported function takes or returns what goes another way on AArch64"
+    fi
+    if grep -E '^declare ' "$2/plain.ll" | grep -v ' @llvm\.' >"$2/left"; then
+        cat "$2/left" >&2
+        die "the module calls code of C"
+    fi
+}
+
+# compile_module NAME WORK TRIPLE ARCHIVE: compiles the module of WORK for TRIPLE into ARCHIVE.
+compile_module() {
+    # The layout is asked of the clang that compiles, and has to be the one that the words above were checked for: 64-bit pointers, low byte first,
+    # and i64 on 8 bytes, as on x86-64. What it says beyond that (i8:8:32, n32:64, Fn32) are preferences and the alignment of functions.
+    layout=$(printf 'int x;\n' | "$clang" "--target=$3" -x c -S -emit-llvm -o - - | sed -n 's/^target datalayout = "\(.*\)"$/\1/p')
+    [ "$layout" = e-m:e-p270:32:32-p271:32:32-p272:64:64-i8:8:32-i16:16:32-i64:64-i128:128-n32:64-S128-Fn32 ] || die "the layout of $3 is another: $layout"
+    { printf 'target datalayout = "%s"\ntarget triple = "%s"\n' "$layout" "$3" && cat "$2/plain.ll"; } >"$2/$3.ll"
+    # No product and sum of floats become one operation, which x86-64 has not: each is rounded by itself, as it is proved. A clang that takes the module
+    # for another triple's says so, which is an error here.
+    mkdir -p "$2/$3"
+    "$clang" "--target=$3" -O3 -ffp-contract=off -fPIC -ffunction-sections -fdata-sections -Werror -c -x ir -o "$2/$3/$1.o" "$2/$3.ll"
+    rm -f "$4"
+    "$tools/bin/llvm-ar" --format=gnu rcs "$2/$3.a" "$2/$3/$1.o"
+    mv "$2/$3.a" "$4"
+}
