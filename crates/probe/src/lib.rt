@@ -9,11 +9,14 @@ ghost use Rattle.decimal.specs.Double.{doubleOf};
 ghost use Rattle.decimal.specs.Location.{locationOf};
 ghost use Rattle.sample.specs.Needed.{room};
 ghost use Rattle.sample.specs.Sample.{integersThere, integersRead, bitsThere, patternsRead, classesRead};
+ghost use Rattle.listing.specs.Listing.{listAnswer, listLeft};
 ghost use Rattle.probe.specs.Told.{numberTold, doubleTold, locationTold};
+ghost use Rattle.probe.specs.Listed.{lengthTold};
 ghost use Rattle.probe.specs.Written.{isAll, integersTaken, integersLeft, bitsTaken, bitsLeft};
 use decimal::DoubleAnswer;
 use decimal::LocationAnswer;
 use decimal::NumberAnswer;
+use listing::Listed;
 use sample::Fit;
 
 // ---- numbers in values (document 01, "Numbers in values", rows 20 to 23)
@@ -305,5 +308,21 @@ pub extern "C" fn probe_write_bits(code: u8, row: &[u64], high: bool, part: &mut
         4 => write_4(row, high, part),
         5 => write_5(row, high, part),
         _ => false,
+    }
+}
+
+// ---- the listing (document 01, the end of "Worked values", and row 19)
+
+// How many bytes the listing has, stored from the start of the row; or the greatest number, which no listing has, where the row is too short for the
+// input: 16 bytes for each of the input's and 64 more are enough.
+#[no_mangle]
+pub extern "C" fn probe_list(input: &[u8], out: &mut [u8]) -> usize
+    ensures answer { λ r. ⌜ r ≡ lengthTold (listAnswer (now (input .entry)) (length (now (out .entry)))) ⌝ }
+    ensures left { λ _. ⌜ now (out .exit) ≡ listLeft (now (input .entry)) (now (out .entry)) ⌝ }
+{
+    let answer = listing::list(input, out);
+    match answer {
+        Listed::To(n) => n,
+        Listed::Full => 18446744073709551615,
     }
 }

@@ -80,6 +80,7 @@ extern "C" {
         part: *mut u8,
         part_length: usize,
     ) -> bool;
+    fn probe_list(input: *const u8, input_length: usize, out: *mut u8, out_length: usize) -> usize;
 }
 
 // Smaller ones would come back in registers.
@@ -183,4 +184,13 @@ pub fn write_bits(code: u8, row: &[u64], high: bool, part: &mut [u8]) -> bool {
             part.len(),
         )
     }
+}
+
+/// Writes the listing of a file from the row's start on, and tells how long it is.
+/// None, and nothing written, where the row has less than 16 bytes for each of the
+/// input's and 64 more.
+pub fn list(input: &[u8], out: &mut [u8]) -> Option<usize> {
+    // SAFETY: as above.
+    let length = unsafe { probe_list(input.as_ptr(), input.len(), out.as_mut_ptr(), out.len()) };
+    (length != usize::MAX).then_some(length)
 }

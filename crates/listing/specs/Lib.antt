@@ -1,0 +1,10 @@
+pub mod Digits
+pub mod Listing
+pub mod Wrote
+pub mod Sizes
+pub mod Turns
+pub mod Walks
+pub mod Told
+pub mod Numbers
+pub mod Room
+pub mod Printed

@@ -1,0 +1,15 @@
+-- The strings that a listing prints are those that the format's own words give the part: the list that its bytes spell.
+-- Assumes nothing.
+use mathlib.Core.Path.{_≡_}
+use mathlib.Core.List.{List}
+use Prim.Native.Nat.{ℕ, _≤_}
+use lib.ListN.{length}
+use Rattle.word.specs.Part.{part}
+use Rattle.text.specs.Spelled.{Str, Spells}
+use Rattle.text.specs.Paper.{spelled-places}
+use Rattle.block.specs.Head.{highFirst, stringEnd, lineEnd}
+use Rattle.listing.specs.Listing.{stringsIn}
+
+pub printed : (f : List ℕ) (a e : ℕ) (ss : List Str) → a ≤ e → e ≤ length f → Spells (highFirst f) (stringEnd f) (lineEnd f) ss (part a e f) → stringsIn f a e ≡ ss
+unfolding stringsIn
+printed f a e ss low fits s = spelled-places f (stringEnd f) (lineEnd f) (highFirst f) a e ss low fits s

@@ -1,0 +1,164 @@
+-- The blocks of an accepted file, as they are read for the listing; and the answer.
+-- Assumes nothing.
+use mathlib.Core.Path.{_≡_, refl, sym, ap, _∙_}
+use mathlib.Core.Bool.{Bool, true, false}
+use mathlib.Core.List.{List, [], _∷_, _++_}
+use Prim.Native.Nat.{ℕ, zero, suc, _+_, _-_, _*_, _/_, _≤_, _<_}
+use native.Mathlib.Omega.{arith}
+use lib.ListN.{length, take}
+use lib.Seq.{take-all}
+use lib.Dec.{ltb}
+use borrow.Author.Tests.{lt-ltb, le-ltb}
+use Rattle.word.specs.Part.{part}
+use Rattle.word.specs.Put.{put}
+use Rattle.refusal.specs.Table.{refusal}
+use Rattle.refusal.specs.declared.Part.the-variants.{File, Trace}
+use Rattle.refusal.specs.declared.Rule.the-variants.{InputSize}
+use Rattle.refusal.specs.declared.Refusal.{Refusal}
+use Rattle.refusal.specs.declared.Verdict.the-variants.{Accepted, Refused}
+use Rattle.text.specs.Strings.{placesOf}
+use Rattle.text.specs.Spelled.{strsIn}
+use Rattle.block.specs.declared.FileBlock.{FileBlock}
+use Rattle.block.specs.declared.TraceBlock.{TraceBlock}
+use Rattle.block.specs.Head.{highFirst, roomOf, countOf, stringEnd, lineEnd, goodTerminator}
+use Rattle.block.specs.HeadLaws.{good-most, length-terminator}
+use Rattle.block.specs.Image.{pointerOf, imageOf, checkOf, fileBlockOf, traceBlockOf}
+use Rattle.block.specs.Keeps.{traceAt, endBefore}
+use Rattle.block.specs.Accepted.{image-headed}
+use Rattle.reader.specs.Reach.{Checked, checked, some-trace, pointer-slot, trace-pointed, trace-blocked}
+use Rattle.listing.specs.declared.Listed.{Listed}
+use Rattle.listing.specs.declared.Listed.the-variants.{To, Full}
+use Rattle.listing.specs.Listing.{headLine, traceLine, refusalLine, stringsText, stringsIn, traceText, tracesText, fileText, checkedText, listingOf, roomFor, listAnswer, Within, listLeft}
+use Rattle.listing.specs.Wrote.{Room, Wrote, room-front, room-back, joined, first-room, second-room, both-wrote}
+
+module _ (f : List ℕ) (ok : imageOf false f ≡ Accepted) (size : 32 ≤ length f) where
+  pub ends-good : (goodTerminator f 8 ≡ true) × (goodTerminator f 11 ≡ true)
+  ends-good = let h = image-headed false f ok in (h .strings, h .lines)
+
+  pub line-some : (u : List ℕ) → u ≡ lineEnd f → 0 < length u
+  line-some u e =
+      let g = ends-good .1 in
+      let m = good-most f 11 g in
+      let l = length-terminator f 11 (omega arith) g in
+      rw e (omega (arith, l, m .0))
+
+  -- ---- a trace
+  module _ (k : ℕ) (low : k < countOf f) (high : Bool) (eh : high ≡ highFirst f) where
+    pub trace-slot : (36 + 4 * k ≤ length f) × (pointerOf high f k + 32 ≤ length f)
+    trace-slot = rw eh (pointer-slot f ok k low, trace-pointed f ok k low .fits)
+
+    module _ (b : TraceBlock) (eb : b ≡ traceBlockOf high f k) where
+      pub trace-area : (b .p + 32 ≤ b .p + b .b) × (b .p + b .b ≤ length f)
+      unfolding traceBlockOf
+      trace-area = let q = trace-blocked f ok k low in rw (eb, eh) (omega (arith, q .least), q .fits)
+
+      pub trace-text : (t u : List ℕ) → t ≡ stringEnd f → u ≡ lineEnd f
+          → traceText f k
+          ≡ traceLine k (b .code) (b .s)
+          ++ stringsText (Trace k) u (strsIn f (placesOf high t (part (b .p + 32) (b .p + b .b) f) (b .p + 32)))
+      unfolding traceText traceBlockOf stringsIn
+      trace-text t u et eu = rw (et, eu, eb, eh)
+
+      module _ (out : List ℕ) (at : ℕ) (room : Room out at (traceText f k)) where
+        pub trace-first : Room out at (traceLine k (b .code) (b .s))
+        trace-first =
+            first-room out at (traceText f k) (traceLine k (b .code) (b .s))
+            (stringsText (Trace k) (lineEnd f) (strsIn f (placesOf high (stringEnd f) (part (b .p + 32) (b .p + b .b) f) (b .p + 32))))
+            (trace-text (stringEnd f) (lineEnd f) refl refl) room
+
+        pub trace-second : (t u : List ℕ) → t ≡ stringEnd f → u ≡ lineEnd f → (r : ℕ) (ys : List ℕ) → Wrote out at (traceLine k (b .code) (b .s)) r ys
+            → Room ys r (stringsText (Trace k) u (strsIn f (placesOf high t (part (b .p + 32) (b .p + b .b) f) (b .p + 32))))
+        trace-second t u et eu r ys w =
+            second-room out at (traceText f k) (traceLine k (b .code) (b .s))
+            (stringsText (Trace k) u (strsIn f (placesOf high t (part (b .p + 32) (b .p + b .b) f) (b .p + 32))))
+            (trace-text t u et eu) r ys room w
+
+        pub trace-both : (t u : List ℕ) → t ≡ stringEnd f → u ≡ lineEnd f → (r : ℕ) (ys : List ℕ) (s : ℕ) (zs : List ℕ) → Wrote out at (traceLine k (b .code) (b .s)) r ys
+            → Wrote ys r (stringsText (Trace k) u (strsIn f (placesOf high t (part (b .p + 32) (b .p + b .b) f) (b .p + 32)))) s zs
+            → Wrote out at (traceText f k) s zs
+        trace-both t u et eu r ys s zs w v = both-wrote out at (traceText f k) _ _ (trace-text t u et eu) r ys s zs w v
+
+  -- ---- the file
+  pub first-slot : 36 + 4 * 0 ≤ length f
+  first-slot = pointer-slot f ok 0 (some-trace f ok)
+
+  module _ (b : FileBlock) (eb : b ≡ fileBlockOf f) where
+    pub count-told : b .n ≡ countOf f
+    unfolding fileBlockOf
+    count-told = rw eb
+
+    pub room-told : (32 + b .m ≤ length f) × (4 * b .n ≤ b .m)
+    unfolding fileBlockOf
+    room-told = let h = image-headed false f ok in rw eb (h .fits, omega (arith, h .count))
+
+    module _ (first : ℕ) (ef : first ≡ pointerOf (b .high) f 0) where
+      pub file-area : (32 + b .m ≤ first) × (first ≤ length f)
+      unfolding fileBlockOf endBefore
+      file-area = let q = trace-pointed f ok 0 (some-trace f ok) in rw (ef, eb) (q .behind, omega (arith, q .fits))
+
+      pub file-text : (t u : List ℕ) → t ≡ stringEnd f → u ≡ lineEnd f
+          → fileText f
+          ≡ headLine (b .high) (b .n) (b .m)
+          ++ (stringsText File u (strsIn f (placesOf (b .high) t (part (32 + b .m) first f) (32 + b .m))) ++ tracesText f (b .n) 0)
+      unfolding fileText fileBlockOf stringsIn
+      file-text t u et eu = rw (et, eu, ef, eb)
+
+      abbrev head : List ℕ
+      head = headLine (b .high) (b .n) (b .m)
+
+      abbrev strings : List ℕ → List ℕ → List ℕ
+      strings t u = stringsText File u (strsIn f (placesOf (b .high) t (part (32 + b .m) first f) (32 + b .m)))
+
+      module _ (out : List ℕ) (room : Room out 0 (fileText f)) where
+        pub file-first : Room out 0 (headLine (b .high) (b .n) (b .m))
+        file-first = first-room out 0 (fileText f) head (strings (stringEnd f) (lineEnd f) ++ tracesText f (b .n) 0) (file-text (stringEnd f) (lineEnd f) refl refl) room
+
+        module _ (t u : List ℕ) (et : t ≡ stringEnd f) (eu : u ≡ lineEnd f) (r : ℕ) (ys : List ℕ) (w : Wrote out 0 head r ys) where
+          rest : Room ys r (strings t u ++ tracesText f (b .n) 0)
+          rest = second-room out 0 (fileText f) head (strings t u ++ tracesText f (b .n) 0) (file-text t u et eu) r ys room w
+
+          pub file-second : Room ys r (stringsText File u (strsIn f (placesOf (b .high) t (part (32 + b .m) first f) (32 + b .m))))
+          file-second = room-front ys r (strings t u) (tracesText f (b .n) 0) rest
+
+          module _ (s : ℕ) (zs : List ℕ) (v : Wrote ys r (stringsText File u (strsIn f (placesOf (b .high) t (part (32 + b .m) first f) (32 + b .m)))) s zs) where
+            pub file-third : Room zs s (tracesText f (b .n) 0)
+            file-third = room-back ys r (strings t u) (tracesText f (b .n) 0) s zs rest v
+
+            pub file-all : (q : ℕ) (new : List ℕ) → Wrote zs s (tracesText f (b .n) 0) q new → Wrote out 0 (fileText f) q new
+            file-all q new x = both-wrote out 0 (fileText f) head (strings t u ++ tracesText f (b .n) 0) (file-text t u et eu) r ys q new w (joined ys r (strings t u) (tracesText f (b .n) 0) s zs q new v x)
+
+-- ---- the answer
+module _ (input out : List ℕ) where
+  pub list-full : length out < roomFor (length input) → (Full ≡ listAnswer input (length out)) × (Within Full (length out) × (out ≡ listLeft input out))
+  unfolding listAnswer listLeft
+  list-full h = let e = lt-ltb (length out) (roomFor (length input)) h in (rw e, (tt, rw e))
+
+  module _ (room : roomFor (length input) ≤ length out) where
+    told : (r : ℕ) (new text : List ℕ) → text ≡ listingOf input → Wrote out 0 text r new → r ≤ length out → (To r ≡ listAnswer input (length out)) × (Within (To r) (length out) × (new ≡ listLeft input out))
+    unfolding listAnswer listLeft
+    told r new text e (d, w) f =
+        let q = le-ltb (length out) (roomFor (length input)) room in
+        let s : r ≡ length (listingOf input) = d ∙ omega arith ∙ ap length e in
+        (rw q (ap To s), (f, w ∙ rw q (ap (λ (z : List ℕ). put out 0 z) e)))
+
+    pub list-large : 65536 < length input → (r : ℕ) (new : List ℕ) → Wrote out 0 (refusalLine (refusal InputSize File 0)) r new
+        → r ≤ length out → (To r ≡ listAnswer input (length out)) × (Within (To r) (length out) × (new ≡ listLeft input out))
+    unfolding listingOf
+    list-large h r new w f = told r new _ (rw (lt-ltb 65536 (length input) h)) w f
+
+    pub list-refused : length input ≤ 65536 → (x : Refusal) → checkOf false input (length input) ≡ Refused x → (r : ℕ) (new : List ℕ) → Wrote out 0 (refusalLine x) r new
+        → r ≤ length out → (To r ≡ listAnswer input (length out)) × (Within (To r) (length out) × (new ≡ listLeft input out))
+    unfolding listingOf checkedText
+    list-refused h x e r new w f = told r new _ (rw (le-ltb 65536 (length input) h, e)) w f
+
+    pub list-file : length input ≤ 65536 → checkOf false input (length input) ≡ Accepted → (r : ℕ) (new : List ℕ) → Wrote out 0 (fileText input) r new
+        → r ≤ length out → (To r ≡ listAnswer input (length out)) × (Within (To r) (length out) × (new ≡ listLeft input out))
+    unfolding listingOf checkedText
+    list-file h e r new w f = told r new _ (rw (le-ltb 65536 (length input) h, e)) w f
+
+-- an accepted input is its own image
+pub whole-image : (input : List ℕ) → checkOf false input (length input) ≡ Accepted → (imageOf false input ≡ Accepted) × (32 ≤ length input)
+whole-image input e =
+    let c = checked input (length input) e in
+    let t : take (length input) input ≡ input = take-all (length input) input (omega arith) in
+    (rw t at (c .image), c .least)

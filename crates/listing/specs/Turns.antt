@@ -1,0 +1,184 @@
+-- The walks over a value, a NOTE's lines, an area's strings and a file's traces: a law for each turn.
+-- Assumes nothing.
+use mathlib.Core.Path.{_≡_, refl, sym, ap, _∙_}
+use mathlib.Core.Bool.{Bool, true, false}
+use mathlib.Core.List.{List, [], _∷_, _++_}
+use Prim.Native.Nat.{ℕ, zero, suc, _+_, _-_, _≤_, _<_}
+use native.Mathlib.Omega.{arith}
+use lib.ListN.{length, getD, take, drop, set, length-drop, drop-of-length-le}
+use lib.Seq.{drop-drop, length-take-le}
+use lib.Dec.{leb}
+use borrow.Author.Tests.{le-leb, lt-leb, leb-true}
+use Rattle.word.specs.Part.{part, length-part, part-rest}
+use Rattle.word.specs.Put.{put, put-none, copy-turn}
+use Rattle.refusal.specs.Rows.{pick}
+use Rattle.refusal.specs.declared.Part.{Part}
+use Rattle.text.specs.declared.Frame.{Frame}
+use Rattle.text.specs.declared.Frame.the-variants.{End, Text, Broken}
+use Rattle.text.specs.declared.Place.{Place}
+use Rattle.text.specs.declared.Found.{Found}
+use Rattle.text.specs.declared.Found.the-variants.{Nothing, Is}
+use Rattle.text.specs.declared.Entry.the-variants.{Stop, At}
+use Rattle.text.specs.Runs.{same, both, none}
+use Rattle.text.specs.Note.{starts, lineLen, linesOf, lineLen-le, line-ends}
+use Rattle.text.specs.Strings.{frameOf, placeOf, onText, entryOf, placesFrom, placesOf, nthOf, keyIn, valueIn}
+use Rattle.text.specs.Walks.{in-frame, place-next, place-stop, place-bounds}
+use Rattle.text.specs.Lists.{In}
+use Rattle.text.specs.Spelled.{Str, strsIn}
+use Rattle.listing.specs.Listing.{space, spaced, stringLine, linesText, valuesOf, stringsText, traceText, tracesText}
+use Rattle.listing.specs.Wrote.{Wrote}
+
+-- ---- a value without tabs
+pub length-spaced : (v : List ℕ) → length (spaced v) ≡ length v
+unfolding spaced
+length-spaced [] = refl
+length-spaced (b ∷ bs) = ap suc (length-spaced bs)
+
+pub spaced-at : (v : List ℕ) (i : ℕ) → i < length v → getD (spaced v) i 0 ≡ space (getD v i 0)
+unfolding spaced
+spaced-at [] i h = absurd (omega arith)
+spaced-at (b ∷ bs) zero h = refl
+spaced-at (b ∷ bs) (suc i) h = spaced-at bs i (omega arith)
+
+module _ (v out₀ out : List ℕ) (at i : ℕ) (e : put out (at + i) (drop i (spaced v)) ≡ put out₀ at (spaced v)) where
+  pub spaced-turn : (b : ℕ) → i < length v → b ≡ space (getD v i 0) → put (set out (at + i) b) (at + (i + 1)) (drop (i + 1) (spaced v)) ≡ put out₀ at (spaced v)
+  spaced-turn b h w =
+      let l = length-spaced v in
+      let q : b ≡ getD (spaced v) i 0 = w ∙ sym (spaced-at v i h) in
+      rw q (copy-turn 0 (spaced v) out at i (omega arith)) ∙ e
+
+  pub spaced-over : i ≤ length v → length v ≤ i → Wrote out₀ at (spaced v) (at + i) out
+  spaced-over h k =
+      let l = length-spaced v in
+      let d : drop i (spaced v) ≡ [] = drop-of-length-le (spaced v) {i = i} (omega arith) in
+      (omega arith, sym (put-none out (at + i)) ∙ sym (ap (λ (q : List ℕ). put out (at + i) q) d) ∙ e)
+
+-- ---- the lines of a NOTE: e is where the line from `from` on ends
+pub starts-fits : (u l : List ℕ) → starts u l ≡ true → length u ≤ length l
+unfolding starts
+starts-fits u l h = leb-true (length u) (length l) (both (leb (length u) (length l)) (same (take (length u) l) u) h .0)
+
+module _ (u v : List ℕ) (from e m : ℕ) (told : e ≡ from + lineLen u (drop from v)) (enough : length (drop from v) ≤ m) where
+  pub line-on : 0 < length u → e < length v
+      → (e + length u ≤ length v) × (length (drop (e + length u) v) ≤ m - 1)
+      × (linesOf m u (drop from v) ≡ part from e v ∷ linesOf (m - 1) u (drop (e + length u) v))
+  unfolding linesOf
+  line-on some h =
+      let d = length-drop from v in
+      let n : lineLen u (drop from v) < length (drop from v) = omega arith in
+      let q : e - from ≡ lineLen u (drop from v) = omega arith in
+      let s : starts u (drop e v) ≡ true = rw (told, ← drop-drop (lineLen u (drop from v)) from v) (line-ends u (drop from v) n) in
+      let f : length u ≤ length (drop e v) = starts-fits u (drop e v) s in
+      let g = length-drop e v in
+      let j = length-drop (e + length u) v in
+      let k : from + (lineLen u (drop from v) + length u) ≡ e + length u = omega arith in
+      let w : drop (lineLen u (drop from v) + length u) (drop from v) ≡ drop (e + length u) v =
+      drop-drop (lineLen u (drop from v) + length u) from v ∙ ap (λ (z : ℕ). drop z v) k in
+      (omega arith, omega arith, go m enough n q w)
+    where
+      go : (m : ℕ) → length (drop from v) ≤ m → lineLen u (drop from v) < length (drop from v) → e - from ≡ lineLen u (drop from v)
+          → drop (lineLen u (drop from v) + length u) (drop from v) ≡ drop (e + length u) v
+          → linesOf m u (drop from v) ≡ part from e v ∷ linesOf (m - 1) u (drop (e + length u) v)
+      go zero h n q w = absurd (omega arith)
+      go (suc m) h n q w =
+          let r : suc m - 1 ≡ m = omega arith in
+          rw (lt-leb (length (drop from v)) (lineLen u (drop from v)) n, r, q, w)
+
+  pub line-last : length v ≤ e → linesOf m u (drop from v) ≡ drop from v ∷ []
+  unfolding linesOf
+  line-last h = go m
+    where
+      go : (m : ℕ) → linesOf m u (drop from v) ≡ drop from v ∷ []
+      go zero = refl
+      go (suc m) =
+          let d = length-drop from v in
+          let n : length (drop from v) ≤ lineLen u (drop from v) = omega arith in
+          rw (le-leb (length (drop from v)) (lineLen u (drop from v)) n)
+
+pub lines-more : (p : Part) (key v : List ℕ) (vs : List (List ℕ)) → linesText p key (v ∷ vs) ≡ stringLine p key v ++ linesText p key vs
+unfolding linesText
+lines-more p key v vs = refl
+
+pub lines-one : (p : Part) (key v : List ℕ) → linesText p key (v ∷ []) ≡ stringLine p key v
+unfolding linesText
+lines-one p key v = mathlib.Core.List.append-nil (stringLine p key v)
+
+-- ---- the lines of a string
+pub values-note : (u key v : List ℕ) → same key Rattle.text.specs.Chars.note ≡ true → valuesOf u key v ≡ linesOf (length v) u v
+unfolding valuesOf
+values-note u key v h = rw h
+
+pub values-plain : (u key v : List ℕ) → same key Rattle.text.specs.Chars.note ≡ false → valuesOf u key v ≡ v ∷ []
+unfolding valuesOf
+values-plain u key v h = rw h
+
+-- ---- the strings of an area: the first of those that are left, and where the next begins
+abbrev pub textFrom : Part → List ℕ → List ℕ → Bool → List ℕ → ℕ → ℕ → ℕ → List ℕ
+textFrom p u f high t e at m = stringsText p u (strsIn f (placesFrom m high t (part at e f) at))
+
+abbrev pub lineText : Part → List ℕ → List ℕ → Place → List ℕ
+lineText p u f s = linesText p (keyIn f s) (valuesOf u (keyIn f s) (valueIn f s))
+
+module _ (p : Part) (u f : List ℕ) (high : Bool) (t : List ℕ) (e at m : ℕ) (low : at < e) (fits : e ≤ length f) (enough : e - at ≤ m) where
+  first-of : (s : Place) → nthOf (placesOf high t (part at e f) at) 0 ≡ Is s
+      → (o : ℕ) × (entryOf high t (part at e f) at ≡ At s o) × (s .end + length t ≡ at + o)
+  unfolding placesOf nthOf placesFrom entryOf onText
+  first-of s h = sized (length (part at e f)) (length-part at e f fits) h
+    where
+      go : (w : Frame) → frameOf high t (part at e f) ≡ w → (m : ℕ)
+          → nthOf (onText w [] (λ o. placeOf t o (part at e f) at ∷ placesFrom m high t (drop o (part at e f)) (at + o))) 0 ≡ Is s
+          → (o : ℕ) × (onText w Stop (λ o. At (placeOf t o (part at e f) at) o) ≡ At s o) × (s .end + length t ≡ at + o)
+      go End q m k = let y : _≡_ {A = ℕ} 0 1 = cc in absurd (omega arith)
+      go (Broken r) q m k = let y : _≡_ {A = ℕ} 0 1 = cc in absurd (omega arith)
+      go (Text o) q m k =
+          let y : placeOf t o (part at e f) at ≡ s = cc in
+          let i = in-frame high t (part at e f) o q in
+          let z : at + (o - length t) ≡ s .end = ap (λ (r : Place). r .end) y in
+          (o, ap (λ (r : Place). At r o) y, omega (arith, i .low, z))
+
+      sized : (n : ℕ) → n ≡ e - at → nthOf (placesFrom n high t (part at e f) at) 0 ≡ Is s
+          → (o : ℕ) × (entryOf high t (part at e f) at ≡ At s o) × (s .end + length t ≡ at + o)
+      sized zero q k = absurd (omega arith)
+      sized (suc n) q k = go (frameOf high t (part at e f)) refl n k
+
+  pub string-in : (s : Place) → nthOf (placesOf high t (part at e f) at) 0 ≡ Is s
+      → In e s × (at < s .end + length t) × (s .end + length t ≤ e)
+  string-in s h =
+      let w = first-of s h in
+      let b = place-bounds high t f e at m low fits enough s (w .0) (w .1) in
+      ((b .2, b .3, b .4, b .5), omega (arith, b .0, w .2), omega (arith, b .1, w .2))
+
+  pub string-next : (s : Place) → nthOf (placesOf high t (part at e f) at) 0 ≡ Is s
+      → textFrom p u f high t e at m ≡ lineText p u f s ++ textFrom p u f high t e (s .end + length t) (m - 1)
+  unfolding stringsText
+  string-next s h =
+      let w = first-of s h in
+      ap (λ (ps : List Place). stringsText p u (strsIn f ps)) (place-next high t f e at m low fits enough s (w .0) (w .1)) ∙ rw (w .2)
+
+  pub string-none : nthOf (placesOf high t (part at e f) at) 0 ≡ Nothing → textFrom p u f high t e at m ≡ []
+  unfolding stringsText placesOf nthOf placesFrom entryOf onText
+  string-none h = ap (λ (ps : List Place). stringsText p u (strsIn f ps)) (sym (place-stop high t f e at m low fits enough (sized (length (part at e f)) (length-part at e f fits) h)))
+    where
+      go : (w : Frame) → (m : ℕ)
+          → nthOf (onText w [] (λ o. placeOf t o (part at e f) at ∷ placesFrom m high t (drop o (part at e f)) (at + o))) 0 ≡ Nothing
+          → onText w Stop (λ o. At (placeOf t o (part at e f) at) o) ≡ Stop
+      go End m k = refl
+      go (Broken r) m k = refl
+      go (Text o) m k = let y : _≡_ {A = ℕ} 0 1 = cc in absurd (omega arith)
+
+      sized : (n : ℕ) → n ≡ e - at → nthOf (placesFrom n high t (part at e f) at) 0 ≡ Nothing → entryOf high t (part at e f) at ≡ Stop
+      sized zero q k = absurd (omega arith)
+      sized (suc n) q k = go (frameOf high t (part at e f)) n k
+
+pub strings-over : (p : Part) (u f : List ℕ) (high : Bool) (t : List ℕ) (e at m : ℕ) → e ≤ at → textFrom p u f high t e at m ≡ []
+unfolding stringsText
+strings-over p u f high t e at m h = ap (λ (ps : List Place). stringsText p u (strsIn f ps)) (sym (Rattle.text.specs.Walks.place-over high t f e at m h))
+
+-- ---- the traces
+pub trace-next : (f : List ℕ) (n k : ℕ) → k < n → tracesText f (n - k) k ≡ traceText f k ++ tracesText f (n - (k + 1)) (k + 1)
+unfolding tracesText
+trace-next f n k h = let e : n - k ≡ suc (n - (k + 1)) = omega arith in rw e
+
+pub traces-over : (f : List ℕ) (n k : ℕ) → n ≤ k → tracesText f (n - k) k ≡ []
+unfolding tracesText
+traces-over f n k h = let e : n - k ≡ 0 = omega arith in rw e
