@@ -1,0 +1,309 @@
+// The worked values of document 01 and the examples of the paper (document 001), run against the proved functions. Each group writes one line.
+use decimal::DoubleAnswer;
+use decimal::LocationAnswer;
+use decimal::NumberAnswer;
+use refusal::Part;
+use refusal::Verdict;
+use sample::Fit;
+
+// ---- comparisons
+
+fn number_is(text: &[u8], minus: bool, coefficient: u64, power: i32) -> bool {
+    let answer = decimal::number(text);
+    match answer {
+        NumberAnswer::Is(n) => (n.minus == minus)
+            & ((n.coefficient == coefficient) & (n.power == power)),
+        NumberAnswer::Refused(_) => false,
+    }
+}
+
+fn number_refused(text: &[u8], number: u32) -> bool {
+    let answer = decimal::number(text);
+    match answer {
+        NumberAnswer::Is(_) => false,
+        NumberAnswer::Refused(r) => {
+            let rule = r.rule;
+            refusal::number(rule) == number
+        }
+    }
+}
+
+fn double_is(text: &[u8], value: f64) -> bool {
+    let answer = decimal::double(text);
+    match answer {
+        DoubleAnswer::Is(x) => x == value,
+        DoubleAnswer::Refused(_) => false,
+    }
+}
+
+fn double_refused(text: &[u8], number: u32) -> bool {
+    let answer = decimal::double(text);
+    match answer {
+        DoubleAnswer::Is(_) => false,
+        DoubleAnswer::Refused(r) => {
+            let rule = r.rule;
+            refusal::number(rule) == number
+        }
+    }
+}
+
+fn location_is(text: &[u8], count: u32, x: f64, y: f64, z: f64) -> bool {
+    let answer = decimal::location(text);
+    match answer {
+        LocationAnswer::Is(c) => (c.count == count) & ((c.x == x) & ((c.y == y) & (c.z == z))),
+        LocationAnswer::Refused(_) => false,
+    }
+}
+
+fn location_refused(text: &[u8], number: u32) -> bool {
+    let answer = decimal::location(text);
+    match answer {
+        LocationAnswer::Is(_) => false,
+        LocationAnswer::Refused(r) => {
+            let rule = r.rule;
+            refusal::number(rule) == number
+        }
+    }
+}
+
+// One sample of codes 1 and 2.
+fn sample_is(code: u8, block: &[u8], high: bool, value: i32) -> bool {
+    let mut row = [0i32];
+    let read = sample::read_integers(code, block, high, &mut row);
+    read & (row[0] == value)
+}
+
+// One group of code 3.
+fn group_is(block: &[u8], high: bool, a: i32, b: i32, c: i32, d: i32) -> bool {
+    let mut row = [0i32; 4];
+    let read = sample::read_integers(3, block, high, &mut row);
+    read & ((row[0] == a) & ((row[1] == b) & ((row[2] == c) & (row[3] == d))))
+}
+
+// One pattern of codes 4 and 5, and its class.
+fn bits_are(code: u8, block: &[u8], high: bool, pattern: u64, class: u8) -> bool {
+    let mut row = [0u64];
+    let mut classes = [9u8];
+    let read = sample::read_bits(code, block, high, &mut row, &mut classes);
+    read & ((row[0] == pattern) & (classes[0] == class))
+}
+
+// Row 29 of code 3.
+fn unfit(value: i32) -> bool {
+    let row = [value, 0, 0, 0];
+    let fit = sample::unfit_integers(3, &row);
+    match fit {
+        Fit::All => false,
+        Fit::At(i) => i == 0,
+    }
+}
+
+// Strings with the string terminator 00 and the line terminator 0A 0D, low byte first.
+fn accepted(area: &[u8]) -> bool {
+    let v = text::check(area, 0, area.len(), false, b"\x00", b"\x0a\x0d", Part::File);
+    match v {
+        Verdict::Accepted => true,
+        Verdict::Refused(_) => false,
+    }
+}
+
+fn string_is(area: &[u8], i: usize, key: &[u8], value: &[u8]) -> bool {
+    let k = text::nth_key(area, 0, area.len(), false, b"\x00", i);
+    let v = text::nth_value(area, 0, area.len(), false, b"\x00", i);
+    let w = text::value(area, 0, area.len(), false, b"\x00", key);
+    check::same(k, key) & (check::same(v, value) & check::same(w, value))
+}
+
+fn strings_are(area: &[u8], count: usize) -> bool {
+    accepted(area) & (text::count(area, 0, area.len(), false, b"\x00") == count)
+}
+
+// The number that a file is refused by, or 0.
+fn refused_by(file: &[u8]) -> u32 {
+    let v = block::check(file, file.len(), false);
+    match v {
+        Verdict::Accepted => 0,
+        Verdict::Refused(r) => {
+            let rule = r.rule;
+            refusal::number(rule)
+        }
+    }
+}
+
+// ---- the groups
+
+fn line(name: &[u8], ok: bool) {
+    io::write_all(1, name);
+    if ok {
+        io::write_all(1, b": ok\n");
+    } else {
+        io::write_all(1, b": WRONG\n");
+    }
+}
+
+fn samples() -> bool {
+    sample_is(1, b"\xff\xff", false, -1)
+        & (sample_is(1, b"\xff\xff", true, -1)
+            & (sample_is(1, b"\x00\x80", false, -32768)
+                & (sample_is(1, b"\x7f\xff", true, 32767)
+                    & (sample_is(2, b"\x80\x00\x00\x00", true, -2147483648)
+                        & sample_is(2, b"\xff\xff\xff\xff", false, -1)))))
+}
+
+fn groups() -> bool {
+    group_is(
+        b"\x10\xf2\x01\x00\xfe\xff\x05\x00\xff\x7f",
+        false,
+        1,
+        -2,
+        20,
+        1073709056,
+    )
+        & (group_is(
+            b"\xf2\x10\x00\x01\xff\xfe\x00\x05\x7f\xff",
+            true,
+            1,
+            -2,
+            20,
+            1073709056,
+        )
+            & (unfit(1073741824) & (unfit(-1073741824) & !unfit(1073741823))))
+}
+
+fn patterns() -> bool {
+    bits_are(4, b"\x00\x00\x80\x3f", false, 1065353216, 2)
+        & (bits_are(4, b"\xc0\x00\x00\x00", true, 3221225472, 2)
+            & (bits_are(4, b"\x00\x00\x00\x00", true, 0, 0)
+                & (bits_are(4, b"\x00\x00\x00\x01", true, 1, 1)
+                    & (bits_are(4, b"\x7f\x80\x00\x00", true, 2139095040, 3)
+                        & (bits_are(4, b"\x7f\x80\x00\x01", true, 2139095041, 4)
+                            & bits_are(
+                                5,
+                                b"\xc0\x00\x00\x00\x00\x00\x00\x00",
+                                true,
+                                13835058055282163712,
+                                2,
+                            ))))))
+}
+
+fn numbers() -> bool {
+    number_is(b"0.020", false, 20, -3)
+        & (number_refused(b"0,020", 20)
+            & (number_refused(b"12.", 20)
+                & (number_is(b"-34.6", true, 346, -1)
+                    & (number_is(b"1.345E24", false, 1345, 21)
+                        & (double_refused(b"1.345E24", 22)
+                            & (number_is(b"-2.3E6", true, 23, 5)
+                                & (double_is(b"-34.6", -34.6) & location_refused(b"1 2", 23))))))))
+}
+
+fn allowed_numbers() -> bool {
+    number_is(b"12", false, 12, 0)
+        & (number_is(b"-3", true, 3, 0)
+            & (number_is(b"12.657", false, 12657, -3)
+                & (number_is(b"5.6E-11", false, 56, -12)
+                    & (number_is(b"-2.0E-9", true, 20, -10)
+                        & (double_is(b"12.657", 12.657)
+                            & (double_is(b"-2.3E6", -2300000.0)
+                                & double_is(b"5.6E-11", 5.6e-11)))))))
+}
+
+fn locations() -> bool {
+    location_is(b"120.5 0 0.25", 3, 120.5, 0.0, 0.25) & location_is(b"100.0", 1, 100.0, 0.0, 0.0)
+}
+
+// Figure C-1: what stands at each offset as printed.
+fn figure_c_1(area: &[u8]) -> bool {
+    let mut ok = strings_are(area, 9);
+    ok = ok & string_is(area, 0, b"ACQUISITION_DATE", b"16/08/1989");
+    ok = ok & string_is(area, 1, b"ACQUISITION_TIME", b"14:23:06");
+    ok = ok & string_is(area, 2, b"COMPANY", b"XYZ Geophysical Inc.");
+    ok = ok & string_is(area, 3, b"INSTRUMENT", b"Acme Instruments ES-12 #0001");
+    ok = ok & string_is(area, 4, b"JOB_ID", b"Casselman, Ontario 1989");
+    ok = ok & string_is(area, 5, b"OBSERVER", b"Joe Blow");
+    ok = ok & string_is(area, 6, b"TRACE_SORT", b"AS_ACQUIRED");
+    ok = ok & string_is(area, 7, b"UNITS", b"METERS");
+    ok = ok
+        & string_is(
+            area,
+            8,
+            b"NOTE",
+            b"This example is for illustrative purposes only",
+        );
+    ok
+}
+
+// Figure C-2, with the decimal points that the scan lost; of its NOTE the second line and the terminator before it.
+fn figure_c_2(area: &[u8]) -> bool {
+    let mut ok = strings_are(area, 17);
+    ok = ok & string_is(area, 0, b"AMPLITUDE_RECOVERY", b"NONE");
+    ok = ok & string_is(area, 1, b"DELAY", b"0.020");
+    ok = ok & string_is(area, 2, b"FIXED_GAIN", b"84");
+    ok = ok & string_is(area, 3, b"HIGH_CUT_FILTER", b"1000 -12");
+    ok = ok & string_is(area, 4, b"LINE_ID", b"100");
+    ok = ok & string_is(area, 5, b"LOW_CUT_FILTER", b"250 12");
+    ok = ok & string_is(area, 6, b"NOTCH_FREQUENCY", b"60");
+    ok = ok & string_is(area, 7, b"POLARITY", b"1");
+    ok = ok & string_is(area, 8, b"RECEIVER", b"VERTICAL_GEOPHONE");
+    ok = ok & string_is(area, 9, b"RECEIVER_LOCATION", b"120.5 0 0.25");
+    ok = ok & string_is(area, 10, b"RECEIVER_SPECS", b"Mark Products L28E 40 Hz");
+    ok = ok & string_is(area, 11, b"SAMPLE_INTERVAL", b"0.0002");
+    ok = ok & string_is(area, 12, b"SOURCE", b"12-gauge WIN VW12BL black powder");
+    ok = ok & string_is(area, 13, b"SOURCE_LOCATION", b"100.0");
+    ok = ok & string_is(area, 14, b"STACK", b"1");
+    ok = ok & string_is(area, 15, b"TRACE_TYPE", b"SEISMIC_DATA");
+    ok = ok
+        & string_is(
+            area,
+            16,
+            b"NOTE",
+            b"The sample interval\x0a\x0dwas 2 microseconds.",
+        );
+    ok
+}
+
+// The worked file; M=0 is refused by 4, and M=65532 only by 7, for the file is short; B=28 is refused by 10, and B=32 passes.
+fn files() -> bool {
+    (refused_by(
+        b"U:\x01\x00\x04\x00\x01\x00\x01\x00\x00\x01\x0a\x00\x00\x00\x00\x00\x00\x00\x00\x00\x00\x00\x00\x00\x00\x00\x00\x00\x00\x008\x00\x00\x00\x0f\x00UNITS METERS\x00\x00\x00\x00\x00\x00\"D,\x00\x08\x00\x00\x00\x03\x00\x00\x00\x01\x00\x00\x00\x00\x00\x00\x00\x00\x00\x00\x00\x00\x00\x00\x00\x00\x00\x00\x00\x0a\x00STACK 1\x00\x00\x00\x01\x00\xff\xff\x00\x01\x00\x00",
+    )
+        == 0)
+        & ((refused_by(
+            b"U:\x01\x00\x00\x00\x01\x00\x01\x00\x00\x01\x0a\x00\x00\x00\x00\x00\x00\x00\x00\x00\x00\x00\x00\x00\x00\x00\x00\x00\x00\x008\x00\x00\x00\x0f\x00UNITS METERS\x00\x00\x00\x00\x00\x00\"D,\x00\x08\x00\x00\x00\x03\x00\x00\x00\x01\x00\x00\x00\x00\x00\x00\x00\x00\x00\x00\x00\x00\x00\x00\x00\x00\x00\x00\x00\x0a\x00STACK 1\x00\x00\x00\x01\x00\xff\xff\x00\x01\x00\x00",
+        )
+            == 4)
+            & ((refused_by(
+                b"U:\x01\x00\xfc\xff\x01\x00\x01\x00\x00\x01\x0a\x00\x00\x00\x00\x00\x00\x00\x00\x00\x00\x00\x00\x00\x00\x00\x00\x00\x00\x008\x00\x00\x00\x0f\x00UNITS METERS\x00\x00\x00\x00\x00\x00\"D,\x00\x08\x00\x00\x00\x03\x00\x00\x00\x01\x00\x00\x00\x00\x00\x00\x00\x00\x00\x00\x00\x00\x00\x00\x00\x00\x00\x00\x00\x0a\x00STACK 1\x00\x00\x00\x01\x00\xff\xff\x00\x01\x00\x00",
+            )
+                == 7)
+                & ((refused_by(
+                    b"U:\x01\x00\x04\x00\x01\x00\x01\x00\x00\x01\x0a\x00\x00\x00\x00\x00\x00\x00\x00\x00\x00\x00\x00\x00\x00\x00\x00\x00\x00\x008\x00\x00\x00\x0f\x00UNITS METERS\x00\x00\x00\x00\x00\x00\"D\x1c\x00\x08\x00\x00\x00\x03\x00\x00\x00\x01\x00\x00\x00\x00\x00\x00\x00\x00\x00\x00\x00\x00\x00\x00\x00\x00\x00\x00\x00\x0a\x00STACK 1\x00\x00\x00\x01\x00\xff\xff\x00\x01\x00\x00",
+                )
+                    == 10)
+                    & (refused_by(
+                        b"U:\x01\x00\x04\x00\x01\x00\x01\x00\x00\x01\x0a\x00\x00\x00\x00\x00\x00\x00\x00\x00\x00\x00\x00\x00\x00\x00\x00\x00\x00\x008\x00\x00\x00\x0f\x00UNITS METERS\x00\x00\x00\x00\x00\x00\"D \x00\x08\x00\x00\x00\x03\x00\x00\x00\x01\x00\x00\x00\x00\x00\x00\x00\x00\x00\x00\x00\x00\x00\x00\x00\x00\x00\x00\x00\x0a\x00STACK 1\x00\x00\x00\x01\x00\xff\xff\x00\x01\x00\x00",
+                    )
+                        == 0))))
+}
+
+fn main() {
+    line(b"samples", samples());
+    line(b"20-bit groups", groups());
+    line(b"bit patterns", patterns());
+    line(b"numbers", numbers());
+    line(b"allowed numbers", allowed_numbers());
+    line(b"locations", locations());
+    line(
+        b"figure C-1",
+        figure_c_1(
+            b"\x1e\x00ACQUISITION_DATE 16/08/1989\x00\x1c\x00ACQUISITION_TIME 14:23:06\x00\x1f\x00COMPANY XYZ Geophysical Inc.\x00*\x00INSTRUMENT Acme Instruments ES-12 #0001\x00!\x00JOB_ID Casselman, Ontario 1989\x00\x14\x00OBSERVER Joe Blow\x00\x19\x00TRACE_SORT AS_ACQUIRED\x00\x0f\x00UNITS METERS\x006\x00NOTE This example is for illustrative purposes only\x00\x00\x00",
+        ),
+    );
+    line(
+        b"figure C-2",
+        figure_c_2(
+            b"\x1a\x00AMPLITUDE_RECOVERY NONE\x00\x0e\x00DELAY 0.020\x00\x10\x00FIXED_GAIN 84\x00\x1b\x00HIGH_CUT_FILTER 1000 -12\x00\x0e\x00LINE_ID 100\x00\x18\x00LOW_CUT_FILTER 250 12\x00\x15\x00NOTCH_FREQUENCY 60\x00\x0d\x00POLARITY 1\x00\x1d\x00RECEIVER VERTICAL_GEOPHONE\x00!\x00RECEIVER_LOCATION 120.5 0 0.25\x00*\x00RECEIVER_SPECS Mark Products L28E 40 Hz\x00\x19\x00SAMPLE_INTERVAL 0.0002\x00*\x00SOURCE 12-gauge WIN VW12BL black powder\x00\x18\x00SOURCE_LOCATION 100.0\x00\x0a\x00STACK 1\x00\x1a\x00TRACE_TYPE SEISMIC_DATA\x000\x00NOTE The sample interval\x0a\x0dwas 2 microseconds.\x00\x00\x00",
+        ),
+    );
+    line(b"files", files());
+}
