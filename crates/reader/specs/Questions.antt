@@ -21,7 +21,7 @@ use Rattle.text.specs.declared.Found.the-variants.{Nothing, Is}
 use Rattle.text.specs.Strings.{placesOf, nthOf, findOf, valueIn}
 use Rattle.sample.specs.Needed.{byCode}
 use Rattle.sample.specs.Run.{run}
-use Rattle.sample.specs.Sample.{sampleOf, patternOf, classOf}
+use Rattle.sample.specs.Sample.{bitsAsked, sampleOf, patternOf, classOf}
 use Rattle.decimal.specs.declared.NumberAnswer.{NumberAnswer}
 use Rattle.decimal.specs.declared.NumberAnswer.the-variants as number
 use Rattle.decimal.specs.declared.DoubleAnswer.{DoubleAnswer}
@@ -175,7 +175,7 @@ abbrev pub ofIntegers : ℕ → Bool
 ofIntegers code = byCode true true true false false false code
 
 abbrev pub ofBits : ℕ → Bool
-ofBits code = byCode false false false true true false code
+ofBits code = bitsAsked code
 
 unfoldable pub integersRows : List ℕ → ℕ → ℕ → Verdict
 integersRows f k s = first ((not (ofIntegers (codeAt f k)), refused CodeKind 0) ∷ (not (eqb s (countAt f k)), refused RowLength 0) ∷ []) Accepted

@@ -367,9 +367,9 @@ fn grow_integers(buffer: &mut [u8], length: usize, sheet: &[u8], size: usize, co
     let u = [buffer[12], buffer[13]];
     let m = word::wide(buffer[8]);
     let n = word::wide(buffer[11]);
-    word::zeros(buffer, length, at);
+    word::zeros(buffer, length, at); // the gap
     lend_integers(buffer, at, b.high, &t[..m], &u[..n], sheet, size, code, row);
-    register(buffer, b.high, b.n as u16, at);
+    register(buffer, b.high, b.n as u16, at); // only now is the trace one of the file's
 }
 
 fn grow_bits(buffer: &mut [u8], length: usize, sheet: &[u8], size: usize, code: u8, row: &[u64])
