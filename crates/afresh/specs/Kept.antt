@@ -14,7 +14,7 @@ use Rattle.word.specs.Part.{part, part-among}
 use Rattle.refusal.specs.Rows.{pick}
 use Rattle.refusal.specs.declared.Verdict.the-variants.{Accepted}
 use Rattle.text.specs.Runs.{all}
-use Rattle.text.specs.Spelled.{Spells}
+use Rattle.strings.specs.Spelled.{Spells}
 use Rattle.sample.specs.Needed.{room}
 use Rattle.sheet.specs.Area.{stringsOf, areaOf, areaSize}
 use Rattle.sheet.specs.Sizes.{length-area}

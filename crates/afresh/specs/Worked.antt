@@ -12,7 +12,7 @@ use lib.ListN.{length, replicate}
 use Rattle.word.specs.Word.{lowBytes, bytesOf}
 use Rattle.text.specs.Runs.{run, all, same}
 use Rattle.text.specs.Order.{less, rises}
-use Rattle.text.specs.Spelled.{written}
+use Rattle.strings.specs.Spelled.{written}
 use Rattle.sample.specs.Needed.{needed, room}
 use Rattle.sample.specs.Unfit.{firstFrom, outside, unfitInteger, unfitIntegers}
 use Rattle.sample.specs.Write.{flat, residue, fixedBytes, filledUp, integersData}

@@ -22,7 +22,7 @@ use Rattle.refusal.specs.declared.Part.the-variants.{File, Trace}
 use Rattle.refusal.specs.declared.Rule.the-variants.{Length}
 use Rattle.refusal.specs.declared.Verdict.the-variants.{Accepted}
 use Rattle.text.specs.Runs.{both}
-use Rattle.text.specs.Paper.{spelled-accepted, accepted-spelled}
+use Rattle.strings.specs.Paper.{spelled-accepted, accepted-spelled}
 use Rattle.block.specs.Head.{known, highFirst, roomOf, countOf, stringEnd, lineEnd, goodTerminator, headOf, refused}
 use Rattle.block.specs.HeadLaws.{Headed, headed, head-accepts, good-length, good-chars}
 use Rattle.block.specs.Image.{blockSize, dataSize, dataAt, endAt, pointerRow, blockOf, areaOf, andThen, traceOf, tracesFrom, restOf, imageOf, badLength, checkOf}

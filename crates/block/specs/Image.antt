@@ -15,7 +15,7 @@ use Rattle.refusal.specs.declared.Verdict.{Verdict}
 use Rattle.refusal.specs.declared.Verdict.the-variants.{Accepted, Refused}
 use Rattle.refusal.specs.Table.{refusal}
 use Rattle.refusal.specs.Rows.{Rows, first, pick}
-use Rattle.text.specs.Strings.{stringsOf}
+use Rattle.strings.specs.Strings.{stringsOf}
 use Rattle.sample.specs.Needed.{needed}
 use Rattle.block.specs.declared.FileBlock.{FileBlock}
 use Rattle.block.specs.declared.TraceBlock.{TraceBlock}

@@ -12,7 +12,7 @@ use Rattle.word.specs.Part.{part}
 use Rattle.refusal.specs.Rows.{pick}
 use Rattle.sample.specs.Needed.{needed}
 use Rattle.text.specs.Runs.{all}
-use Rattle.text.specs.Spelled.{Str, Spells}
+use Rattle.strings.specs.Spelled.{Str, Spells}
 use Rattle.block.specs.Head.{highFirst, revisionOf, roomOf, countOf, terminatorAt, stringEnd, lineEnd, control, apart}
 use Rattle.block.specs.Image.{pointerOf, markAt, blockSize, dataSize, sampleCount, formatCode, dataAt, endAt}
 

@@ -264,7 +264,7 @@ fn trace(f: &[u8], high: bool, t: &[u8], u: &[u8], k: u16, prev: usize) -> Walke
         return Walked::Bad(r);
     }
     let b = word::word2(f, high, p + 2);
-    let strings = text::check(f, p + 32, p + b, high, t, u, Part::Trace(k));
+    let strings = strings::check(f, p + 32, p + b, high, t, u, Part::Trace(k));
     if let Verdict::Refused(r) = strings {
         return Walked::Bad(r);
     }
@@ -300,13 +300,13 @@ fn rest(f: &[u8], high: bool, t: &[u8], u: &[u8], m: usize, n: u16) -> Verdict
 {
     let start = 32 + m;
     if n == 0 {
-        return text::check(f, start, f.len(), high, t, u, Part::File);
+        return strings::check(f, start, f.len(), high, t, u, Part::File);
     }
     let row = pointer_row(f, high, 0, start);
     if let Verdict::Refused(r) = row {
         return Verdict::Refused(r);
     }
-    let strings = text::check(f, start, pointer(f, high, 0), high, t, u, Part::File);
+    let strings = strings::check(f, start, pointer(f, high, 0), high, t, u, Part::File);
     if let Verdict::Refused(r) = strings {
         return Verdict::Refused(r);
     }

@@ -16,13 +16,13 @@ use Rattle.refusal.specs.declared.Verdict.{Verdict}
 use Rattle.refusal.specs.declared.Verdict.the-variants.{Accepted, Refused}
 use Rattle.refusal.specs.Table.{refusal}
 use Rattle.refusal.specs.Rows.{pick}
-use Rattle.text.specs.declared.Frame.the-variants.{End, Broken, Text}
-use Rattle.text.specs.declared.Judged.the-variants.{Keyword, Wrong}
+use Rattle.strings.specs.declared.Frame.the-variants.{End, Broken, Text}
+use Rattle.strings.specs.declared.Judged.the-variants.{Keyword, Wrong}
 use Rattle.text.specs.Chars.{keyChar}
 use Rattle.text.specs.Runs.{all, same}
 use Rattle.text.specs.Order.{rises}
 use Rattle.text.specs.Note.{valueOk}
-use Rattle.text.specs.Strings.{offset, body, keyLen, keyOf, valueOf, frameOf, judgedOf, onJudged, onFrame, stepOf, onStep, stringsFrom, stringsOf}
+use Rattle.strings.specs.Strings.{offset, body, keyLen, keyOf, valueOf, frameOf, judgedOf, onJudged, onFrame, stepOf, onStep, stringsFrom, stringsOf}
 use Rattle.block.specs.Head.{highFirst, roomOf, countOf, stringEnd, lineEnd, headRows, headOf}
 use Rattle.block.specs.Image.{pointerOf, blockSize, endAt, badPointer, pointerRow, blockRows, blockOf, areaOf, andThen, traceOf, tracesFrom, restOf, imageOf, badLength, checkOf}
 use Rattle.demands.specs.FirstRow.{row, firstOf, first-nothing, first-row, first-more, first-next, each, Refuses, first-each}

@@ -17,7 +17,7 @@ use Rattle.word.specs.Part.{part}
 use Rattle.word.specs.Round.{round4}
 use Rattle.word.specs.Word.{wordAt}
 use Rattle.refusal.specs.declared.Verdict.the-variants.{Accepted}
-use Rattle.text.specs.Spelled.{Str, Spells}
+use Rattle.strings.specs.Spelled.{Str, Spells}
 use Rattle.block.specs.Head.{highFirst, roomOf, countOf, stringEnd, lineEnd}
 use Rattle.block.specs.Image.{checkOf}
 use Rattle.block.specs.Keeps.{stringsEnd}

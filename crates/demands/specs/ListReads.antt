@@ -9,7 +9,7 @@ use lib.IntN.{negsuc}
 use lib.ListN.{length, getD, take}
 use Rattle.refusal.specs.declared.Verdict.the-variants.{Accepted}
 use Rattle.word.specs.Part.{part}
-use Rattle.text.specs.Spelled.{Spells}
+use Rattle.strings.specs.Spelled.{Spells}
 use Rattle.sheet.specs.Area.{stringsOf}
 use Rattle.sheet.specs.Spelling.{area-spells}
 use Rattle.block.specs.Head.{highFirst, roomOf, stringEnd, lineEnd}

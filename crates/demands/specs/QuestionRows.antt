@@ -20,10 +20,10 @@ use Rattle.refusal.specs.declared.Verdict.{Verdict}
 use Rattle.refusal.specs.declared.Verdict.the-variants.{Accepted, Refused}
 use Rattle.refusal.specs.Table.{refusal}
 use Rattle.refusal.specs.Rows.{Rows, pick, first}
-use Rattle.text.specs.declared.Place.{Place}
-use Rattle.text.specs.declared.Found.{Found}
-use Rattle.text.specs.declared.Found.the-variants.{Nothing, Is}
-use Rattle.text.specs.Strings.{nthOf, findOf, valueFound}
+use Rattle.strings.specs.declared.Place.{Place}
+use Rattle.strings.specs.declared.Found.{Found}
+use Rattle.strings.specs.declared.Found.the-variants.{Nothing, Is}
+use Rattle.strings.specs.Strings.{nthOf, findOf, valueFound}
 use Rattle.decimal.specs.declared.Decimal.{Decimal}
 use Rattle.decimal.specs.declared.NumberAnswer.the-variants as number
 use Rattle.decimal.specs.declared.DoubleAnswer.the-variants as double

@@ -19,7 +19,7 @@ use Rattle.refusal.specs.declared.Rule.the-variants.{NoNumber}
 use Rattle.refusal.specs.declared.Part.the-variants.{File}
 use Rattle.refusal.specs.declared.Verdict.the-variants.{Accepted}
 use Rattle.refusal.specs.Table.{refusal}
-use Rattle.text.specs.Spelled.{Str, valueOfKey}
+use Rattle.strings.specs.Spelled.{Str, valueOfKey}
 use Rattle.decimal.specs.declared.Decimal.{Decimal}
 use Rattle.decimal.specs.declared.Coordinates.{Coordinates}
 use Rattle.decimal.specs.declared.NumberAnswer.the-variants as number

@@ -17,7 +17,7 @@ use Rattle.refusal.specs.Rows.{pick}
 use Rattle.text.specs.Runs.{all}
 use Rattle.text.specs.Order.{rises}
 use Rattle.sample.specs.Unfit.{firstFrom, unfitInteger, unfitPattern, unfitIntegers, unfitPatterns}
-use Rattle.text.specs.declared.Judged.the-variants.{Keyword, Wrong}
+use Rattle.strings.specs.declared.Judged.the-variants.{Keyword, Wrong}
 use Rattle.sheet.specs.declared.Step.the-variants.{Bad}
 use Rattle.sheet.specs.declared.Measured.the-variants as measured
 use Rattle.sheet.specs.Lines.{plain, lineLen, lineOf, keyLen, keyOf, valueOf, spaced, continues, judgedOf, onJudged, stepOf, onStep, checkFrom, linesVerdict}

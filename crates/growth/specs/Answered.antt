@@ -9,11 +9,11 @@ use lib.IntN.{ℤ}
 use lib.ListN.{length, take}
 use Rattle.refusal.specs.declared.Verdict.the-variants.{Accepted}
 use Rattle.refusal.specs.Rows.{pick}
-use Rattle.text.specs.declared.Place.{Place}
-use Rattle.text.specs.declared.Found.{Found}
-use Rattle.text.specs.declared.Found.the-variants.{Nothing, Is}
-use Rattle.text.specs.Strings.{valueFound}
-use Rattle.text.specs.Spelled.{Str, nthStr, valueOfKey, hasKey}
+use Rattle.strings.specs.declared.Place.{Place}
+use Rattle.strings.specs.declared.Found.{Found}
+use Rattle.strings.specs.declared.Found.the-variants.{Nothing, Is}
+use Rattle.strings.specs.Strings.{valueFound}
+use Rattle.strings.specs.Spelled.{Str, nthStr, valueOfKey, hasKey}
 use Rattle.decimal.specs.Number.{numberOf}
 use Rattle.decimal.specs.Double.{doubleOf}
 use Rattle.decimal.specs.Location.{locationOf}

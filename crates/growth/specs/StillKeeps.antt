@@ -16,7 +16,7 @@ use Rattle.word.specs.Round.{round4, round4-whole, round4-up}
 use Rattle.word.specs.Word.{bytesOf}
 use Rattle.refusal.specs.Rows.{pick}
 use Rattle.refusal.specs.declared.Verdict.the-variants.{Accepted}
-use Rattle.text.specs.Spelled.{Str, textOf, sizeOf, written, Spells, Spells.empty, Spells.full}
+use Rattle.strings.specs.Spelled.{Str, textOf, sizeOf, written, Spells, Spells.empty, Spells.full}
 use Rattle.sheet.specs.Area as area
 use Rattle.sheet.specs.Area.{areaSize}
 use Rattle.sheet.specs.Spelling.{area-bounds, area-spells}

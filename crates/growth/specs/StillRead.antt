@@ -13,12 +13,12 @@ use Rattle.word.specs.Part.{part}
 use Rattle.word.specs.Bytes.{Bytes}
 use Rattle.refusal.specs.declared.Refusal.{Refusal}
 use Rattle.refusal.specs.declared.Verdict.the-variants.{Accepted, Refused}
-use Rattle.text.specs.declared.Place.{Place}
-use Rattle.text.specs.declared.Found.the-variants.{Is}
+use Rattle.strings.specs.declared.Place.{Place}
+use Rattle.strings.specs.declared.Found.the-variants.{Is}
 use Rattle.text.specs.Runs.{same}
-use Rattle.text.specs.Strings.{placesOf, findOf, keyIn, valueFound}
-use Rattle.text.specs.Spelled.{Str, Spells, nthStr, strsIn}
-use Rattle.text.specs.Paper.{spelled-places, spelled-value}
+use Rattle.strings.specs.Strings.{placesOf, findOf, keyIn, valueFound}
+use Rattle.strings.specs.Spelled.{Str, Spells, nthStr, strsIn}
+use Rattle.strings.specs.Paper.{spelled-places, spelled-value}
 use Rattle.block.specs.Head.{highFirst, roomOf, countOf, stringEnd, lineEnd}
 use Rattle.block.specs.Image.{blockSize, dataSize, dataAt, checkOf, traceBlockOf}
 use Rattle.block.specs.Keeps.{traceAt, stringsEnd, Strings}

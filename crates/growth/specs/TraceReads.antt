@@ -12,7 +12,7 @@ use lib.ListN.{length, getD, take}
 use borrow.Author.Tests.{eqb-true}
 use Rattle.word.specs.Part.{part}
 use Rattle.refusal.specs.declared.Verdict.the-variants.{Accepted}
-use Rattle.text.specs.Spelled.{Spells}
+use Rattle.strings.specs.Spelled.{Spells}
 use Rattle.sample.specs.declared.Fit.the-variants.{All}
 use Rattle.sample.specs.Needed.{byCode, width}
 use Rattle.sample.specs.Run.{run, run-map, run-of}

@@ -18,8 +18,8 @@ use Rattle.refusal.specs.declared.Verdict.the-variants.{Accepted, Refused}
 use Rattle.text.specs.Chars.{note}
 use Rattle.text.specs.Runs.{same}
 use Rattle.text.specs.Note.{linesOf}
-use Rattle.text.specs.Strings.{placesOf}
-use Rattle.text.specs.Spelled.{Str, strsIn}
+use Rattle.strings.specs.Strings.{placesOf}
+use Rattle.strings.specs.Spelled.{Str, strsIn}
 use Rattle.block.specs.Head.{highFirst, roomOf, countOf, stringEnd, lineEnd}
 use Rattle.block.specs.Image.{sampleCount, formatCode, dataAt, checkOf}
 use Rattle.block.specs.Keeps.{traceAt}

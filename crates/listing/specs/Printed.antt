@@ -5,8 +5,8 @@ use mathlib.Core.List.{List}
 use Prim.Native.Nat.{ℕ, _≤_}
 use lib.ListN.{length}
 use Rattle.word.specs.Part.{part}
-use Rattle.text.specs.Spelled.{Str, Spells}
-use Rattle.text.specs.Paper.{spelled-places}
+use Rattle.strings.specs.Spelled.{Str, Spells}
+use Rattle.strings.specs.Paper.{spelled-places}
 use Rattle.block.specs.Head.{highFirst, stringEnd, lineEnd}
 use Rattle.listing.specs.Listing.{stringsIn}
 

@@ -17,15 +17,15 @@ use Rattle.refusal.specs.declared.Part.{Part}
 use Rattle.refusal.specs.declared.Part.the-variants.{File, Trace}
 use Rattle.refusal.specs.declared.Verdict.the-variants.{Accepted}
 use Rattle.sample.specs.Needed.{needed}
-use Rattle.text.specs.declared.Frame.{Frame}
-use Rattle.text.specs.declared.Frame.the-variants.{End, Text, Broken}
-use Rattle.text.specs.declared.Place.{Place}
+use Rattle.strings.specs.declared.Frame.{Frame}
+use Rattle.strings.specs.declared.Frame.the-variants.{End, Text, Broken}
+use Rattle.strings.specs.declared.Place.{Place}
 use Rattle.text.specs.Chars.{note}
 use Rattle.text.specs.Runs.{same, same-eq}
 use Rattle.text.specs.Note.{lineLen, linesOf, lineLen-le, line-ends}
-use Rattle.text.specs.Strings.{frameOf, placeOf, onText, placesFrom, placesOf, keyIn, valueIn}
-use Rattle.text.specs.Walks.{Fits, place-fits}
-use Rattle.text.specs.Spelled.{strsIn}
+use Rattle.strings.specs.Strings.{frameOf, placeOf, onText, placesFrom, placesOf, keyIn, valueIn}
+use Rattle.strings.specs.Walks.{Fits, place-fits}
+use Rattle.strings.specs.Spelled.{strsIn}
 use Rattle.block.specs.Head.{highFirst, roomOf, countOf, stringEnd, lineEnd}
 use Rattle.block.specs.Image.{blockSize, dataSize, sampleCount, formatCode, dataAt, endAt, imageOf}
 use Rattle.block.specs.Keeps.{traceAt, endBefore}

@@ -16,8 +16,8 @@ use Rattle.refusal.specs.declared.Part.the-variants.{File, Trace}
 use Rattle.refusal.specs.declared.Rule.the-variants.{InputSize}
 use Rattle.refusal.specs.declared.Refusal.{Refusal}
 use Rattle.refusal.specs.declared.Verdict.the-variants.{Accepted, Refused}
-use Rattle.text.specs.Strings.{placesOf}
-use Rattle.text.specs.Spelled.{strsIn}
+use Rattle.strings.specs.Strings.{placesOf}
+use Rattle.strings.specs.Spelled.{strsIn}
 use Rattle.block.specs.declared.FileBlock.{FileBlock}
 use Rattle.block.specs.declared.TraceBlock.{TraceBlock}
 use Rattle.block.specs.Head.{highFirst, roomOf, countOf, stringEnd, lineEnd, goodTerminator}

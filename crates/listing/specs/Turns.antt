@@ -13,18 +13,18 @@ use Rattle.word.specs.Part.{part, length-part, part-rest}
 use Rattle.word.specs.Put.{put, put-none, copy-turn}
 use Rattle.refusal.specs.Rows.{pick}
 use Rattle.refusal.specs.declared.Part.{Part}
-use Rattle.text.specs.declared.Frame.{Frame}
-use Rattle.text.specs.declared.Frame.the-variants.{End, Text, Broken}
-use Rattle.text.specs.declared.Place.{Place}
-use Rattle.text.specs.declared.Found.{Found}
-use Rattle.text.specs.declared.Found.the-variants.{Nothing, Is}
-use Rattle.text.specs.declared.Entry.the-variants.{Stop, At}
+use Rattle.strings.specs.declared.Frame.{Frame}
+use Rattle.strings.specs.declared.Frame.the-variants.{End, Text, Broken}
+use Rattle.strings.specs.declared.Place.{Place}
+use Rattle.strings.specs.declared.Found.{Found}
+use Rattle.strings.specs.declared.Found.the-variants.{Nothing, Is}
+use Rattle.strings.specs.declared.Entry.the-variants.{Stop, At}
 use Rattle.text.specs.Runs.{same, both, none}
 use Rattle.text.specs.Note.{starts, lineLen, linesOf, lineLen-le, line-ends}
-use Rattle.text.specs.Strings.{frameOf, placeOf, onText, entryOf, placesFrom, placesOf, nthOf, keyIn, valueIn}
-use Rattle.text.specs.Walks.{in-frame, place-next, place-stop, place-bounds}
-use Rattle.text.specs.Lists.{In}
-use Rattle.text.specs.Spelled.{Str, strsIn}
+use Rattle.strings.specs.Strings.{frameOf, placeOf, onText, entryOf, placesFrom, placesOf, nthOf, keyIn, valueIn}
+use Rattle.strings.specs.Walks.{in-frame, place-next, place-stop, place-bounds}
+use Rattle.lookup.specs.Lists.{In}
+use Rattle.strings.specs.Spelled.{Str, strsIn}
 use Rattle.listing.specs.Listing.{space, spaced, stringLine, linesText, valuesOf, stringsText, traceText, tracesText}
 use Rattle.listing.specs.Wrote.{Wrote}
 
@@ -172,7 +172,7 @@ module _ (p : Part) (u f : List ℕ) (high : Bool) (t : List ℕ) (e at m : ℕ)
 
 pub strings-over : (p : Part) (u f : List ℕ) (high : Bool) (t : List ℕ) (e at m : ℕ) → e ≤ at → textFrom p u f high t e at m ≡ []
 unfolding stringsText
-strings-over p u f high t e at m h = ap (λ (ps : List Place). stringsText p u (strsIn f ps)) (sym (Rattle.text.specs.Walks.place-over high t f e at m h))
+strings-over p u f high t e at m h = ap (λ (ps : List Place). stringsText p u (strsIn f ps)) (sym (Rattle.strings.specs.Walks.place-over high t f e at m h))
 
 -- ---- the traces
 pub trace-next : (f : List ℕ) (n k : ℕ) → k < n → tracesText f (n - k) k ≡ traceText f k ++ tracesText f (n - (k + 1)) (k + 1)

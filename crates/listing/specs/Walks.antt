@@ -9,12 +9,12 @@ use native.Mathlib.Omega.{arith}
 use lib.ListN.{length, drop}
 use Rattle.word.specs.Part.{part, length-part, part-rest}
 use Rattle.refusal.specs.declared.Part.{Part}
-use Rattle.text.specs.declared.Place.{Place}
-use Rattle.text.specs.declared.Found.the-variants.{Nothing, Is}
+use Rattle.strings.specs.declared.Place.{Place}
+use Rattle.strings.specs.declared.Found.the-variants.{Nothing, Is}
 use Rattle.text.specs.Note.{lineLen, linesOf}
-use Rattle.text.specs.Strings.{placesOf, nthOf, keyIn, valueIn}
-use Rattle.text.specs.Lists.{In}
-use Rattle.text.specs.Spelled.{strsIn}
+use Rattle.strings.specs.Strings.{placesOf, nthOf, keyIn, valueIn}
+use Rattle.lookup.specs.Lists.{In}
+use Rattle.strings.specs.Spelled.{strsIn}
 use Rattle.listing.specs.Listing.{stringLine, linesText, stringsText, traceText, tracesText}
 use Rattle.listing.specs.Wrote.{Room, Wrote, Left, left-start, left-room, left-turn, left-over, left-last-room, left-last}
 use Rattle.listing.specs.Turns.{line-on, line-last, lines-more, lines-one, textFrom, lineText, string-in, string-next, string-none, strings-over, trace-next, traces-over}

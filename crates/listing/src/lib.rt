@@ -4,7 +4,7 @@ use refusal::Part;
 use refusal::Refusal;
 use refusal::Rule;
 use refusal::Verdict;
-use text::Found;
+use strings::Found;
 ghost use mathlib.Core.Path.{_≡_};
 ghost use mathlib.Core.Bool.{false};
 ghost use mathlib.Core.List.{[], _∷_};
@@ -14,8 +14,8 @@ ghost use Rattle.word.specs.Part as parts;
 ghost use Rattle.refusal.specs.Table.{numberOf};
 ghost use Rattle.refusal.specs.declared.Verdict.the-variants.{Accepted};
 ghost use Rattle.text.specs.Note.{linesOf};
-ghost use Rattle.text.specs.Strings.{placesOf};
-ghost use Rattle.text.specs.Spelled.{strsIn};
+ghost use Rattle.strings.specs.Strings.{placesOf};
+ghost use Rattle.strings.specs.Spelled.{strsIn};
 ghost use Rattle.block.specs.Head.{countOf};
 ghost use Rattle.block.specs.Image.{imageOf};
 ghost use Rattle.listing.specs.Digits.{digits};
@@ -253,7 +253,7 @@ fn put_strings(
     let mut s = a;
     let mut to = at;
     while s < e {
-        let first = text::nth(f, s, e, high, t, 0);
+        let first = lookup::nth(f, s, e, high, t, 0);
         match first {
             Found::Nothing => {
                 return to;

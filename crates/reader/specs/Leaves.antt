@@ -14,8 +14,8 @@ use Rattle.refusal.specs.declared.Refusal.{Refusal}
 use Rattle.refusal.specs.declared.Verdict.{Verdict}
 use Rattle.refusal.specs.declared.Verdict.the-variants.{Accepted, Refused}
 use Rattle.refusal.specs.Rows.{first}
-use Rattle.text.specs.declared.Found.{Found}
-use Rattle.text.specs.Strings.{placesOf, nthOf, findOf}
+use Rattle.strings.specs.declared.Found.{Found}
+use Rattle.strings.specs.Strings.{placesOf, nthOf, findOf}
 use Rattle.sample.specs.Needed.{needed}
 use Rattle.sample.specs.Run.{run}
 use Rattle.sample.specs.Sample.{sampleOf, patternOf, classOf}

@@ -15,12 +15,12 @@ use Rattle.word.specs.Bytes.{Bytes}
 use Rattle.refusal.specs.Rows.{pick}
 use Rattle.refusal.specs.declared.Refusal.{Refusal}
 use Rattle.refusal.specs.declared.Verdict.the-variants.{Accepted}
-use Rattle.text.specs.declared.Place.{Place}
-use Rattle.text.specs.declared.Found.{Found}
-use Rattle.text.specs.declared.Found.the-variants.{Nothing, Is}
-use Rattle.text.specs.Strings.{placesOf, keyIn, valueIn, nthOf, findOf, keyFound, valueFound}
-use Rattle.text.specs.Spelled.{Str, Spells, nthStr, valueOfKey, hasKey}
-use Rattle.text.specs.Paper.{spelled-once, spelled-count, spelled-nth, found, spelled-value}
+use Rattle.strings.specs.declared.Place.{Place}
+use Rattle.strings.specs.declared.Found.{Found}
+use Rattle.strings.specs.declared.Found.the-variants.{Nothing, Is}
+use Rattle.strings.specs.Strings.{placesOf, keyIn, valueIn, nthOf, findOf, keyFound, valueFound}
+use Rattle.strings.specs.Spelled.{Str, Spells, nthStr, valueOfKey, hasKey}
+use Rattle.strings.specs.Paper.{spelled-once, spelled-count, spelled-nth, found, spelled-value}
 use Rattle.block.specs.Head.{highFirst, roomOf, countOf, stringEnd, lineEnd}
 use Rattle.block.specs.Image.{dataAt, checkOf}
 use Rattle.block.specs.Keeps.{traceAt, stringsEnd, Strings}

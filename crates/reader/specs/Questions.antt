@@ -15,10 +15,10 @@ use Rattle.refusal.specs.declared.Verdict.{Verdict}
 use Rattle.refusal.specs.declared.Verdict.the-variants.{Accepted, Refused}
 use Rattle.refusal.specs.Table.{refusal}
 use Rattle.refusal.specs.Rows.{first, pick}
-use Rattle.text.specs.declared.Place.{Place}
-use Rattle.text.specs.declared.Found.{Found}
-use Rattle.text.specs.declared.Found.the-variants.{Nothing, Is}
-use Rattle.text.specs.Strings.{placesOf, nthOf, findOf, valueIn}
+use Rattle.strings.specs.declared.Place.{Place}
+use Rattle.strings.specs.declared.Found.{Found}
+use Rattle.strings.specs.declared.Found.the-variants.{Nothing, Is}
+use Rattle.strings.specs.Strings.{placesOf, nthOf, findOf, valueIn}
 use Rattle.sample.specs.Needed.{byCode}
 use Rattle.sample.specs.Run.{run}
 use Rattle.sample.specs.Sample.{bitsAsked, sampleOf, patternOf, classOf}

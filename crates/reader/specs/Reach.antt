@@ -16,11 +16,11 @@ use Rattle.refusal.specs.declared.Rule.the-variants.{Length}
 use Rattle.refusal.specs.declared.Refusal.{Refusal}
 use Rattle.refusal.specs.declared.Verdict.{Verdict}
 use Rattle.refusal.specs.declared.Verdict.the-variants.{Accepted, Refused}
-use Rattle.text.specs.declared.Place.{Place}
-use Rattle.text.specs.declared.Found.{Found}
-use Rattle.text.specs.declared.Found.the-variants.{Nothing, Is}
-use Rattle.text.specs.Strings.{nthOf, findOf}
-use Rattle.text.specs.Lists.{In, AllIn, area-in, nth-in, find-in}
+use Rattle.strings.specs.declared.Place.{Place}
+use Rattle.strings.specs.declared.Found.{Found}
+use Rattle.strings.specs.declared.Found.the-variants.{Nothing, Is}
+use Rattle.strings.specs.Strings.{nthOf, findOf}
+use Rattle.lookup.specs.Lists.{In, AllIn, area-in, nth-in, find-in}
 use Rattle.block.specs.declared.TraceBlock.{TraceBlock}
 use Rattle.block.specs.Head.{highFirst, roomOf, countOf, stringEnd, goodTerminator, refused}
 use Rattle.block.specs.Image.{dataAt, imageOf, badLength, checkOf, traceBlockOf}

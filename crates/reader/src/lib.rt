@@ -8,8 +8,8 @@ use refusal::Part;
 use refusal::Refusal;
 use refusal::Rule;
 use refusal::Verdict;
-use text::Found;
-use text::Place;
+use strings::Found;
+use strings::Place;
 ghost use mathlib.Core.Path.{_≡_};
 ghost use mathlib.Core.Bool.{false};
 ghost use Prim.Native.Nat.{_≤_};
@@ -198,7 +198,7 @@ pub fn string_count(buffer: &[u8], length: usize, part: i32) -> CountAnswer
         Opened::Bad(r) => CountAnswer::Refused(r),
         Opened::From(a, e) => {
             let f = &buffer[..length];
-            CountAnswer::Is(text::count(f, a, e, block::is_high(f), block::terminator(f, 8)))
+            CountAnswer::Is(lookup::count(f, a, e, block::is_high(f), block::terminator(f, 8)))
         }
     }
 }
@@ -222,7 +222,7 @@ pub fn string(buffer: &[u8], length: usize, part: i32, i: usize) -> StringAnswer
         Opened::Bad(r) => StringAnswer::Refused(r),
         Opened::From(a, e) => {
             let f = &buffer[..length];
-            there(text::nth(f, a, e, block::is_high(f), block::terminator(f, 8), i))
+            there(lookup::nth(f, a, e, block::is_high(f), block::terminator(f, 8), i))
         }
     }
 }
@@ -236,7 +236,7 @@ pub fn find(buffer: &[u8], length: usize, part: i32, key: &[u8]) -> StringAnswer
         Opened::Bad(r) => StringAnswer::Refused(r),
         Opened::From(a, e) => {
             let f = &buffer[..length];
-            there(text::find(f, a, e, block::is_high(f), block::terminator(f, 8), key))
+            there(lookup::find(f, a, e, block::is_high(f), block::terminator(f, 8), key))
         }
     }
 }

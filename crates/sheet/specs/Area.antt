@@ -17,7 +17,7 @@ use Rattle.refusal.specs.Rows.{pick}
 use Rattle.text.specs.Chars.{note}
 use Rattle.text.specs.Runs.{same}
 use Rattle.text.specs.Note.{withEnds}
-use Rattle.text.specs.Spelled.{Str, sizeOf, written}
+use Rattle.strings.specs.Spelled.{Str, sizeOf, written}
 use Rattle.sheet.specs.declared.Measured as measured
 use Rattle.sheet.specs.declared.Measured.{Measured}
 use Rattle.sheet.specs.declared.Measured.the-variants.{Size}

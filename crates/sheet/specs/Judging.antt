@@ -13,8 +13,8 @@ use Rattle.refusal.specs.Table.{refusal}
 use Rattle.refusal.specs.declared.Rule.{Rule}
 use Rattle.refusal.specs.declared.Rule.the-variants.{SheetLine, SheetOrder}
 use Rattle.refusal.specs.declared.Part.the-variants.{File}
-use Rattle.text.specs.declared.Judged.{Judged}
-use Rattle.text.specs.declared.Judged.the-variants.{Keyword, Wrong}
+use Rattle.strings.specs.declared.Judged.{Judged}
+use Rattle.strings.specs.declared.Judged.the-variants.{Keyword, Wrong}
 use Rattle.text.specs.Chars.{keyChar}
 use Rattle.text.specs.Runs.{run, all}
 use Rattle.text.specs.Order.{rises}

@@ -13,8 +13,8 @@ use Rattle.refusal.specs.declared.Verdict.{Verdict}
 use Rattle.refusal.specs.declared.Verdict.the-variants.{Accepted, Refused}
 use Rattle.refusal.specs.Table.{refusal}
 use Rattle.refusal.specs.Rows.{Rows, first, pick}
-use Rattle.text.specs.declared.Judged.{Judged}
-use Rattle.text.specs.declared.Judged.the-variants.{Keyword, Wrong}
+use Rattle.strings.specs.declared.Judged.{Judged}
+use Rattle.strings.specs.declared.Judged.the-variants.{Keyword, Wrong}
 use Rattle.text.specs.Chars.{keyChar, note}
 use Rattle.text.specs.Runs.{run, all, same}
 use Rattle.text.specs.Order.{rises}

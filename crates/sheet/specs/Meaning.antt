@@ -17,7 +17,7 @@ use Rattle.text.specs.Runs.{run, all, same, same-eq, same-refl, both}
 use Rattle.text.specs.Order.{less, rises}
 use Rattle.text.specs.Note as Note
 use Rattle.text.specs.Note.{starts, starts-front, withEnds}
-use Rattle.text.specs.Spelled.{Str, written}
+use Rattle.strings.specs.Spelled.{Str, written}
 use Rattle.sheet.specs.declared.Measured.the-variants.{Size}
 use Rattle.sheet.specs.Lines.{Line, plain, lineLen, keyLen, continues, judgedOf, stepOf, checkFrom, linesVerdict, linesFrom, linesOf}
 use Rattle.sheet.specs.Area.{strOf, values, noteOf, joined, stringsOf, textSize, areaOf, areaSize, measuredOf}

@@ -13,7 +13,7 @@ use lib.Seq.{length-take-le, take-append-seam, drop-append-add, getD-append-seam
 use lib.Dec.{eqb}
 use borrow.Author.Tests.{eqb-true, not-false}
 use Rattle.refusal.specs.declared.Verdict.the-variants.{Accepted}
-use Rattle.text.specs.declared.Judged.the-variants.{Keyword}
+use Rattle.strings.specs.declared.Judged.the-variants.{Keyword}
 use Rattle.text.specs.Chars.{keyChar}
 use Rattle.text.specs.Runs.{run, all, Stops, all-append, all-weaker, run-all, run-stops, run-append}
 use Rattle.text.specs.Order.{rises}

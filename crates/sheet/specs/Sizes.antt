@@ -15,7 +15,7 @@ use Rattle.refusal.specs.Rows.{pick}
 use Rattle.text.specs.Chars.{note}
 use Rattle.text.specs.Runs.{same, same-eq}
 use Rattle.text.specs.Note.{withEnds}
-use Rattle.text.specs.Spelled.{Str, textOf, sizeOf, written}
+use Rattle.strings.specs.Spelled.{Str, textOf, sizeOf, written}
 use Rattle.sheet.specs.Lines.{Line}
 use Rattle.sheet.specs.Area.{strOf, values, noteOf, joined, stringsOf, textSize, padding, areaOf, areaSize}
 

@@ -21,9 +21,9 @@ use Rattle.text.specs.Chars.{blank, valueChar, note, blank-value}
 use Rattle.text.specs.Runs.{all, same, same-eq, both, Stops, all-weaker}
 use Rattle.text.specs.Order.{rises}
 use Rattle.text.specs.Note.{withEnds, valueOk, Lines, Lines.done, Lines.char, Lines.line, lines-accept}
-use Rattle.text.specs.Strings as Strings
-use Rattle.text.specs.Paper.{spelled-accepted}
-use Rattle.text.specs.Spelled.{Good, Rising, sizeOf, Spells, Spells.full}
+use Rattle.strings.specs.Strings as Strings
+use Rattle.strings.specs.Paper.{spelled-accepted}
+use Rattle.strings.specs.Spelled.{Good, Rising, sizeOf, Spells, Spells.full}
 use Rattle.sheet.specs.declared.Measured as measured
 use Rattle.sheet.specs.declared.Measured.the-variants.{Size}
 use Rattle.sheet.specs.Lines.{Line, plain, spaced, continues, linesVerdict, linesOf}

@@ -17,7 +17,7 @@ use Rattle.refusal.specs.declared.Verdict.the-variants.{Accepted}
 use Rattle.text.specs.Chars.{keyChar, note}
 use Rattle.text.specs.Runs.{run, same, same-eq, same-refl}
 use Rattle.text.specs.Note.{withEnds}
-use Rattle.text.specs.Spelled.{Str, textOf, sizeOf, written}
+use Rattle.strings.specs.Spelled.{Str, textOf, sizeOf, written}
 use Rattle.sheet.specs.declared.Measured.the-variants.{Size}
 use Rattle.sheet.specs.Lines.{Line, lineLen, linesVerdict, linesOf}
 use Rattle.sheet.specs.Area.{strOf, values, noteOf, joined, stringsOf, textSize, padding, areaOf, areaSize, measuredOf}

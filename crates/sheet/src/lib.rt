@@ -3,14 +3,14 @@
 use refusal::Part;
 use refusal::Refusal;
 use refusal::Rule;
-use text::Judged;
+use strings::Judged;
 ghost use mathlib.Core.Path.{_≡_};
 ghost use mathlib.Core.List.{_++_};
 ghost use Prim.Native.Nat.{_+_, _≤_, _<_};
 ghost use lib.ListN.{length};
 ghost use Rattle.word.specs.Put.{put};
 ghost use Rattle.text.specs.Runs.{all};
-ghost use Rattle.text.specs.Spelled.{sizeOf};
+ghost use Rattle.strings.specs.Spelled.{sizeOf};
 ghost use Rattle.sheet.specs.Lines.{plain, lineLen, spaced, continues, judgedOf, stepOf, linesOf};
 ghost use Rattle.sheet.specs.Area.{strOf, noteOf, stringsOf, areaOf, measuredOf};
 ghost use Rattle.sheet.specs.Sizes.{lineCost, capped};

@@ -2,10 +2,3 @@ pub mod Chars
 pub mod Runs
 pub mod Order
 pub mod Note
-pub mod Strings
-pub mod Frames
-pub mod Texts
-pub mod Walks
-pub mod Lists
-pub mod Spelled
-pub mod Paper

@@ -100,7 +100,7 @@ fn unfit(value: i32) -> bool {
 
 // Strings with the string terminator 00 and the line terminator 0A 0D, low byte first.
 fn accepted(area: &[u8]) -> bool {
-    let v = text::check(area, 0, area.len(), false, b"\x00", b"\x0a\x0d", Part::File);
+    let v = strings::check(area, 0, area.len(), false, b"\x00", b"\x0a\x0d", Part::File);
     match v {
         Verdict::Accepted => true,
         Verdict::Refused(_) => false,
@@ -108,14 +108,14 @@ fn accepted(area: &[u8]) -> bool {
 }
 
 fn string_is(area: &[u8], i: usize, key: &[u8], value: &[u8]) -> bool {
-    let k = text::nth_key(area, 0, area.len(), false, b"\x00", i);
-    let v = text::nth_value(area, 0, area.len(), false, b"\x00", i);
-    let w = text::value(area, 0, area.len(), false, b"\x00", key);
+    let k = lookup::nth_key(area, 0, area.len(), false, b"\x00", i);
+    let v = lookup::nth_value(area, 0, area.len(), false, b"\x00", i);
+    let w = lookup::value(area, 0, area.len(), false, b"\x00", key);
     check::same(k, key) & (check::same(v, value) & check::same(w, value))
 }
 
 fn strings_are(area: &[u8], count: usize) -> bool {
-    accepted(area) & (text::count(area, 0, area.len(), false, b"\x00") == count)
+    accepted(area) & (lookup::count(area, 0, area.len(), false, b"\x00") == count)
 }
 
 // The number that a file is refused by, or 0.

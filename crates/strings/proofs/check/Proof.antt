@@ -1,0 +1,55 @@
+-- `strings::check` meets its contract. The invariant: the check from here answers as the check of the whole area. Assumes nothing.
+use mathlib.Core.Path.{_≡_, sym, _∙_}
+use Prim.Native.Nat.{ℕ, _≤_, _-_}
+use native.Mathlib.Nat.{le-of-eq}
+use lib.ListN.{length}
+use Rattle.word.specs.Part.{part, length-part}
+use Rattle.strings.specs.Strings.{stringsFrom, stringsOf}
+use Rattle.strings.specs.Walks.{turn-fits, turn-next, turn-bad, turn-done, walk-start, walk-none, walk-over}
+use borrow.Author.Needs.{needs}
+use native.Mathlib.Omega.{arith}
+use Rattle.strings.proofs.check.Statement.{statement}
+use Rattle.strings.proofs.check.Tie as tie
+
+abbrev Inv-loop : tie.InvT-loop
+Inv-loop f a e high t u whose at₀ k₀ g₀ at k g = (a ≤ at) × (at ≤ e) × (k ≤ g) × (g ≤ e) × ((m : ℕ) × (e - at ≤ m) × (stringsFrom m high t u whose (part k g f) (part at e f) at ≡ stringsOf high t u whose (part a e f) a))
+
+abbrev μ-loop : tie.MeasureT-loop
+μ-loop f a e high t u whose at₀ k₀ g₀ at k g = e - at
+
+pub check-spec : {M : Type 1} → statement M
+check-spec =
+    tie.close
+    (tie.spec
+    Inv-loop
+    μ-loop
+    (λ c. walk-none _ _ _ _ (c .before .before .before .before .args .f .now) (c .before .before .before .before .args .a) (c .before .before .before .before .args .e) (c .if1 .taken))
+    (λ c.
+    let s = c .before .before .before .before .args in (
+      search needs,
+      search needs,
+      search needs,
+      search needs,
+      (length (part (s .a) (s .e) (s .f .now)), le-of-eq (sym (length-part (s .a) (s .e) (s .f .now) (c .before .before .before .before .pre .1))), walk-start _ _ _ _ (s .f .now) (s .a) (s .e) (c .if1 .left) (c .before .before .before .before .pre .1)),
+    ))
+    (λ c. search needs)
+    (λ c. search needs)
+    (λ c. search needs)
+    (λ c. search needs)
+    (λ c. search needs)
+    (λ c. search needs)
+    (λ c κs. search needs)
+    (λ c. search needs)
+    (λ c. turn-bad _ _ _ _ (c .before .before .before .before .before .before .before .before .before .before .before .before .args .f .now) (c .before .before .before .before .before .before .before .before .before .before .before .before .args .e) (c .before .before .before .before .before .before .before .loop .at) (c .before .before .before .before .before .before .before .loop .k) (c .before .before .before .before .before .before .before .loop .g) (c .before .before .before .before .before .before .before .loop .inv .4 .0) (c .before .before .before .before .before .before .loop-test .taken) (c .before .before .before .before .before .before .before .before .before .before .before .before .pre .1) (c .before .before .before .before .before .before .before .loop .inv .4 .1) _ (sym (c .before .before .before .step-at .ensures) ∙ c .before .s .given .1) ∙ c .before .before .before .before .before .before .before .loop .inv .4 .2)
+    (λ c. search needs)
+    (λ c. turn-done _ _ _ _ (c .before .before .before .before .before .before .before .before .before .before .before .args .f .now) (c .before .before .before .before .before .before .before .before .before .before .before .args .e) (c .before .before .before .before .before .before .loop .at) (c .before .before .before .before .before .before .loop .k) (c .before .before .before .before .before .before .loop .g) (c .before .before .before .before .before .before .loop .inv .4 .0) (c .before .before .before .before .before .loop-test .taken) (c .before .before .before .before .before .before .before .before .before .before .before .pre .1) (c .before .before .before .before .before .before .loop .inv .4 .1) (sym (c .before .before .step-at .ensures) ∙ c .enum-told .given .1) ∙ c .before .before .before .before .before .before .loop .inv .4 .2)
+    (λ c. search needs)
+    (λ c. let b = turn-fits _ _ _ _ (c .before .before .before .before .before .before .before .before .before .before .before .before .args .f .now) (c .before .before .before .before .before .before .before .before .before .before .before .before .args .e) (c .before .before .before .before .before .before .before .loop .at) (c .before .before .before .before .before .before .before .loop .k) (c .before .before .before .before .before .before .before .loop .g) (c .before .before .before .before .before .before .before .loop .inv .4 .0) (c .before .before .before .before .before .before .loop-test .taken) (c .before .before .before .before .before .before .before .before .before .before .before .before .pre .1) (c .before .before .before .before .before .before .before .loop .inv .4 .1) _ _ (sym (c .before .before .before .step-at .ensures) ∙ c .before .s2 .given .1) in omega (arith, b .0, b .1, b .2))
+    (λ c. let b = turn-fits _ _ _ _ (c .before .before .before .before .before .before .before .before .before .before .before .before .args .f .now) (c .before .before .before .before .before .before .before .before .before .before .before .before .args .e) (c .before .before .before .before .before .before .before .loop .at) (c .before .before .before .before .before .before .before .loop .k) (c .before .before .before .before .before .before .before .loop .g) (c .before .before .before .before .before .before .before .loop .inv .4 .0) (c .before .before .before .before .before .before .loop-test .taken) (c .before .before .before .before .before .before .before .before .before .before .before .before .pre .1) (c .before .before .before .before .before .before .before .loop .inv .4 .1) _ _ (sym (c .before .before .before .step-at .ensures) ∙ c .before .s2 .given .1) in omega (arith, b .0, b .1, b .2))
+    (λ c. let b = turn-fits _ _ _ _ (c .before .before .before .before .before .before .before .before .before .before .before .before .args .f .now) (c .before .before .before .before .before .before .before .before .before .before .before .before .args .e) (c .before .before .before .before .before .before .before .loop .at) (c .before .before .before .before .before .before .before .loop .k) (c .before .before .before .before .before .before .before .loop .g) (c .before .before .before .before .before .before .before .loop .inv .4 .0) (c .before .before .before .before .before .before .loop-test .taken) (c .before .before .before .before .before .before .before .before .before .before .before .before .pre .1) (c .before .before .before .before .before .before .before .loop .inv .4 .1) _ _ (sym (c .before .before .before .step-at .ensures) ∙ c .before .s2 .given .1) in omega (arith, b .0, b .1, b .2))
+    (λ c. let b = turn-fits _ _ _ _ (c .before .before .before .before .before .before .before .before .before .before .before .before .args .f .now) (c .before .before .before .before .before .before .before .before .before .before .before .before .args .e) (c .before .before .before .before .before .before .before .loop .at) (c .before .before .before .before .before .before .before .loop .k) (c .before .before .before .before .before .before .before .loop .g) (c .before .before .before .before .before .before .before .loop .inv .4 .0) (c .before .before .before .before .before .before .loop-test .taken) (c .before .before .before .before .before .before .before .before .before .before .before .before .pre .1) (c .before .before .before .before .before .before .before .loop .inv .4 .1) _ _ (sym (c .before .before .before .step-at .ensures) ∙ c .before .s2 .given .1) in omega (arith, b .0, b .1, b .2))
+    (λ c.
+    let h = sym (c .before .before .before .step-at .ensures) ∙ c .before .s2 .given .1 in
+    let b = turn-fits _ _ _ _ (c .before .before .before .before .before .before .before .before .before .before .before .before .args .f .now) (c .before .before .before .before .before .before .before .before .before .before .before .before .args .e) (c .before .before .before .before .before .before .before .loop .at) (c .before .before .before .before .before .before .before .loop .k) (c .before .before .before .before .before .before .before .loop .g) (c .before .before .before .before .before .before .before .loop .inv .4 .0) (c .before .before .before .before .before .before .loop-test .taken) (c .before .before .before .before .before .before .before .before .before .before .before .before .pre .1) (c .before .before .before .before .before .before .before .loop .inv .4 .1) _ _ h in
+    (omega (arith, b .1), b .1, omega arith, b .2, (c .before .before .before .before .before .before .before .loop .inv .4 .0 - 1, omega (arith, b .0), turn-next _ _ _ _ (c .before .before .before .before .before .before .before .before .before .before .before .before .args .f .now) (c .before .before .before .before .before .before .before .before .before .before .before .before .args .e) (c .before .before .before .before .before .before .before .loop .at) (c .before .before .before .before .before .before .before .loop .k) (c .before .before .before .before .before .before .before .loop .g) (c .before .before .before .before .before .before .before .loop .inv .4 .0) (c .before .before .before .before .before .before .loop-test .taken) (c .before .before .before .before .before .before .before .before .before .before .before .before .pre .1) (c .before .before .before .before .before .before .before .loop .inv .4 .1) _ _ h ∙ c .before .before .before .before .before .before .before .loop .inv .4 .2)))
+    (λ c. walk-over _ _ _ _ _ (c .before .before .before .before .before .before .args .f .now) (c .before .before .before .before .before .before .args .e) (c .before .loop .at) (c .before .loop .inv .4 .0) (c .loop-test .left) ∙ c .before .loop .inv .4 .2))

@@ -1,0 +1,6 @@
+pub mod Strings
+pub mod Frames
+pub mod Texts
+pub mod Walks
+pub mod Spelled
+pub mod Paper

@@ -1,0 +1,83 @@
+-- The strings of an area without any order of checking: which bytes a list of strings is written as (document 01, "Strings"; paper, III.C).
+-- Assumes nothing.
+use mathlib.Core.Path.{_≡_}
+use mathlib.Core.Bool.{Bool, true, false}
+use mathlib.Core.List.{List, [], _∷_, _++_}
+use Prim.Native.Nat.{ℕ, zero, suc, _+_, _<_}
+use lib.ListN.{length}
+use Rattle.word.specs.Part.{part}
+use Rattle.word.specs.Word.{bytesOf}
+use Rattle.refusal.specs.Rows.{pick}
+use Rattle.strings.specs.declared.Place.{Place}
+use Rattle.text.specs.Chars.{blank, keyChar}
+use Rattle.text.specs.Runs.{all, same, Stops}
+use Rattle.text.specs.Order.{rises}
+use Rattle.text.specs.Note.{valueOk}
+use Rattle.strings.specs.Strings.{keyIn, valueIn}
+
+-- a keyword, the separators after it, and the value
+pub record Str : Type 0 where
+  pub key : List ℕ
+  pub gap : List ℕ
+  pub value : List ℕ
+
+abbrev pub textOf : Str → List ℕ
+textOf s = s .key ++ (s .gap ++ s .value)
+
+-- the offset, the text and the terminator
+abbrev pub sizeOf : List ℕ → Str → ℕ
+sizeOf t s = 2 + length (textOf s) + length t
+
+-- a string that may be written
+pub record Good (t u : List ℕ) (s : Str) : Type 0 where
+  pub some : 0 < length (s .key)
+  pub keys : all keyChar (s .key) ≡ true
+  pub blanks : all blank (s .gap) ≡ true
+  pub starts : Stops blank (s .value)
+  pub apart : s .gap ≡ [] → s .value ≡ []
+  pub values : valueOk u (s .key) (s .value) ≡ true
+  pub small : sizeOf t s < 65536
+
+-- each may be written, and each keyword may follow the one before
+abbrev pub Rising : List ℕ → List ℕ → List ℕ → List Str → Type 0
+Rising t u prev [] = Unit {0}
+Rising t u prev (s ∷ ss) = Good t u s × (rises prev (s .key) ≡ true) × Rising t u (s .key) ss
+
+-- the bytes of a list of strings: of each its size, its text and the terminator; then the end mark 0 and whatever follows
+unfoldable pub written : Bool → List ℕ → List Str → List ℕ → List ℕ
+written high t [] rest = bytesOf 2 high 0 ++ rest
+written high t (s ∷ ss) rest = bytesOf 2 high (sizeOf t s) ++ (textOf s ++ (t ++ written high t ss rest))
+
+-- these bytes spell this list of strings: both are empty, or the bytes are written from the list
+pub data Spells (high : Bool) (t u : List ℕ) : List Str → List ℕ → Type 0 where
+  empty : Spells high t u [] []
+  full : {ss : List Str} (rest : List ℕ) → Rising t u [] ss → Spells high t u ss (written high t ss rest)
+
+-- ---- questions on a list of strings
+
+-- the i-th string, and where there is none an empty one
+abbrev pub nothing : Str
+nothing = record { key = []; gap = []; value = [] }
+
+abbrev pub nthStr : List Str → ℕ → Str
+nthStr [] i = nothing
+nthStr (s ∷ ss) zero = s
+nthStr (s ∷ ss) (suc i) = nthStr ss i
+
+-- the value of a keyword, empty where there is none
+unfoldable pub valueOfKey : List Str → List ℕ → List ℕ
+valueOfKey [] key = []
+valueOfKey (s ∷ ss) key = pick (same (s .key) key) (s .value) (valueOfKey ss key)
+
+-- whether a keyword is there
+unfoldable pub hasKey : List Str → List ℕ → Bool
+hasKey [] key = false
+hasKey (s ∷ ss) key = pick (same (s .key) key) true (hasKey ss key)
+
+-- the string that stands at a place of f
+abbrev pub strIn : List ℕ → Place → Str
+strIn f s = record { key = keyIn f s; gap = part (s .gap) (s .value) f; value = valueIn f s }
+
+abbrev pub strsIn : List ℕ → List Place → List Str
+strsIn f [] = []
+strsIn f (s ∷ ss) = strIn f s ∷ strsIn f ss

@@ -1,0 +1,165 @@
+// The strings of an area: one string, a list of strings and the check of both (document 01, "Strings", rows 14 to 17). Strings has the definitions,
+// Spelled and Paper the second view: an area is accepted exactly where it spells a list of strings, and only one. Stands on `text`, `word`, `refusal`.
+// An area is the bytes of a file from place a to place e; t is the string terminator, u the line terminator, `high` the byte order.
+use refusal::Part;
+use refusal::Refusal;
+use refusal::Rule;
+use refusal::Verdict;
+ghost use mathlib.Core.Path.{_≡_};
+ghost use Prim.Native.Nat.{_≤_, _<_};
+ghost use lib.ListN.{length};
+ghost use Rattle.word.specs.Part.{part};
+ghost use Rattle.strings.specs.Strings.{frameOf, judgedOf, stepOf, stringsOf};
+
+// What an area has at a string's place: the end of the list, a string of so many bytes in all, or a frame that is broken.
+pub enum Frame {
+    End,
+    Text(usize),
+    Broken(Rule),
+}
+
+// What stands between a string's offset and its terminator: a keyword of so many bytes and its value, or not.
+pub enum Judged {
+    Keyword(usize),
+    Wrong(Rule),
+}
+
+// A step of the check: past a string, with its size and its keyword's length; the end; or the refusal.
+pub enum Step {
+    Next(usize, usize),
+    Done,
+    Bad(Refusal),
+}
+
+// Where a string stands in the file: the keyword from key to gap, the separators from gap to value, the value from value to end.
+pub struct Place {
+    pub key: usize,
+    pub gap: usize,
+    pub value: usize,
+    pub end: usize,
+}
+
+// A step of a question: a string's place, with its size; or no string.
+pub enum Entry {
+    Stop,
+    At(Place, usize),
+}
+
+pub enum Found {
+    Nothing,
+    Is(Place),
+}
+
+// Rows 14 and 15 of the string that l starts with.
+pub fn framed(l: &[u8], high: bool, t: &[u8]) -> Frame
+    ensures { λ r. ⌜ r ≡ frameOf high (now (t .entry)) (now (l .entry)) ⌝ }
+{
+    if l.len() < 2 {
+        return Frame::Broken(Rule::StringOffset);
+    }
+    let o = word::word2(l, high, 0);
+    if o == 0 {
+        return Frame::End;
+    }
+    let n = t.len();
+    if o < 3 {
+        return Frame::Broken(Rule::StringOffset);
+    }
+    if o - 3 < n {
+        return Frame::Broken(Rule::StringOffset);
+    }
+    if l.len() < o {
+        return Frame::Broken(Rule::StringOffset);
+    }
+    let end = o - n;
+    if !text::is_same(&l[end..o], t) {
+        return Frame::Broken(Rule::StringEnd);
+    }
+    Frame::Text(o)
+}
+
+// Rows 16 and 17 of what stands between the offset and the terminator; prev is the keyword before.
+fn judge(b: &[u8], u: &[u8], prev: &[u8]) -> Judged
+    requires { ⌜ 0 < length (now u) ⌝ }
+    ensures { λ r. ⌜ r ≡ judgedOf (now (u .entry)) (now (prev .entry)) (now (b .entry)) ⌝ }
+{
+    let n = text::key_run(b);
+    if n == 0 {
+        return Judged::Wrong(Rule::Character);
+    }
+    let r = &b[n..];
+    let g = text::gap_run(r);
+    if (g == 0) & (0 < r.len()) {
+        return Judged::Wrong(Rule::Character);
+    }
+    let k = &b[..n];
+    if !text::value_ok(u, k, &r[g..]) {
+        return Judged::Wrong(Rule::Character);
+    }
+    if !text::rising(prev, k) {
+        return Judged::Wrong(Rule::KeywordOrder);
+    }
+    Judged::Keyword(n)
+}
+
+// Rows 14 to 17 of the string that l starts with, which stands at place `at` of the file.
+fn step_at(l: &[u8], high: bool, t: &[u8], u: &[u8], whose: Part, prev: &[u8], at: usize) -> Step
+    requires { ⌜ 0 < length (now u) ⌝ }
+    ensures { λ r. ⌜ r ≡ stepOf high (now (t .entry)) (now (u .entry)) whose (now (prev .entry)) (now (l .entry)) at ⌝ }
+{
+    let s = framed(l, high, t);
+    match s {
+        Frame::End => Step::Done,
+        Frame::Broken(rule) => Step::Bad(Refusal {
+            rule,
+            part: whose,
+            place: at,
+        }),
+        Frame::Text(o) => {
+            let end = o - t.len();
+            let j = judge(&l[2..end], u, prev);
+            match j {
+                Judged::Keyword(n) => Step::Next(o, n),
+                Judged::Wrong(rule) => Step::Bad(Refusal {
+                    rule,
+                    part: whose,
+                    place: at,
+                }),
+            }
+        }
+    }
+}
+
+// The check of the area from a to e of f. The keyword before is the file's own bytes from k to g.
+pub fn check(f: &[u8], a: usize, e: usize, high: bool, t: &[u8], u: &[u8], whose: Part) -> Verdict
+    requires { ⌜ (a ≤ e) × (e ≤ length (now f)) × (0 < length (now u)) ⌝ }
+    ensures { λ r. ⌜ r ≡ stringsOf high (now (t .entry)) (now (u .entry)) whose (part a e (now (f .entry))) a ⌝ }
+{
+    if e <= a {
+        return Verdict::Accepted;
+    }
+    let mut at = a;
+    let mut k = a;
+    let mut g = a;
+    while at < e {
+        let s = step_at(&f[at..e], high, t, u, whose, &f[k..g], at);
+        match s {
+            Step::Bad(r) => {
+                return Verdict::Refused(r);
+            }
+            Step::Done => {
+                return Verdict::Accepted;
+            }
+            Step::Next(o, n) => {
+                k = at + 2;
+                g = k + n;
+                at += o;
+            }
+        }
+    }
+    Verdict::Refused(Refusal {
+        rule: Rule::StringOffset,
+        part: whose,
+        place: at,
+    })
+}
