@@ -14,8 +14,8 @@ use Rattle.text.specs.Runs.{run, all, same}
 use Rattle.text.specs.Order.{less, rises}
 use Rattle.strings.specs.Spelled.{written}
 use Rattle.sample.specs.Needed.{needed, room}
-use Rattle.sample.specs.Unfit.{firstFrom, outside, unfitInteger, unfitIntegers}
-use Rattle.sample.specs.Write.{flat, residue, fixedBytes, filledUp, integersData}
+use Rattle.encode.specs.Unfit.{firstFrom, outside, unfitInteger, unfitIntegers}
+use Rattle.encode.specs.Write.{flat, residue, fixedBytes, filledUp, integersData}
 use Rattle.sheet.specs.Lines.{lineLen, keyLen, continues, judgedOf, stepOf, checkFrom, linesVerdict, linesFrom, linesOf}
 use Rattle.sheet.specs.Area.{joined, stringsOf, textSize, areaOf, areaSize, measuredOf}
 use Rattle.writer.specs.Layout.{nul, lineFeed, fileBlock, startSize, Trace, Samples.integers, count, fitting, unfit, samplesData, traceBlock, blockBytes, dataBytes, traceBytes}

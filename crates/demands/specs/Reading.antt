@@ -36,10 +36,10 @@ use Rattle.decimal.specs.LocationMarks.{comma-location}
 use Rattle.decimal.specs.Rounded.{text-rounded-once}
 use Rattle.sample.specs.Needed.{width}
 use Rattle.sample.specs.Run.{run}
-use Rattle.sample.specs.Sample.{patternOf, twos, exponentIn, scaled, groupSample, sampleOf, classOf}
-use Rattle.sample.specs.Classes.{valueClass, codeOf, class-ieee}
-use Rattle.sample.specs.Write.{exponentOf}
-use Rattle.sample.specs.Cut.{cut, cut-near, cut-exact}
+use Rattle.decode.specs.Sample.{patternOf, twos, exponentIn, scaled, groupSample, sampleOf, classOf}
+use Rattle.decode.specs.Classes.{valueClass, codeOf, class-ieee}
+use Rattle.encode.specs.Write.{exponentOf}
+use Rattle.encode.specs.Cut.{cut, cut-near, cut-exact}
 use Rattle.sheet.specs.declared.Measured.the-variants.{Size}
 use Rattle.sheet.specs.Lines.{linesOf}
 use Rattle.sheet.specs.Area.{joined, areaSize, stringsOf, measuredOf}

@@ -13,9 +13,9 @@ use Rattle.refusal.specs.declared.Verdict.the-variants as verdict
 use Rattle.refusal.specs.Table as refusals
 use Rattle.sample.specs.Needed.{needed, width}
 use Rattle.sample.specs.Run as samples
-use Rattle.sample.specs.Sample.{patternOf, twos, exponentIn, ones, scaled, groupSample, sampleOf, integersThere, integersRead}
-use Rattle.sample.specs.Unfit.{firstFrom, unfitInteger, unfitIntegers}
-use Rattle.sample.specs.Write.{smallest, exponentOf, mantissaOf, onesBits, exponentsOf, wordsOf, groupBytes, groups, filledUp, integersData}
+use Rattle.decode.specs.Sample.{patternOf, twos, exponentIn, ones, scaled, groupSample, sampleOf, integersThere, integersRead}
+use Rattle.encode.specs.Unfit.{firstFrom, unfitInteger, unfitIntegers}
+use Rattle.encode.specs.Write.{smallest, exponentOf, mantissaOf, onesBits, exponentsOf, wordsOf, groupBytes, groups, filledUp, integersData}
 use Rattle.decimal.specs.declared.NumberAnswer.{NumberAnswer}
 use Rattle.decimal.specs.declared.NumberAnswer.the-variants.{Is, Refused}
 use Rattle.decimal.specs.Run.{run}

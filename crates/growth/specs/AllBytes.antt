@@ -21,7 +21,7 @@ use Rattle.text.specs.Chars.{blank, keyChar, valueChar, note, blank-value}
 use Rattle.text.specs.Runs.{all, same, both}
 use Rattle.text.specs.Note.{lines, valueOk, Lines, Lines.done, Lines.char, Lines.line, lines-spelled}
 use Rattle.strings.specs.Spelled.{Str, Good, Rising, textOf, sizeOf, written, Spells, Spells.empty, Spells.full}
-use Rattle.sample.specs.Write.{flat, residue, fixedBytes, exponentsOf, mantissaOf, onesBits, wordsOf, groupBytes, groups, filledUp, integersData, bitsData}
+use Rattle.encode.specs.Write.{flat, residue, fixedBytes, exponentsOf, mantissaOf, onesBits, wordsOf, groupBytes, groups, filledUp, integersData, bitsData}
 use Rattle.sheet.specs.declared.Measured.the-variants.{Size}
 use Rattle.sheet.specs.Area.{areaOf, areaSize, padding, stringsOf, textSize, measuredOf}
 use Rattle.sheet.specs.Spelling.{among, Terminators, terminators-end, area-spells}

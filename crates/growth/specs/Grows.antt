@@ -14,7 +14,7 @@ use Rattle.word.specs.Bytes.{Bytes}
 use Rattle.word.specs.Round.{round4, round4-up}
 use Rattle.word.specs.Word.{wordAt}
 use Rattle.word.specs.WordLaws.{word-take}
-use Rattle.sample.specs.declared.Fit.the-variants.{All}
+use Rattle.encode.specs.declared.Fit.the-variants.{All}
 use Rattle.sheet.specs.declared.Measured.the-variants.{Size}
 use Rattle.sheet.specs.Area.{areaSize, measuredOf}
 use Rattle.block.specs.Head.{highFirst, roomOf, countOf, stringEnd, lineEnd}

@@ -13,14 +13,14 @@ use borrow.Author.Tests.{eqb-true}
 use Rattle.word.specs.Part.{part}
 use Rattle.refusal.specs.declared.Verdict.the-variants.{Accepted}
 use Rattle.strings.specs.Spelled.{Spells}
-use Rattle.sample.specs.declared.Fit.the-variants.{All}
+use Rattle.encode.specs.declared.Fit.the-variants.{All}
 use Rattle.sample.specs.Needed.{byCode, width}
 use Rattle.sample.specs.Run.{run, run-map, run-of}
-use Rattle.sample.specs.Sample.{sampleOf, patternOf, classOf, integersAsked, bitsAsked}
-use Rattle.sample.specs.Unfit.{unfitIntegers, unfitPatterns}
-use Rattle.sample.specs.Write.{integersData, bitsData}
-use Rattle.sample.specs.Back.{reach, fit-reach, integers-back, fit-32, bits-back}
-use Rattle.sample.specs.Cut.{cut, floats-back}
+use Rattle.decode.specs.Sample.{sampleOf, patternOf, classOf, integersAsked, bitsAsked}
+use Rattle.encode.specs.Unfit.{unfitIntegers, unfitPatterns}
+use Rattle.encode.specs.Write.{integersData, bitsData}
+use Rattle.encode.specs.Back.{reach, fit-reach, integers-back, fit-32, bits-back}
+use Rattle.encode.specs.Cut.{cut, floats-back}
 use Rattle.sheet.specs.declared.Measured.the-variants.{Size}
 use Rattle.sheet.specs.Area.{stringsOf, measuredOf}
 use Rattle.sheet.specs.Spelling.{LineEnd, area-spells}

@@ -11,11 +11,11 @@ use lib.Dec.{leb}
 use borrow.Author.Tests.{leb-true, leb-false}
 use Rattle.word.specs.Put.{put}
 use Rattle.sample.specs.Needed.{needed, room}
-use Rattle.sample.specs.Sample.{integersAsked, bitsAsked}
-use Rattle.sample.specs.Unfit.{unfitIntegers, unfitPatterns}
-use Rattle.sample.specs.Write.{integersData, bitsData}
-use Rattle.sample.specs.declared.Fit.{Fit}
-use Rattle.sample.specs.declared.Fit.the-variants.{All, At}
+use Rattle.decode.specs.Sample.{integersAsked, bitsAsked}
+use Rattle.encode.specs.Unfit.{unfitIntegers, unfitPatterns}
+use Rattle.encode.specs.Write.{integersData, bitsData}
+use Rattle.encode.specs.declared.Fit.{Fit}
+use Rattle.encode.specs.declared.Fit.the-variants.{All, At}
 
 -- no sample that the code cannot hold (row 29)
 abbrev pub isAll : Fit → Bool

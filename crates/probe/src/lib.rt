@@ -8,7 +8,7 @@ ghost use Rattle.decimal.specs.Number.{numberOf};
 ghost use Rattle.decimal.specs.Double.{doubleOf};
 ghost use Rattle.decimal.specs.Location.{locationOf};
 ghost use Rattle.sample.specs.Needed.{room};
-ghost use Rattle.sample.specs.Sample.{integersThere, integersRead, bitsThere, patternsRead, classesRead};
+ghost use Rattle.decode.specs.Sample.{integersThere, integersRead, bitsThere, patternsRead, classesRead};
 ghost use Rattle.listing.specs.Listing.{listAnswer, listLeft};
 ghost use Rattle.probe.specs.Told.{numberTold, doubleTold, locationTold};
 ghost use Rattle.probe.specs.Listed.{lengthTold};
@@ -17,7 +17,7 @@ use decimal::DoubleAnswer;
 use decimal::LocationAnswer;
 use decimal::NumberAnswer;
 use listing::Listed;
-use sample::Fit;
+use encode::Fit;
 
 // ---- numbers in values (document 01, "Numbers in values", rows 20 to 23)
 
@@ -151,7 +151,7 @@ pub extern "C" fn probe_read_integers(code: u8, block: &[u8], high: bool, row: &
     ensures answer { λ r. ⌜ r ≡ integersThere code (length (now (row .entry))) (now (block .entry)) ⌝ }
     ensures filled { λ _. ⌜ now (row .exit) ≡ integersRead code high (now (block .entry)) (now (row .entry)) ⌝ }
 {
-    sample::read_integers(code, block, high, row)
+    decode::read_integers(code, block, high, row)
 }
 
 // The patterns of a data block, and their classes.
@@ -167,7 +167,7 @@ pub extern "C" fn probe_read_bits(
     ensures filled { λ _. ⌜ now (row .exit) ≡ patternsRead code high (now (block .entry)) (now (row .entry)) (now (classes .entry)) ⌝ }
     ensures classed { λ _. ⌜ now (classes .exit) ≡ classesRead code high (now (block .entry)) (now (row .entry)) (now (classes .entry)) ⌝ }
 {
-    sample::read_bits(code, block, high, row, classes)
+    decode::read_bits(code, block, high, row, classes)
 }
 
 // Whether every sample of a row can be held.
@@ -221,13 +221,13 @@ fn write_1(row: &[i32], high: bool, part: &mut [u8]) -> bool
     ensures answer { λ r. ⌜ r ≡ integersTaken 1 (now (row .entry)) (length (now (part .entry))) ⌝ }
     ensures written { λ _. ⌜ now (part .exit) ≡ integersLeft 1 high (now (row .entry)) (now (part .entry)) ⌝ }
 {
-    if !all(sample::unfit_integers(1, row)) {
+    if !all(encode::unfit_integers(1, row)) {
         return false;
     }
     if !room1(row, part.len()) {
         return false;
     }
-    sample::write1(row, high, part);
+    encode::write1(row, high, part);
     true
 }
 
@@ -238,7 +238,7 @@ fn write_2(row: &[i32], high: bool, part: &mut [u8]) -> bool
     if !room2(row, part.len()) {
         return false;
     }
-    sample::write2(row, high, part);
+    encode::write2(row, high, part);
     true
 }
 
@@ -249,13 +249,13 @@ fn write_3(row: &[i32], high: bool, part: &mut [u8]) -> bool
     if row.len() % 4 != 0 {
         return false;
     }
-    if !all(sample::unfit_integers(3, row)) {
+    if !all(encode::unfit_integers(3, row)) {
         return false;
     }
     if !room3(row, part.len()) {
         return false;
     }
-    sample::write3(row, high, part);
+    encode::write3(row, high, part);
     true
 }
 
@@ -263,13 +263,13 @@ fn write_4(row: &[u64], high: bool, part: &mut [u8]) -> bool
     ensures answer { λ r. ⌜ r ≡ bitsTaken 4 (now (row .entry)) (length (now (part .entry))) ⌝ }
     ensures written { λ _. ⌜ now (part .exit) ≡ bitsLeft 4 high (now (row .entry)) (now (part .entry)) ⌝ }
 {
-    if !all(sample::unfit_bits(4, row)) {
+    if !all(encode::unfit_bits(4, row)) {
         return false;
     }
     if !room4(row, part.len()) {
         return false;
     }
-    sample::write4(row, high, part);
+    encode::write4(row, high, part);
     true
 }
 
@@ -280,7 +280,7 @@ fn write_5(row: &[u64], high: bool, part: &mut [u8]) -> bool
     if !room5(row, part.len()) {
         return false;
     }
-    sample::write5(row, high, part);
+    encode::write5(row, high, part);
     true
 }
 

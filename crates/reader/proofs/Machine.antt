@@ -10,7 +10,7 @@ use lib.Signed.{mag, ltZ, nonNeg}
 use borrow.Author.Tests.{ltb-true, lt-ltb, le-ltb}
 use mir.Syntax.{w32}
 use mir.Val.{toZ, ofZ, Fits}
-use mir.Facts.{toZ-ofZ}
+use Rattle.word.specs.Signed.{kept, sign}
 use Rattle.reader.specs.declared.Whose.the-variants.{Whole, One, Nobody}
 use Rattle.reader.specs.declared.StringAnswer.{StringAnswer}
 use Rattle.reader.specs.declared.StringAnswer.the-variants as string
@@ -21,17 +21,6 @@ use types.Run.{OneOf}
 use denote.Enum.Declared.{tagOf}
 use mathlib.Core.List.{[], _∷_}
 use mathlib.Core.Logic.{⊎-elim}
-
--- a number that fits, handed on
-crossed : (z : ℤ) → mag z < 2147483648 → toZ w32 (ofZ w32 z) ≡ z
-crossed z h = toZ-ofZ {w = w32} (record { sfits = h })
-
--- what was answered of it was answered of the number itself
-pub handed : {A : Type 0} (g : ℤ → A) (z : ℤ) {r : A} → mag z < 2147483648 → r ≡ g (toZ w32 (ofZ w32 z)) → r ≡ g z
-handed g z h e = e ∙ ap g (crossed z h)
-
-sign : (z : ℤ) {b : Bool} → mag z < 2147483648 → ltZ (toZ w32 (ofZ w32 z)) (pos 0) ≡ b → ltZ z (pos 0) ≡ b
-sign z h e = ap (λ (y : ℤ). ltZ y (pos 0)) (sym (crossed z h)) ∙ e
 
 -- -1
 pub whole : (z : ℤ) (n : ℕ) → mag z < 2147483648 → ofZ w32 z ≡ 4294967295 → Whole ≡ whoseOf z n
@@ -56,11 +45,11 @@ at-least (pos k) h t = (k, refl, h)
 at-least (negsuc k) h t = let s = sign (negsuc k) h t in let y : _≡_ {A = ℕ} 0 1 = cc in absurd (omega arith)
 
 plain : (z : ℤ) (k : ℕ) → mag z < 2147483648 → z ≡ pos k → natAbs (toZ w32 (ofZ w32 z)) ≡ k
-plain z k h e = rw (crossed z h, e)
+plain z k h e = rw (kept z h, e)
 
 pub casts : (z : ℤ) → mag z < 2147483648 → ltZ (toZ w32 (ofZ w32 z)) (pos 0) ≡ false
     → T (nonNeg (toZ w32 (ofZ w32 z))) × Fits w32 (natAbs (toZ w32 (ofZ w32 z)))
-casts z h t = let a = at-least z h t in rw (crossed z h, a .1) (tt, record { fits = omega (arith, a .2) })
+casts z h t = let a = at-least z h t in rw (kept z h, a .1) (tt, record { fits = omega (arith, a .2) })
 
 -- among n, and past them
 among : (k n : ℕ) → k < n → One k ≡ whoseOf (pos k) n

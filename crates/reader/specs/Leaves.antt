@@ -18,7 +18,7 @@ use Rattle.strings.specs.declared.Found.{Found}
 use Rattle.strings.specs.Strings.{placesOf, nthOf, findOf}
 use Rattle.sample.specs.Needed.{needed}
 use Rattle.sample.specs.Run.{run}
-use Rattle.sample.specs.Sample.{sampleOf, patternOf, classOf}
+use Rattle.decode.specs.Sample.{sampleOf, patternOf, classOf}
 use Rattle.block.specs.declared.TraceBlock.{TraceBlock}
 use Rattle.block.specs.Head.{highFirst, roomOf, stringEnd, refused}
 use Rattle.block.specs.Image.{pointerOf, blockSize, checkOf}

@@ -21,7 +21,7 @@ use Rattle.strings.specs.declared.Found.the-variants.{Nothing, Is}
 use Rattle.strings.specs.Strings.{placesOf, nthOf, findOf, valueIn}
 use Rattle.sample.specs.Needed.{byCode}
 use Rattle.sample.specs.Run.{run}
-use Rattle.sample.specs.Sample.{bitsAsked, sampleOf, patternOf, classOf}
+use Rattle.decode.specs.Sample.{bitsAsked, sampleOf, patternOf, classOf}
 use Rattle.decimal.specs.declared.NumberAnswer.{NumberAnswer}
 use Rattle.decimal.specs.declared.NumberAnswer.the-variants as number
 use Rattle.decimal.specs.declared.DoubleAnswer.{DoubleAnswer}

@@ -14,7 +14,7 @@ use Rattle.refusal.specs.declared.Refusal.{Refusal}
 use Rattle.refusal.specs.declared.Verdict.{Verdict}
 use Rattle.refusal.specs.declared.Verdict.the-variants.{Accepted, Refused}
 use Rattle.sample.specs.Needed.{needed}
-use Rattle.sample.specs.Sample.{integersAsked, integersThere, integersRead, bitsThere, patternsRead, classesRead}
+use Rattle.decode.specs.Sample.{integersAsked, integersThere, integersRead, bitsThere, patternsRead, classesRead}
 use Rattle.block.specs.declared.TraceBlock.{TraceBlock}
 use Rattle.block.specs.Head.{highFirst, countOf, refused}
 use Rattle.block.specs.Image.{endAt, checkOf, traceBlockOf}

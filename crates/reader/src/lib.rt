@@ -361,7 +361,7 @@ fn integers_of(f: &[u8], t: TraceBlock, row: &mut [i32]) -> Verdict
     let p = t.p;
     let b = t.b;
     let d = t.d;
-    sample::read_integers(code, &f[p + b..p + b + d], block::is_high(f), row);
+    decode::read_integers(code, &f[p + b..p + b + d], block::is_high(f), row);
     Verdict::Accepted // the row holds all S samples
 }
 
@@ -398,7 +398,7 @@ fn bits_of(f: &[u8], t: TraceBlock, row: &mut [u64], classes: &mut [u8]) -> Verd
     let p = t.p;
     let b = t.b;
     let d = t.d;
-    sample::read_bits(code, &f[p + b..p + b + d], block::is_high(f), row, classes);
+    decode::read_bits(code, &f[p + b..p + b + d], block::is_high(f), row, classes);
     Verdict::Accepted
 }
 

@@ -1,11 +1,3 @@
 pub mod Needed
 pub mod Run
 pub mod Turned
-pub mod Sample
-pub mod SampleLaws
-pub mod Unfit
-pub mod Write
-pub mod WriteLaws
-pub mod Back
-pub mod Cut
-pub mod Classes

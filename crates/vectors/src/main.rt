@@ -4,7 +4,7 @@ use decimal::LocationAnswer;
 use decimal::NumberAnswer;
 use refusal::Part;
 use refusal::Verdict;
-use sample::Fit;
+use encode::Fit;
 
 // ---- comparisons
 
@@ -69,14 +69,14 @@ fn location_refused(text: &[u8], number: u32) -> bool {
 // One sample of codes 1 and 2.
 fn sample_is(code: u8, block: &[u8], high: bool, value: i32) -> bool {
     let mut row = [0i32];
-    let read = sample::read_integers(code, block, high, &mut row);
+    let read = decode::read_integers(code, block, high, &mut row);
     read & (row[0] == value)
 }
 
 // One group of code 3.
 fn group_is(block: &[u8], high: bool, a: i32, b: i32, c: i32, d: i32) -> bool {
     let mut row = [0i32; 4];
-    let read = sample::read_integers(3, block, high, &mut row);
+    let read = decode::read_integers(3, block, high, &mut row);
     read & ((row[0] == a) & ((row[1] == b) & ((row[2] == c) & (row[3] == d))))
 }
 
@@ -84,14 +84,14 @@ fn group_is(block: &[u8], high: bool, a: i32, b: i32, c: i32, d: i32) -> bool {
 fn bits_are(code: u8, block: &[u8], high: bool, pattern: u64, class: u8) -> bool {
     let mut row = [0u64];
     let mut classes = [9u8];
-    let read = sample::read_bits(code, block, high, &mut row, &mut classes);
+    let read = decode::read_bits(code, block, high, &mut row, &mut classes);
     read & ((row[0] == pattern) & (classes[0] == class))
 }
 
 // Row 29 of code 3.
 fn unfit(value: i32) -> bool {
     let row = [value, 0, 0, 0];
-    let fit = sample::unfit_integers(3, &row);
+    let fit = encode::unfit_integers(3, &row);
     match fit {
         Fit::All => false,
         Fit::At(i) => i == 0,

@@ -4,3 +4,4 @@ pub mod Put
 pub mod Word
 pub mod WordLaws
 pub mod Round
+pub mod Signed

@@ -8,11 +8,11 @@ use lib.IntN.{ℤ}
 use lib.ListN.{length, replicate}
 use Rattle.word.specs.Word.{bytesOf}
 use Rattle.refusal.specs.Rows.{pick}
-use Rattle.sample.specs.declared.Fit.{Fit}
+use Rattle.encode.specs.declared.Fit.{Fit}
 use Rattle.sample.specs.Needed.{room}
-use Rattle.sample.specs.Sample.{integersAsked, bitsAsked}
-use Rattle.sample.specs.Unfit.{unfitIntegers, unfitPatterns}
-use Rattle.sample.specs.Write.{integersData, bitsData}
+use Rattle.decode.specs.Sample.{integersAsked, bitsAsked}
+use Rattle.encode.specs.Unfit.{unfitIntegers, unfitPatterns}
+use Rattle.encode.specs.Write.{integersData, bitsData}
 use Rattle.sheet.specs.Area.{areaOf, areaSize}
 
 -- ---- the file block

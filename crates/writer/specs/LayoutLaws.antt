@@ -14,8 +14,8 @@ use Rattle.word.specs.Round.{round4}
 use Rattle.word.specs.Word.{valueOf, lowFirst, wordAt, lowBytes, bytesOf}
 use Rattle.word.specs.WordLaws.{length-bytesOf, word-among, word-drop, word-part}
 use Rattle.sample.specs.Needed.{needed, room}
-use Rattle.sample.specs.Sample.{integersAsked, bitsAsked}
-use Rattle.sample.specs.Back.{length-integersData, length-bitsData}
+use Rattle.decode.specs.Sample.{integersAsked, bitsAsked}
+use Rattle.encode.specs.Back.{length-integersData, length-bitsData}
 use Rattle.sheet.specs.declared.Measured.the-variants.{Size}
 use Rattle.sheet.specs.Area.{areaOf, areaSize, measuredOf}
 use Rattle.sheet.specs.Sizes.{length-area}

@@ -21,11 +21,11 @@ use Rattle.refusal.specs.declared.Refusal.{Refusal}
 use Rattle.refusal.specs.declared.Rule.the-variants.{NoSlot, EntryCode, NoRoom, StartValues}
 use Rattle.refusal.specs.declared.Part.the-variants.{File}
 use Rattle.refusal.specs.declared.Verdict.the-variants as verdict
-use Rattle.sample.specs.declared.Fit.the-variants.{All}
+use Rattle.encode.specs.declared.Fit.the-variants.{All}
 use Rattle.sample.specs.Needed.{needed, room}
-use Rattle.sample.specs.Sample.{integersAsked, bitsAsked}
-use Rattle.sample.specs.Unfit.{unfitIntegers, unfitPatterns}
-use Rattle.sample.specs.Write.{integersData, bitsData}
+use Rattle.decode.specs.Sample.{integersAsked, bitsAsked}
+use Rattle.encode.specs.Unfit.{unfitIntegers, unfitPatterns}
+use Rattle.encode.specs.Write.{integersData, bitsData}
 use Rattle.sheet.specs.declared.Measured.the-variants as measured
 use Rattle.sheet.specs.Area.{areaOf, areaSize, measuredOf}
 use Rattle.sheet.specs.Sizes.{length-area}

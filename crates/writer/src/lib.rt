@@ -3,7 +3,7 @@ use refusal::Part;
 use refusal::Refusal;
 use refusal::Rule;
 use refusal::Verdict;
-use sample::Fit;
+use encode::Fit;
 use sheet::Measured;
 ghost use mathlib.Core.Path.{_≡_};
 ghost use mathlib.Core.Bool.{true};
@@ -14,9 +14,9 @@ ghost use Rattle.word.specs.Put.{put};
 ghost use Rattle.word.specs.Round.{round4};
 ghost use Rattle.word.specs.Word.{bytesOf};
 ghost use Rattle.sample.specs.Needed.{room};
-ghost use Rattle.sample.specs.Sample.{integersAsked, bitsAsked};
-ghost use Rattle.sample.specs.Unfit.{unfitIntegers};
-ghost use Rattle.sample.specs.Write.{integersData, bitsData};
+ghost use Rattle.decode.specs.Sample.{integersAsked, bitsAsked};
+ghost use Rattle.encode.specs.Unfit.{unfitIntegers};
+ghost use Rattle.encode.specs.Write.{integersData, bitsData};
 ghost use Rattle.sheet.specs.Area.{areaOf, measuredOf};
 ghost use Rattle.sheet.specs.Writing.{Writable};
 ghost use Rattle.writer.specs.Layout.{orderMark, plainEnds, nul, lineFeed, fileBlock, startImage, startSize, traceBlock, traceBytes};
@@ -191,7 +191,7 @@ fn integers_fit(code: u32, row: &[i32]) -> Verdict
     if (code == 3) & (row.len() % 4 != 0) {
         return wrong(Rule::EntryCode, 0);
     }
-    fitted(sample::unfit_integers(code as u8, row))
+    fitted(encode::unfit_integers(code as u8, row))
 }
 
 // Rows 28 and 29 of bit patterns.
@@ -201,7 +201,7 @@ fn bits_fit(code: u32, row: &[u64]) -> Verdict
     if (code < 4) | (5 < code) {
         return wrong(Rule::EntryCode, 0);
     }
-    fitted(sample::unfit_bits(code as u8, row))
+    fitted(encode::unfit_bits(code as u8, row))
 }
 
 // The block of a trace, 32 bytes.
@@ -224,9 +224,9 @@ fn integers_into(part: &mut [u8], high: bool, code: u8, row: &[i32])
     ensures { λ _. ⌜ now (part .exit) ≡ put (now (part .entry)) 0 (integersData code high (now (row .entry))) ⌝ }
 {
     match code {
-        1 => sample::write1(row, high, part),
-        2 => sample::write2(row, high, part),
-        _ => sample::write3(row, high, part),
+        1 => encode::write1(row, high, part),
+        2 => encode::write2(row, high, part),
+        _ => encode::write3(row, high, part),
     }
 }
 
@@ -236,8 +236,8 @@ fn bits_into(part: &mut [u8], high: bool, code: u8, row: &[u64])
     ensures { λ _. ⌜ now (part .exit) ≡ put (now (part .entry)) 0 (bitsData code high (now (row .entry))) ⌝ }
 {
     match code {
-        4 => sample::write4(row, high, part),
-        _ => sample::write5(row, high, part),
+        4 => encode::write4(row, high, part),
+        _ => encode::write5(row, high, part),
     }
 }
 

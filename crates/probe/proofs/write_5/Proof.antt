@@ -1,7 +1,7 @@
 -- `probe::write_5` meets its contract. What the encoder asks has been tested; every row can be held. Assumes nothing.
 use mathlib.Core.Path.{refl, sym, _∙_}
 use borrow.Author.Tests.{not-true, not-false, leb-true}
-use Rattle.sample.specs.Unfit.{holds-patterns}
+use Rattle.encode.specs.Unfit.{holds-patterns}
 use Rattle.probe.specs.Written.{bits-no-room, bits-done}
 use borrow.Author.Needs.{needs}
 use native.Mathlib.Omega.{arith}

@@ -8,7 +8,7 @@ use Rattle.reader.specs.Reach.{whose-trace, some-trace, pointer-slot, tr
 use Rattle.reader.specs.Leaves.{area-whole, area-one}
 use Rattle.reader.specs.Questions.{whoseOf, areaOf}
 use Rattle.reader.specs.declared.Whose.{Whose}
-use Rattle.reader.proofs.Machine.{handed}
+use Rattle.word.specs.Signed.{handed}
 use Rattle.reader.proofs.area_of.Statement.{statement}
 use Rattle.reader.proofs.area_of.Tie as tie
 

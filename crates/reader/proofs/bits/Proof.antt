@@ -6,7 +6,7 @@ use borrow.Author.Needs.{needs}
 use Rattle.reader.specs.Samples.{bits-bad, bits-answer, patterns-left, classes-left}
 use Rattle.reader.specs.Reach.{told, told-fits}
 use Rattle.reader.specs.Questions.{traceAnswer}
-use Rattle.reader.proofs.Machine.{handed}
+use Rattle.word.specs.Signed.{handed}
 use Rattle.reader.proofs.bits.Statement.{statement}
 use Rattle.reader.proofs.bits.Tie as tie
 

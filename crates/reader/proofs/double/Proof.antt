@@ -6,7 +6,8 @@ use Rattle.decimal.specs.Double.{doubleOf}
 use Rattle.decimal.specs.declared.DoubleAnswer.the-variants as double
 use Rattle.reader.specs.Reach.{find-lent, value-made}
 use Rattle.reader.specs.Questions.{findAnswer, doubleAnswer}
-use Rattle.reader.proofs.Machine.{handed, answered}
+use Rattle.word.specs.Signed.{handed}
+use Rattle.reader.proofs.Machine.{answered}
 use Rattle.reader.proofs.double.Statement.{statement}
 use Rattle.reader.proofs.double.Tie as tie
 

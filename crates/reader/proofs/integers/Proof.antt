@@ -6,7 +6,7 @@ use borrow.Author.Needs.{needs}
 use Rattle.reader.specs.Samples.{integers-bad, integers-answer, integers-left}
 use Rattle.reader.specs.Reach.{told, told-fits}
 use Rattle.reader.specs.Questions.{traceAnswer}
-use Rattle.reader.proofs.Machine.{handed}
+use Rattle.word.specs.Signed.{handed}
 use Rattle.reader.proofs.integers.Statement.{statement}
 use Rattle.reader.proofs.integers.Tie as tie
 

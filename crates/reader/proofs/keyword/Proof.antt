@@ -3,7 +3,7 @@ use mathlib.Core.Path.{sym, _∙_}
 use lib.IntN.{ℤ}
 use borrow.Author.Needs.{needs}
 use Rattle.reader.specs.Questions.{findAnswer, keywordAnswer}
-use Rattle.reader.proofs.Machine.{handed}
+use Rattle.word.specs.Signed.{handed}
 use Rattle.reader.proofs.keyword.Statement.{statement}
 use Rattle.reader.proofs.keyword.Tie as tie
 

@@ -6,7 +6,8 @@ use Rattle.decimal.specs.Location.{locationOf}
 use Rattle.decimal.specs.declared.LocationAnswer.the-variants as location
 use Rattle.reader.specs.Reach.{find-lent, value-made}
 use Rattle.reader.specs.Questions.{findAnswer, locationAnswer}
-use Rattle.reader.proofs.Machine.{handed, answered}
+use Rattle.word.specs.Signed.{handed}
+use Rattle.reader.proofs.Machine.{answered}
 use Rattle.reader.proofs.location.Statement.{statement}
 use Rattle.reader.proofs.location.Tie as tie
 

@@ -6,7 +6,8 @@ use Rattle.decimal.specs.Number.{numberOf}
 use Rattle.decimal.specs.declared.NumberAnswer.the-variants as number
 use Rattle.reader.specs.Reach.{find-lent, value-made}
 use Rattle.reader.specs.Questions.{findAnswer, numberAnswer}
-use Rattle.reader.proofs.Machine.{handed, answered}
+use Rattle.word.specs.Signed.{handed}
+use Rattle.reader.proofs.Machine.{answered}
 use Rattle.reader.proofs.number.Statement.{statement}
 use Rattle.reader.proofs.number.Tie as tie
 

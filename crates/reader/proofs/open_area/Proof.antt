@@ -7,7 +7,7 @@ use borrow.Author.Needs.{needs}
 use Rattle.reader.specs.Reach.{checked}
 use Rattle.reader.specs.Leaves.{openedOf}
 use Rattle.reader.specs.Questions.{areaAsked}
-use Rattle.reader.proofs.Machine.{handed}
+use Rattle.word.specs.Signed.{handed}
 use Rattle.reader.proofs.open_area.Statement.{statement}
 use Rattle.reader.proofs.open_area.Tie as tie
 

@@ -5,7 +5,7 @@ use lib.IntN.{ℤ}
 use borrow.Author.Needs.{needs}
 use Rattle.reader.specs.Reach.{reached}
 use Rattle.reader.specs.Leaves.{openedOf, nth-bad, nth-told}
-use Rattle.reader.proofs.Machine.{handed}
+use Rattle.word.specs.Signed.{handed}
 use Rattle.reader.proofs.string.Statement.{statement}
 use Rattle.reader.proofs.string.Tie as tie
 

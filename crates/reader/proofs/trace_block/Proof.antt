@@ -7,7 +7,7 @@ use borrow.Author.Needs.{needs}
 use Rattle.block.specs.Head.{countOf}
 use Rattle.reader.specs.Reach.{checked, whose-trace, pointer-slot, trace-pointed}
 use Rattle.reader.specs.Questions.{whoseOf, traceAnswer}
-use Rattle.reader.proofs.Machine.{handed}
+use Rattle.word.specs.Signed.{handed}
 use Rattle.reader.proofs.trace_block.Statement.{statement}
 use Rattle.reader.proofs.trace_block.Tie as tie
 

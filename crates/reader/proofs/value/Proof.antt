@@ -4,7 +4,7 @@ use lib.IntN.{ℤ}
 use borrow.Author.Needs.{needs}
 use Rattle.reader.specs.Reach.{find-lent, value-told}
 use Rattle.reader.specs.Questions.{findAnswer}
-use Rattle.reader.proofs.Machine.{handed}
+use Rattle.word.specs.Signed.{handed}
 use Rattle.reader.proofs.value.Statement.{statement}
 use Rattle.reader.proofs.value.Tie as tie
 

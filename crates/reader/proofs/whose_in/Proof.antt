@@ -5,7 +5,7 @@ use borrow.Author.Needs.{needs}
 use Rattle.block.specs.HeadLaws.{count-read}
 use Rattle.block.specs.Head.{countOf}
 use Rattle.reader.specs.Questions.{whoseOf}
-use Rattle.reader.proofs.Machine.{handed}
+use Rattle.word.specs.Signed.{handed}
 use Rattle.reader.proofs.whose_in.Statement.{statement}
 use Rattle.reader.proofs.whose_in.Tie as tie
 

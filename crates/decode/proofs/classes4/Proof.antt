@@ -1,0 +1,33 @@
+-- `decode::classes4` meets its contract. The invariant: what is left to store, stored, makes the whole row. Assumes nothing.
+use mathlib.Core.Path.{refl, _∙_, ap}
+use Prim.Native.Nat.{ℕ, _-_}
+use native.Mathlib.Omega.{arith}
+use lib.ListN.{length, getD}
+use borrow.Author.Needs.{needs}
+use Rattle.sample.specs.Run.{run, Filling, fill-start, fill-one, fill-end, run-of}
+use Rattle.decode.specs.Sample.{classOf}
+use Rattle.decode.proofs.classes4.Statement.{statement}
+use Rattle.decode.proofs.classes4.Tie as tie
+
+abbrev Inv-loop : tie.InvT-loop
+Inv-loop row classes₀ i₀ classes i = Filling (λ (k : ℕ). classOf 4 (getD row k 0)) classes₀ i classes
+
+abbrev μ-loop : tie.MeasureT-loop
+μ-loop row classes₀ i₀ classes i = length classes₀ - i
+
+pub classes4-spec : {M : Type 1} → statement M
+classes4-spec =
+    tie.close
+    (tie.spec
+    Inv-loop
+    μ-loop
+    (λ c. fill-start _ _)
+    (λ c. search needs)
+    (λ c. search needs)
+    (λ c κs. search needs)
+    (λ c. search needs)
+    (λ c. search needs)
+    (λ c. search needs)
+    (λ c. fill-one (c .before .before .before .loop .inv) (omega arith) (c .class4 .ensures))
+    (λ c. c .before .loop .inv .long)
+    (λ c. fill-end (c .before .loop .inv) (omega arith) ∙ ap (run _ 0) (c .before .before .before .before .pre) ∙ run-of _ (classOf 4) 0 (c .before .before .before .before .args .row .now) (λ i l. refl)))

@@ -1,0 +1,21 @@
+-- `decode::group_sample` meets its contract. The exponent comes out of the first word, the mantissa is k words behind it and one. Assumes nothing.
+use mathlib.Core.Path.{ap, ap₂, _∙_}
+use Prim.Native.Nat.{ℕ}
+use borrow.Author.Needs.{needs}
+use Rattle.decode.specs.Sample.{exponentIn, scaled, groupSample}
+use Rattle.word.specs.Signed.{kept}
+use Rattle.decode.proofs.group_sample.Statement.{statement}
+use Rattle.decode.proofs.group_sample.Tie as tie
+
+pub group-sample-spec : {M : Type 1} → statement M
+unfolding groupSample
+group-sample-spec =
+    tie.close
+    (tie.spec
+    (λ c κs. search needs)
+    (λ c. search needs)
+    (λ c. search needs)
+    (λ c. search needs)
+    (λ c κs. search needs)
+    (λ c κs. search needs)
+    (λ c. kept (c .scaled .result) (c .scaled .ok) ∙ c .scaled .ensures ∙ ap₂ scaled (c .before .before .exponent-in .ensures .0 ∙ ap (λ (w : ℕ). exponentIn w (c .before .before .before .before .args .k)) (c .before .before .before .before .pre .1)) (c .before .word-at .ensures .0)))

@@ -1,0 +1,39 @@
+-- `decode::read2` meets its contract. The invariant: what is left to store, stored, makes the whole row. Assumes nothing.
+use mathlib.Core.Path.{refl, _∙_, ap}
+use Prim.Native.Nat.{_-_}
+use native.Mathlib.Omega.{arith}
+use lib.ListN.{length}
+use borrow.Author.Needs.{needs}
+use Rattle.sample.specs.Needed.{needed, width}
+use Rattle.sample.specs.Run.{Filling, fill-start, fill-one, fill-end}
+use Rattle.decode.specs.Sample.{twos, patternOf, sampleOf}
+use Rattle.decode.specs.SampleLaws.{too-short, there, nothing-read, all-read}
+use Rattle.word.specs.Signed.{kept}
+use Rattle.decode.proofs.read2.Statement.{statement}
+use Rattle.decode.proofs.read2.Tie as tie
+
+abbrev Inv-loop : tie.InvT-loop
+Inv-loop block high row₀ i₀ row i = Filling (sampleOf 2 high block) row₀ i row
+
+abbrev μ-loop : tie.MeasureT-loop
+μ-loop block high row₀ i₀ row i = length row₀ - i
+
+pub read2-spec : {M : Type 1} → statement M
+unfolding needed sampleOf patternOf width
+read2-spec =
+    tie.close
+    (tie.spec
+    Inv-loop
+    μ-loop
+    (λ c. nothing-read 2 _ _ _ (too-short 2 _ _ (omega arith)))
+    (λ c. fill-start _ _)
+    (λ c. search needs)
+    (λ c κs. search needs)
+    (λ c κs. search needs)
+    (λ c. search needs)
+    (λ c. search needs)
+    (λ c. search needs)
+    (λ c. search needs)
+    (λ c. fill-one (c .before .before .before .loop .inv) (omega arith) (kept (c .twos32 .result) (c .twos32 .ok) ∙ c .twos32 .ensures ∙ ap (twos 2147483648) (c .before .word4-at .ensures .0)))
+    (λ c. c .before .loop .inv .long)
+    (λ c. all-read 2 _ _ _ _ (there 2 _ _ refl (omega arith)) (fill-end (c .before .loop .inv) (omega arith))))

@@ -1,0 +1,26 @@
+-- `decode::read5` meets its contract. The classes are those of the patterns that were read. Assumes nothing.
+use mathlib.Core.Path.{refl}
+use native.Mathlib.Omega.{arith}
+use borrow.Author.Needs.{needs}
+use Rattle.sample.specs.Needed.{needed}
+use Rattle.decode.specs.SampleLaws.{unequal, bits-too-short, bits-there, no-bits-read, all-bits-read}
+use Rattle.decode.proofs.read5.Statement.{statement}
+use Rattle.decode.proofs.read5.Tie as tie
+
+pub read5-spec : {M : Type 1} → statement M
+unfolding needed
+read5-spec =
+    tie.close
+    (tie.spec
+    (λ c. no-bits-read 5 _ _ _ _ (unequal 5 _ _ _ (c .if1 .taken)))
+    (λ c. no-bits-read 5 _ _ _ _ (bits-too-short 5 _ _ _ (omega arith)))
+    (λ c κs. omega arith)
+    (λ c κs. search needs)
+    (λ c. search needs)
+    (λ c. search needs)
+    (λ c. rw (c .before .before .before .before .before .before .before .before .before .if3 .taken) (all-bits-read 5 _ _ _ _ _ _ (bits-there 5 _ _ _ refl (c .before .before .before .before .before .before .before .before .before .before .before .if1 .left) (omega arith)) (c .before .before .before .before .before .before .before .patterns5 .ensures) (c .before .before .classes5 .ensures)))
+    (λ c κs. omega arith)
+    (λ c κs. search needs)
+    (λ c. search needs)
+    (λ c. search needs)
+    (λ c. rw (c .before .before .before .before .before .before .before .before .before .if3 .left) (all-bits-read 5 _ _ _ _ _ _ (bits-there 5 _ _ _ refl (c .before .before .before .before .before .before .before .before .before .before .before .if1 .left) (omega arith)) (c .before .before .before .before .before .before .before .patterns52 .ensures) (c .before .before .classes52 .ensures))))

@@ -1,0 +1,19 @@
+-- `decode::read_bits` meets its contract. Each arm is the decoder of its code; no other code is one of bits. Assumes nothing.
+use borrow.Author.Needs.{needs}
+use Rattle.decode.specs.SampleLaws.{no-bits, no-bits-read}
+use Rattle.decode.proofs.read_bits.Statement.{statement}
+use Rattle.decode.proofs.read_bits.Tie as tie
+
+pub read-bits-spec : {M : Type 1} → statement M
+read-bits-spec =
+    tie.close
+    (tie.spec
+    (λ c κs. search needs)
+    (λ c κs. search needs)
+    (λ c. search needs)
+    (λ c. search needs)
+    (λ c. rw (c .before .before .before .before .before .before .before .match .keys1) (c .before .before .before .before .read4 .ensures))
+    (λ c. search needs)
+    (λ c. search needs)
+    (λ c. rw (c .before .before .before .before .before .before .before .match .keys2) (c .before .before .before .before .read5 .ensures))
+    (λ c. let r = c .match .rest in no-bits-read _ _ _ _ _ (no-bits _ _ _ _ (r .0 .1) (r .1))))

@@ -1,0 +1,21 @@
+-- `decode::twos16` meets its contract. Minus k and one is the bits of k turned over. Assumes nothing.
+use mathlib.Core.Path.{_∙_, sym}
+use Prim.Native.Nat.{_-_}
+use native.Mathlib.Omega.{arith}
+use borrow.Author.Needs.{needs}
+use mir.Syntax.{w16}
+use mir.Facts.{toZ-pos}
+use Rattle.decode.specs.SampleLaws.{twos-plus, twos-minus}
+use Rattle.decode.proofs.Machine.{flipped16}
+use Rattle.decode.proofs.twos16.Statement.{statement}
+use Rattle.decode.proofs.twos16.Tie as tie
+
+pub twos16-spec : {M : Type 1} → statement M
+twos16-spec =
+    tie.close
+    (tie.spec
+    (λ c. search needs)
+    (λ c. search needs)
+    (λ c. search needs)
+    (λ c. toZ-pos w16 {n = c .before .args .n} (omega arith) ∙ sym (twos-plus 32768 (c .before .args .n) (c .if1 .taken)))
+    (λ c. flipped16 (65535 - c .before .args .n) (omega arith) ∙ sym (twos-minus 32768 (c .before .args .n) (c .if1 .left) (c .before .pre))))

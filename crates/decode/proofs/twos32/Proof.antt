@@ -1,0 +1,21 @@
+-- `decode::twos32` meets its contract. Minus k and one is the bits of k turned over. Assumes nothing.
+use mathlib.Core.Path.{_∙_, sym}
+use Prim.Native.Nat.{_-_}
+use native.Mathlib.Omega.{arith}
+use borrow.Author.Needs.{needs}
+use mir.Syntax.{w32}
+use mir.Facts.{toZ-pos}
+use Rattle.decode.specs.SampleLaws.{twos-plus, twos-minus}
+use Rattle.decode.proofs.Machine.{flipped}
+use Rattle.decode.proofs.twos32.Statement.{statement}
+use Rattle.decode.proofs.twos32.Tie as tie
+
+pub twos32-spec : {M : Type 1} → statement M
+twos32-spec =
+    tie.close
+    (tie.spec
+    (λ c. search needs)
+    (λ c. search needs)
+    (λ c. search needs)
+    (λ c. toZ-pos w32 {n = c .before .args .n} (omega arith) ∙ sym (twos-plus 2147483648 (c .before .args .n) (c .if1 .taken)))
+    (λ c. flipped (4294967295 - c .before .args .n) (omega arith) ∙ sym (twos-minus 2147483648 (c .before .args .n) (c .if1 .left) (c .before .pre))))

@@ -1,0 +1,34 @@
+-- `encode::first_outside` meets its contract. The invariant: what is found from here on is what is found from the start. Assumes nothing.
+use mathlib.Core.Path.{ap₂, _≡_, refl, _∙_}
+use Prim.Native.Nat.{_-_}
+use lib.IntN.{ℤ, pos}
+use lib.ListN.{length, drop}
+use borrow.Author.Needs.{needs}
+use mir.Syntax.{w32}
+use mir.Val.{toZ}
+use Rattle.word.specs.Signed.{kept}
+use Rattle.encode.proofs.Signs.{tested}
+use Rattle.encode.specs.Unfit.{firstFrom, outside, first-found, first-next, first-over}
+use Rattle.encode.proofs.first_outside.Statement.{statement}
+use Rattle.encode.proofs.first_outside.Tie as tie
+
+abbrev Inv-loop : tie.InvT-loop
+Inv-loop row low high i₀ i = firstFrom (outside (toZ w32 low) (toZ w32 high)) i (drop i row) ≡ firstFrom (outside (toZ w32 low) (toZ w32 high)) 0 row
+
+abbrev μ-loop : tie.MeasureT-loop
+μ-loop row low high i₀ i = length row - i
+
+pub first-outside-spec : {M : Type 1} → statement M
+first-outside-spec =
+    tie.close
+    (tie.spec
+    Inv-loop
+    μ-loop
+    (λ c. refl)
+    (λ c. search needs)
+    (λ c. search needs)
+    (λ c. first-found _ (pos 0) _ _ (c .before .before .loop-test .taken) (tested _ _ _ (c .before .v .given) (c .if1 .taken)) (c .before .before .before .loop .inv) ∙ ap₂ (λ (l h : ℤ). firstFrom (outside l h) 0 (c .before .before .before .before .args .row .now)) (kept (c .before .before .before .before .args .low) (c .before .before .before .before .fits .low .sfits)) (kept (c .before .before .before .before .args .high) (c .before .before .before .before .fits .high .sfits)))
+    (λ c. search needs)
+    (λ c. search needs)
+    (λ c. first-next _ (pos 0) _ _ (c .before .before .loop-test .taken) (tested _ _ _ (c .before .v .given) (c .if1 .left)) (c .before .before .before .loop .inv))
+    (λ c. first-over _ _ _ (c .loop-test .left) (c .before .loop .inv) ∙ ap₂ (λ (l h : ℤ). firstFrom (outside l h) 0 (c .before .before .args .row .now)) (kept (c .before .before .args .low) (c .before .before .fits .low .sfits)) (kept (c .before .before .args .high) (c .before .before .fits .high .sfits))))

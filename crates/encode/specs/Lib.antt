@@ -1,0 +1,5 @@
+pub mod Unfit
+pub mod Write
+pub mod WriteLaws
+pub mod Back
+pub mod Cut

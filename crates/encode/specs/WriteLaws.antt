@@ -1,0 +1,299 @@
+-- The laws of writing: how long the bytes are, the exponent that the leading zeros tell, and a loop that writes one piece behind the other.
+-- Assumes nothing.
+use mathlib.Core.Path.{_≡_, refl, sym, ap, ap₂, _∙_}
+use mathlib.Core.Bool.{Bool, true, false, cond}
+use mathlib.Core.List.{List, [], _∷_, _++_, reverse}
+use Prim.Native.Nat.{ℕ, zero, suc, _+_, _-_, _*_, _/_, _%_, _^_, _≤_, _<_}
+use native.Mathlib.Nat.{le-trans, le-of-eq, le-div-iff-mul-le, div-one, mul-suc, mul-add, mul-one}
+use native.Mathlib.Numerals.{add-one}
+use native.Mathlib.Omega.{arith, by-contra}
+use native.Mathlib.Decide.{decLe}
+use lib.IntN.{ℤ, pos, negsuc, negℤ, natAbs}
+use lib.Bits.{bitOr, or-shifted}
+use lib.Signed.{ltZ}
+use lib.Count.{leadingZeros, leading-top, leading-of-zero}
+use lib.Dec.{leb}
+use lib.ListN.{length, getD, drop, replicate, length-append, length-replicate, drop-of-length-le}
+use lib.Pow.{pow-mono, pow-pos, pow-add, shr-lt, shr-shr, field, mod-mod-pow}
+use lib.Seq.{drop-cons}
+use borrow.Author.Tests.{leb-true, leb-false, ltb-true}
+use Rattle.word.specs.Put.{put, put-none, put-append, length-put}
+use Rattle.word.specs.Round.{round4}
+use Rattle.word.specs.Word.{lowBytes, bytesOf}
+use Rattle.word.specs.WordLaws.{length-bytesOf}
+use Rattle.encode.specs.Unfit.{unfitInteger, unfitIntegers, all-good}
+use Rattle.encode.specs.Write.{flat, residue, smallest, exponentOf, mantissaOf, onesBits, exponentsOf, wordsOf, groupBytes, groupOf, groups, filledUp}
+use Rattle.encode.specs.declared.Fit.the-variants.{All}
+
+-- ---- two's complement
+
+-- a residue at a smaller power is the low part of that at a larger one
+pub residue-low : (z : ℤ) → residue 65536 z ≡ residue 4294967296 z % 65536
+unfolding residue
+residue-low (pos n) = omega arith
+residue-low (negsuc n) = omega arith
+
+-- a number's bytes are those of its low part
+low4 : (n : ℕ) → lowBytes 4 (n % 4294967296) ≡ lowBytes 4 n
+unfolding lowBytes
+low4 n =
+    let a : n % 4294967296 % 256 ≡ n % 256 = mod-mod-pow n 24 8 in
+    let b : n % 4294967296 / 256 ≡ n / 256 % 16777216 = field n 24 8 in
+    let c : n / 256 % 16777216 % 256 ≡ n / 256 % 256 = mod-mod-pow (n / 256) 16 8 in
+    let d : n / 256 % 16777216 / 256 ≡ n / 256 / 256 % 65536 = field (n / 256) 16 8 in
+    let e : n / 256 / 256 % 65536 % 256 ≡ n / 256 / 256 % 256 = mod-mod-pow (n / 256 / 256) 8 8 in
+    let f : n / 256 / 256 % 65536 / 256 ≡ n / 256 / 256 / 256 % 256 = field (n / 256 / 256) 8 8 in
+    let g : n / 256 / 256 / 256 % 256 % 256 ≡ n / 256 / 256 / 256 % 256 = omega arith in
+    rw (a, b, c, d, e, f, g)
+
+pub bytes-low4 : (high : Bool) (n : ℕ) → bytesOf 4 high (n % 4294967296) ≡ bytesOf 4 high n
+unfolding bytesOf
+bytes-low4 true n = ap reverse (low4 n)
+bytes-low4 false n = low4 n
+
+-- ---- the exponent
+
+-- e is the smallest exponent that brings n to at most 32,767
+pub record Smallest (n e : ℕ) : Type 0 where
+  pub fits : n / 2 ^ e ≤ 32767
+  pub least : (k : ℕ) → k < e → 32767 < n / 2 ^ k
+
+pub no-less : (n a b : ℕ) → n / 2 ^ a ≤ 32767 → ((k : ℕ) → k < b → 32767 < n / 2 ^ k) → b ≤ a
+no-less n a b f g = by-contra b a (λ l. (let r = g a l in omega arith))
+
+-- the search finds it, if it is among those that are looked at
+smallest-is : (left e n s : ℕ) → Smallest n s → e ≤ s → s ≤ e + left → smallest left e n ≡ s
+unfolding smallest
+smallest-is zero e n s r h k = omega arith
+smallest-is (suc left) e n s r h k = go (leb (n / 2 ^ e) 32767) refl (λ l. smallest-is left (e + 1) n s r l (omega arith))
+  where
+    go : (t : Bool) → leb (n / 2 ^ e) 32767 ≡ t → (e + 1 ≤ s → smallest left (e + 1) n ≡ s) → cond t e (smallest left (e + 1) n) ≡ s
+    go true q f = let l = no-less n e s (leb-true (n / 2 ^ e) 32767 q) (r .least) in omega arith
+    go false q f =
+        f
+        (by-contra (e + 1) s
+        (λ m.
+        (let z : e ≡ s = omega arith in
+        let t : n / 2 ^ e ≤ 32767 = rw z (r .fits) in
+        omega (arith, leb-false (n / 2 ^ e) 32767 q))))
+
+-- the exponent that the leading zeros of n tell: n has 32 bits less its leading zeros, and 15 of them stay
+told : (n : ℕ) → n < 1073741824 → leadingZeros 32 n < 17 → Smallest n (17 - leadingZeros 32 n) × (2 ≤ leadingZeros 32 n)
+told zero h l = absurd (omega (arith, leading-of-zero 32))
+told (suc n) h l =
+    let z = leadingZeros 32 (suc n) in
+    let s = leading-top 32 (suc n) (omega arith) (omega arith) in
+    let low : s .0 < 30 = by-contra (suc (s .0)) 30 (λ m. (let p = pow-mono {i = 30} {j = s .0} (omega arith) in omega (arith, s .2))) in
+    let e : suc (s .0) ≡ 15 + (17 - z) = omega (arith, s .1) in (
+      record {
+        fits = (let r = shr-lt {n = suc n} 15 (17 - z) (rw e at (s .3)) in omega arith);
+        least = λ k m. le-div-iff-mul-le (pow-pos k) .1
+            (le-trans (le-of-eq (sym (pow-add 2 15 k))) (le-trans (pow-mono {i = 15 + k} {j = s .0} (omega arith)) (s .2)));
+      },
+      omega (arith, s .1),
+    )
+
+none : (n : ℕ) → n < 1073741824 → 17 ≤ leadingZeros 32 n → Smallest n 0
+none zero h l = record { fits = omega arith; least = λ k m. absurd (omega arith) }
+none (suc n) h l =
+    let s = leading-top 32 (suc n) (omega arith) (omega arith) in
+    let p = pow-mono {i = suc (s .0)} {j = 15} (omega (arith, s .1)) in
+    record { fits = omega (arith, s .3); least = λ k m. absurd (omega arith) }
+
+-- what the code answers of the leading zeros it counted
+pub record Told (n e : ℕ) : Type 0 where
+  pub is : e ≡ smallest 15 0 n
+  pub small : e < 16
+  pub fits : n / 2 ^ e ≤ 32767
+
+pub exponent-told : (n : ℕ) → n < 1073741824 → leadingZeros 32 n < 17 → Told n (17 - leadingZeros 32 n)
+exponent-told n h l =
+    let r = told n h l in
+    let b : 2 ≤ leadingZeros 32 n = r .1 in
+    record { is = sym (smallest-is 15 0 n (17 - leadingZeros 32 n) (r .0) (omega arith) (omega arith)); small = omega arith; fits = r .0 .fits }
+
+pub exponent-none : (n : ℕ) → n < 1073741824 → 17 ≤ leadingZeros 32 n → Told n 0
+exponent-none n h l =
+    let r = none n h l in
+    record { is = sym (smallest-is 15 0 n 0 r (omega arith) (omega arith)); small = omega arith; fits = r .fits }
+
+-- the exponent of a magnitude below 2^30 is the smallest that fits, and below 16
+pub exponent-of : (n : ℕ) → n < 1073741824 → Smallest n (smallest 15 0 n) × (smallest 15 0 n < 16)
+exponent-of n h =
+    elim (decLe 17 (leadingZeros 32 n)) [
+      | yes l ↦ (let e = exponent-none n h l .is in (rw (← e) (none n h l), rw (← e) (omega arith)))
+      | no l ↦ (let m : leadingZeros 32 n < 17 = by-contra (suc (leadingZeros 32 n)) 17 (λ q. l (omega arith)) in
+          let e = exponent-told n h m in (rw (← e .is) (told n h m .0), rw (← e .is) (e .small)))
+    ]
+
+pub exponent-smallest : (z : ℤ) → natAbs z < 1073741824 → Smallest (natAbs z) (exponentOf z)
+unfolding exponentOf
+exponent-smallest z h = exponent-of (natAbs z) h .0
+
+pub exponent-small : (z : ℤ) → natAbs z < 1073741824 → exponentOf z < 16
+unfolding exponentOf
+exponent-small z h = exponent-of (natAbs z) h .1
+
+-- ---- the mantissa
+
+-- what is left of a number that is not 0 is not 0: a negative sample is never written as FFFFh
+pub left-over : (n e : ℕ) → Smallest n e → 0 < n → 0 < n / 2 ^ e
+left-over n zero r h = let d = div-one n in omega arith
+left-over n (suc e) r h =
+    let l = r .least e (omega arith) in
+    let q : n / 2 ^ e / 2 ≡ n / 2 ^ suc e = shr-shr n e 1 ∙ ap (λ (k : ℕ). n / 2 ^ k) (add-one e) in
+    omega arith
+
+ones-minus : (t : ℕ) → 0 < t → onesBits (negℤ (pos t)) ≡ 65535 - t
+unfolding onesBits
+ones-minus zero h = absurd (omega arith)
+ones-minus (suc t) h = refl
+
+pub mantissa-minus : (z : ℤ) → natAbs z < 1073741824 → ltZ z (pos 0) ≡ true → onesBits (mantissaOf z) ≡ 65535 - natAbs z / 2 ^ exponentOf z
+unfolding mantissaOf
+mantissa-minus (pos n) h t = let l = ltb-true n 0 t in absurd (omega arith)
+mantissa-minus (negsuc n) h t =
+    ones-minus (suc n / 2 ^ exponentOf (negsuc n)) (left-over (suc n) (exponentOf (negsuc n)) (exponent-smallest (negsuc n) h) (omega arith))
+
+pub mantissa-plus : (z : ℤ) → ltZ z (pos 0) ≡ false → onesBits (mantissaOf z) ≡ natAbs z / 2 ^ exponentOf z
+unfolding mantissaOf onesBits
+mantissa-plus (pos n) t = refl
+mantissa-plus (negsuc n) t = absurd (let z : _≡_ {A = ℕ} 0 1 = cc in omega arith)
+
+-- the exponent and the mantissa of z, as they are written
+pub record Coded (z : ℤ) (e m : ℕ) : Type 0 where
+  pub exponent : e ≡ exponentOf z
+  pub small : e < 16
+  pub mantissa : m ≡ onesBits (mantissaOf z)
+
+pub coded-minus : (z : ℤ) (e m : ℕ) → natAbs z < 1073741824 → ltZ z (pos 0) ≡ true → Told (natAbs z) e → m ≡ 65535 - natAbs z / 2 ^ e → Coded z e m
+unfolding exponentOf
+coded-minus z e m h t r q =
+    record { exponent = r .is; small = r .small; mantissa = q ∙ ap (λ (k : ℕ). 65535 - natAbs z / 2 ^ k) (r .is) ∙ sym (mantissa-minus z h t) }
+
+pub coded-plus : (z : ℤ) (e m : ℕ) → ltZ z (pos 0) ≡ false → Told (natAbs z) e → m ≡ natAbs z / 2 ^ e → Coded z e m
+unfolding exponentOf
+coded-plus z e m t r q =
+    record { exponent = r .is; small = r .small; mantissa = q ∙ ap (λ (k : ℕ). natAbs z / 2 ^ k) (r .is) ∙ sym (mantissa-plus z t) }
+
+-- ---- a group
+
+-- five words, stored one behind the other
+pub put-five : (high : Bool) (w a b c d : ℕ) (xs : List ℕ) (at : ℕ)
+    → put (put (put (put (put xs at (bytesOf 2 high w)) (at + 2) (bytesOf 2 high a)) (at + 2 + 2) (bytesOf 2 high b)) (at + 2 + 2 + 2) (bytesOf 2 high c))
+    (at + 2 + 2 + 2 + 2) (bytesOf 2 high d)
+    ≡ put xs at (wordsOf high w a b c d)
+unfolding wordsOf
+put-five high w a b c d xs at = sym (simp (put-append, length-bytesOf))
+
+pub group-words : (high : Bool) (a b c d : ℤ) {ea eb ec ed ma mb mc md : ℕ} (w : ℕ) → Coded a ea ma → Coded b eb mb → Coded c ec mc → Coded d ed md
+    → w ≡ ea + 16 * eb + 256 * ec + 4096 * ed → wordsOf high w ma mb mc md ≡ groupBytes high a b c d
+unfolding groupBytes exponentsOf
+group-words high a b c d w ra rb rc rd q =
+    rw (q, ra .exponent, rb .exponent, rc .exponent, rd .exponent, ra .mantissa, rb .mantissa, rc .mantissa, rd .mantissa)
+
+or-at : (a k b x : ℕ) → x ≡ a * 2 ^ k → b < 2 ^ k → bitOr x b ≡ x + b
+or-at a k b x e h = rw e (or-shifted a k b h)
+
+pub placed : (a b c d : ℕ) → a < 16 → b < 16 → c < 16 → d < 16
+    → bitOr (bitOr (bitOr (d * 4096 % 65536) (c * 256 % 65536)) (b * 16 % 65536)) a ≡ a + 16 * b + 256 * c + 4096 * d
+placed a b c d ha hb hc hd =
+    let ed : d * 4096 % 65536 ≡ d * 4096 = omega arith in
+    let ec : c * 256 % 65536 ≡ c * 256 = omega arith in
+    let eb : b * 16 % 65536 ≡ b * 16 = omega arith in
+    rw (ed, ec, eb, or-at d 12 (c * 256) (d * 4096) refl (omega arith), or-at (d * 16 + c) 8 (b * 16) (d * 4096 + c * 256) (omega arith) (omega arith))
+    (or-at (d * 256 + c * 16 + b) 4 a (d * 4096 + c * 256 + b * 16) (omega arith) (omega arith) ∙ omega arith)
+
+-- ---- the samples that code 3 holds
+
+pub fit-magnitude : (row : List ℤ) → unfitIntegers 3 row ≡ All → (k : ℕ) → k < length row → natAbs (getD row k (pos 0)) < 1073741824
+unfolding unfitIntegers unfitInteger
+fit-magnitude row h k l = leb-false 1073741824 (natAbs (getD row k (pos 0))) (all-good (unfitInteger 3) (pos 0) 0 row h k l)
+
+-- ---- lengths
+
+pub length-flat : {A : Type 0} (f : A → List ℕ) (w : ℕ) → ((x : A) → length (f x) ≡ w) → (xs : List A) → length (flat f xs) ≡ w * length xs
+unfolding flat
+length-flat f w h [] = omega arith
+length-flat f w h (x ∷ xs) =
+    let m : w * suc (length xs) ≡ w * length xs + w = mul-suc w (length xs) in
+    omega (arith, length-append (f x) (flat f xs), h x, length-flat f w h xs)
+
+pub length-group : (high : Bool) (a b c d : ℤ) → length (groupBytes high a b c d) ≡ 10
+unfolding groupBytes wordsOf
+length-group high a b c d = simp (length-append, length-bytesOf)
+
+pub length-groupOf : (high : Bool) (row : List ℤ) (g : ℕ) → length (groupOf high row g) ≡ 10
+unfolding groupOf
+length-groupOf high row g = length-group high _ _ _ _
+
+pub length-groups : (high : Bool) (row : List ℤ) → length (groups high row) ≡ 10 * (length row / 4)
+unfolding groups
+length-groups high [] = refl
+length-groups high (a ∷ []) = refl
+length-groups high (a ∷ b ∷ []) = refl
+length-groups high (a ∷ b ∷ c ∷ []) = refl
+length-groups high (a ∷ b ∷ c ∷ d ∷ row) =
+    omega (arith, length-append (groupBytes high a b c d) (groups high row), length-group high a b c d, length-groups high row)
+
+pub length-filledUp : (bs : List ℕ) → length (filledUp bs) ≡ round4 (length bs)
+unfolding filledUp
+length-filledUp bs = omega (arith, length-append bs (replicate (round4 (length bs) - length bs) 0), length-replicate {A = ℕ} (round4 (length bs) - length bs) 0)
+
+-- ---- a loop that writes one piece of w bytes behind the other
+
+-- `left i` is what is left to write from turn i on
+pub record Writing (left : ℕ → List ℕ) (w : ℕ) (old : List ℕ) (i : ℕ) (part : List ℕ) : Type 0 where
+  pub long : length part ≡ length old
+  pub rest : put part (w * i) (left i) ≡ put old 0 (left 0)
+
+pub write-start : (left : ℕ → List ℕ) (w : ℕ) (old : List ℕ) → Writing left w old 0 old
+write-start left w old = let e : w * 0 ≡ 0 = omega arith in record { long = refl; rest = rw e }
+
+pub write-turn : {left : ℕ → List ℕ} {w : ℕ} {old : List ℕ} {i : ℕ} {part new : List ℕ} (bs : List ℕ)
+    → Writing left w old i part → left i ≡ bs ++ left (i + 1) → length bs ≡ w → new ≡ put part (w * i) bs → Writing left w old (i + 1) new
+write-turn {left} {w} {old} {i} {part} {new} bs r e l q =
+    let m : w * (i + 1) ≡ w * i + length bs = mul-add w i 1 ∙ ap₂ _+_ refl (mul-one w ∙ sym l) in
+    let s : put (put part (w * i) bs) (w * i + length bs) (left (i + 1)) ≡ put part (w * i) (left i) = sym (ap (put part (w * i)) e ∙ put-append bs (left (i + 1)) part (w * i)) in
+    record {
+      long = ap length q ∙ length-put part (w * i) bs ∙ r .long;
+      rest = ap₂ (λ (p : List ℕ) (k : ℕ). put p k (left (i + 1))) q m ∙ s ∙ r .rest;
+    }
+
+-- nothing is left, and zeros follow up to a multiple of 4
+pub write-end : {left : ℕ → List ℕ} {w : ℕ} {old : List ℕ} {i : ℕ} {part : List ℕ} (end to : ℕ)
+    → Writing left w old i part → left i ≡ [] → length (left 0) ≡ end → to ≡ round4 end
+    → put part end (replicate (to - end) 0) ≡ put old 0 (filledUp (left 0))
+unfolding filledUp
+write-end {left} {w} {old} {i} {part} end to r e l t =
+    let p : part ≡ put old 0 (left 0) = sym (put-none part (w * i)) ∙ ap (put part (w * i)) (sym e) ∙ r .rest in
+    let z : 0 + length (left 0) ≡ length (left 0) = omega arith in
+    rw (t, ← l, put-append (left 0) (replicate (round4 (length (left 0)) - length (left 0)) 0) old 0, z, ← p)
+
+-- what is left of a row, sample by sample and group by group
+pub flat-turn : {A : Type 0} (f : A → List ℕ) (d : A) (xs : List A) (i : ℕ) → i < length xs → flat f (drop i xs) ≡ f (getD xs i d) ++ flat f (drop (i + 1) xs)
+unfolding flat
+flat-turn f d xs i h = rw (add-one i, drop-cons xs i d h)
+
+pub flat-over : {A : Type 0} (f : A → List ℕ) (xs : List A) (i : ℕ) → length xs ≤ i → flat f (drop i xs) ≡ []
+unfolding flat
+flat-over f xs i h = rw (drop-of-length-le xs {i = i} h)
+
+pub groups-turn : (high : Bool) (xs : List ℤ) (g : ℕ) → 4 * g + 4 ≤ length xs
+    → groups high (drop (4 * g) xs)
+    ≡ groupOf high xs g ++ groups high (drop (4 * (g + 1)) xs)
+unfolding groups groupOf
+groups-turn high xs g h =
+    let n : 4 * (g + 1) ≡ suc (suc (suc (suc (4 * g)))) = omega arith in
+    let n1 : 4 * g + 1 ≡ suc (4 * g) = omega arith in
+    let n2 : 4 * g + 2 ≡ suc (suc (4 * g)) = omega arith in
+    let n3 : 4 * g + 3 ≡ suc (suc (suc (4 * g))) = omega arith in
+    let a = drop-cons xs (4 * g) (pos 0) (omega arith) in
+    let b = drop-cons xs (suc (4 * g)) (pos 0) (omega arith) in
+    let c = drop-cons xs (suc (suc (4 * g))) (pos 0) (omega arith) in
+    let d = drop-cons xs (suc (suc (suc (4 * g)))) (pos 0) (omega arith) in
+    rw (n, n1, n2, n3, a, b, c, d)
+
+pub groups-over : (high : Bool) (xs : List ℤ) (g : ℕ) → length xs ≤ 4 * g → groups high (drop (4 * g) xs) ≡ []
+unfolding groups
+groups-over high xs g h = rw (drop-of-length-le xs {i = 4 * g} h)

@@ -1,0 +1,264 @@
+// The five sample codes written, on a data block alone (document 01, "Samples", refusal 29): the first sample that a code cannot hold, and the block.
+// Unfit and Write have the definitions; Back and Cut say what is read back: the samples, or code 3's nearest towards 0. Stands on `decode`, `sample`, `word`.
+ghost use mathlib.Core.Path.{_≡_};
+ghost use Prim.Native.Nat.{_+_, _*_, _%_, _≤_, _<_};
+ghost use lib.IntN.{natAbs};
+ghost use lib.ListN.{length};
+ghost use Rattle.word.specs.Put.{put};
+ghost use Rattle.word.specs.Word.{bytesOf};
+ghost use Rattle.sample.specs.Needed.{room};
+ghost use Rattle.encode.specs.Unfit.{firstFrom, outside, unfitIntegers, unfitPatterns};
+ghost use Rattle.encode.specs.WriteLaws.{Told, Coded};
+ghost use Rattle.encode.specs.Write.{residue, wordsOf, groupOf, integersData, bitsData};
+
+// ---- the sample that a code cannot hold
+
+// Whether a row can be written: all of it, or the place of the first sample that the code cannot hold (refusal 29).
+pub enum Fit {
+    All,
+    At(usize),
+}
+
+// The first sample that is not from `low` to `high`.
+fn first_outside(row: &[i32], low: i32, high: i32) -> Fit
+    ensures { λ r. ⌜ r ≡ firstFrom (outside low high) 0 (now (row .entry)) ⌝ }
+{
+    let mut i = 0;
+    while i < row.len() {
+        let v = row[i];
+        if (v < low) | (high < v) {
+            return Fit::At(i);
+        }
+        i += 1;
+    }
+    Fit::All
+}
+
+// The first sample of a row that the code cannot hold.
+pub fn unfit_integers(code: u8, row: &[i32]) -> Fit
+    ensures { λ r. ⌜ r ≡ unfitIntegers code (now (row .entry)) ⌝ }
+{
+    match code {
+        1 => first_outside(row, -32768, 32767),
+        3 => first_outside(row, -1073741823, 1073741823),
+        _ => Fit::All,
+    }
+}
+
+// The first pattern of more than 32 bits.
+fn first_wide(row: &[u64]) -> Fit
+    ensures { λ r. ⌜ r ≡ unfitPatterns 4 (now (row .entry)) ⌝ }
+{
+    let mut i = 0;
+    while i < row.len() {
+        if 4294967296 <= row[i] {
+            return Fit::At(i);
+        }
+        i += 1;
+    }
+    Fit::All
+}
+
+// The first pattern of a row that the code cannot hold.
+pub fn unfit_bits(code: u8, row: &[u64]) -> Fit
+    ensures { λ r. ⌜ r ≡ unfitPatterns code (now (row .entry)) ⌝ }
+{
+    match code {
+        4 => first_wide(row),
+        _ => Fit::All,
+    }
+}
+
+// The two bytes of a number, stored at a place.
+fn put_word(part: &mut [u8], high: bool, at: usize, n: u16)
+    requires { ⌜ at + 2 ≤ length (now part) ⌝ }
+    ensures { λ _. ⌜ now (part .exit) ≡ put (now (part .entry)) at (bytesOf 2 high n) ⌝ }
+{
+    word::put2(part, false, at, sample::turned(high, n));
+}
+
+// The four bytes.
+fn put_word4(part: &mut [u8], high: bool, at: usize, n: u32)
+    requires { ⌜ at + 4 ≤ length (now part) ⌝ }
+    ensures { λ _. ⌜ now (part .exit) ≡ put (now (part .entry)) at (bytesOf 4 high n) ⌝ }
+{
+    word::put4(part, false, at, sample::turned4(high, n));
+}
+
+// The eight bytes.
+fn put_word8(part: &mut [u8], high: bool, at: usize, n: u64)
+    requires { ⌜ at + 8 ≤ length (now part) ⌝ }
+    ensures { λ _. ⌜ now (part .exit) ≡ put (now (part .entry)) at (bytesOf 8 high n) ⌝ }
+{
+    word::put8(part, false, at, sample::turned8(high, n));
+}
+
+// ---- writing
+
+// A sample's bits in two's complement.
+fn bits(v: i32) -> u32
+    ensures { λ r. ⌜ r ≡ residue 4294967296 v ⌝ }
+{
+    if v < 0 { !((!v) as u32) } else { v as u32 }
+}
+
+// The data block of code 1: the samples, and zeros up to a multiple of 4.
+pub fn write1(row: &[i32], high: bool, part: &mut [u8])
+    requires { ⌜ room 1 (length (now row)) ≤ length (now part) ⌝ }
+    ensures { λ _. ⌜ now (part .exit) ≡ put (now (part .entry)) 0 (integersData 1 high (now (row .entry))) ⌝ }
+{
+    let mut i = 0;
+    while i < row.len() {
+        word::put2(part, high, 2 * i, (bits(row[i]) % 65536) as u16);
+        i += 1;
+    }
+    let end = 2 * row.len();
+    word::zeros(part, end, word::round_up(end));
+}
+
+// The same of code 2.
+pub fn write2(row: &[i32], high: bool, part: &mut [u8])
+    requires { ⌜ room 2 (length (now row)) ≤ length (now part) ⌝ }
+    ensures { λ _. ⌜ now (part .exit) ≡ put (now (part .entry)) 0 (integersData 2 high (now (row .entry))) ⌝ }
+{
+    let mut i = 0;
+    while i < row.len() {
+        put_word4(part, high, 4 * i, bits(row[i]));
+        i += 1;
+    }
+    let end = 4 * row.len();
+    word::zeros(part, end, word::round_up(end));
+}
+
+// The same of code 4.
+pub fn write4(row: &[u64], high: bool, part: &mut [u8])
+    requires { ⌜ room 4 (length (now row)) ≤ length (now part) ⌝ }
+    ensures { λ _. ⌜ now (part .exit) ≡ put (now (part .entry)) 0 (bitsData 4 high (now (row .entry))) ⌝ }
+{
+    let mut i = 0;
+    while i < row.len() {
+        put_word4(part, high, 4 * i, (row[i] % 4294967296) as u32);
+        i += 1;
+    }
+    let end = 4 * row.len();
+    word::zeros(part, end, word::round_up(end));
+}
+
+// The same of code 5.
+pub fn write5(row: &[u64], high: bool, part: &mut [u8])
+    requires { ⌜ room 5 (length (now row)) ≤ length (now part) ⌝ }
+    ensures { λ _. ⌜ now (part .exit) ≡ put (now (part .entry)) 0 (bitsData 5 high (now (row .entry))) ⌝ }
+{
+    let mut i = 0;
+    while i < row.len() {
+        put_word8(part, high, 8 * i, row[i]);
+        i += 1;
+    }
+    let end = 8 * row.len();
+    word::zeros(part, end, word::round_up(end));
+}
+
+// How far a sample is from 0.
+fn magnitude(v: i32) -> u32
+    ensures { λ r. ⌜ r ≡ natAbs v ⌝ }
+{
+    if v < 0 { (!v) as u32 + 1 } else { v as u32 }
+}
+
+// The smallest exponent that brings a magnitude to at most 32,767, found from its leading zeros: 17 of them leave 15 bits.
+fn exponent(n: u32) -> u32
+    requires { ⌜ n < 1073741824 ⌝ }
+    ensures { λ r. ⌜ Told n r ⌝ }
+{
+    let zeros = u32::leading_zeros(n);
+    if zeros < 17 { 17 - zeros } else { 0 }
+}
+
+// A sample of code 3, as it is written.
+struct Float20 {
+    exponent: u16,
+    mantissa: u16,
+}
+
+// The low bits are cut toward zero: of the magnitude, before the sign comes in.
+fn float20_of(v: i32) -> Float20
+    requires { ⌜ natAbs v < 1073741824 ⌝ }
+    ensures { λ r. ⌜ Coded v (r .exponent) (r .mantissa) ⌝ }
+{
+    let n = magnitude(v);
+    let e = exponent(n);
+    let t = (n >> e) as u16;
+    if v < 0 {
+        Float20 {
+            exponent: e as u16,
+            mantissa: 65535 - t,
+        }
+    } else {
+        Float20 {
+            exponent: e as u16,
+            mantissa: t,
+        }
+    }
+}
+
+// The exponents of four samples in one word, that of sample 0 in bits 0-3.
+fn exponents(a: u16, b: u16, c: u16, d: u16) -> u16
+    requires { ⌜ (a < 16) × (b < 16) × (c < 16) × (d < 16) ⌝ }
+    ensures { λ r. ⌜ r ≡ a + 16 * b + 256 * c + 4096 * d ⌝ }
+{
+    d << 12 | c << 8 | b << 4 | a
+}
+
+// Five words in file order.
+fn put_words(part: &mut [u8], high: bool, at: usize, w: u16, a: u16, b: u16, c: u16, d: u16)
+    requires { ⌜ at + 10 ≤ length (now part) ⌝ }
+    ensures { λ _. ⌜ now (part .exit) ≡ put (now (part .entry)) at (wordsOf high w a b c d) ⌝ }
+{
+    let at1 = at + 2;
+    let at2 = at1 + 2;
+    let at3 = at2 + 2;
+    let at4 = at3 + 2;
+    put_word(part, high, at, w);
+    put_word(part, high, at1, a);
+    put_word(part, high, at2, b);
+    put_word(part, high, at3, c);
+    put_word(part, high, at4, d);
+}
+
+// Group g of a row. Each exponent and each mantissa is worked out once.
+fn write_group(row: &[i32], high: bool, g: usize, part: &mut [u8])
+    requires { ⌜ (4 * g + 4 ≤ length (now row)) × (10 * g + 10 ≤ length (now part)) × (unfitIntegers 3 (now row) ≡ Fit.All) ⌝ }
+    ensures { λ _. ⌜ now (part .exit) ≡ put (now (part .entry)) (10 * g) (groupOf high (now (row .entry)) g) ⌝ }
+{
+    let i = 4 * g;
+    let a = float20_of(row[i]);
+    let b = float20_of(row[i + 1]);
+    let c = float20_of(row[i + 2]);
+    let d = float20_of(row[i + 3]);
+    let w = exponents(a.exponent, b.exponent, c.exponent, d.exponent);
+    put_words(
+        part,
+        high,
+        10 * g,
+        w,
+        a.mantissa,
+        b.mantissa,
+        c.mantissa,
+        d.mantissa,
+    );
+}
+
+// The data block of code 3: the groups, and zeros up to a multiple of 4.
+pub fn write3(row: &[i32], high: bool, part: &mut [u8])
+    requires { ⌜ (room 3 (length (now row)) ≤ length (now part)) × (length (now row) % 4 ≡ 0) × (unfitIntegers 3 (now row) ≡ Fit.All) ⌝ }
+    ensures { λ _. ⌜ now (part .exit) ≡ put (now (part .entry)) 0 (integersData 3 high (now (row .entry))) ⌝ }
+{
+    let count = row.len() / 4;
+    let mut g = 0;
+    while g < count {
+        write_group(row, high, g, part);
+        g += 1;
+    }
+    let end = 10 * count;
+    word::zeros(part, end, word::round_up(end));
+}
