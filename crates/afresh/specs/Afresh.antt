@@ -11,8 +11,8 @@ use lib.Dec.{eqb}
 use Rattle.sheet.specs.Area.{areaSize, measuredOf}
 use Rattle.sheet.specs.declared.Measured.the-variants.{Size}
 use Rattle.refusal.specs.declared.Verdict.the-variants.{Accepted}
-use Rattle.block.specs.Image.{checkOf}
-use Rattle.block.specs.Head.{roomOf, countOf, stringEnd, lineEnd}
+use Rattle.image.specs.Image.{checkOf}
+use Rattle.head.specs.Head.{roomOf, countOf, stringEnd, lineEnd}
 use Rattle.writer.specs.declared.Written.{Written}
 use Rattle.writer.specs.declared.Written.the-variants.{To, Refused}
 use Rattle.writer.specs.Layout.{nul, lineFeed, startSize, Trace, traceSize}

@@ -19,10 +19,11 @@ use Rattle.sample.specs.Needed.{room}
 use Rattle.sheet.specs.Area.{stringsOf, areaOf, areaSize}
 use Rattle.sheet.specs.Sizes.{length-area}
 use Rattle.sheet.specs.Spelling.{LineEnd, area-spells}
-use Rattle.block.specs.Head.{highFirst, countOf, stringEnd, lineEnd, apart}
-use Rattle.block.specs.Image.{pointerOf, endAt, checkOf}
-use Rattle.block.specs.Keeps.{traceAt, endBefore, stringsEnd, KeepsTrace, Keeps}
-use Rattle.block.specs.Accepted.{keeps-accepted}
+use Rattle.head.specs.Head.{highFirst, countOf, stringEnd, lineEnd, apart}
+use Rattle.block.specs.Block.{pointerOf, endAt}
+use Rattle.image.specs.Image.{checkOf}
+use Rattle.image.specs.Keeps.{traceAt, endBefore, stringsEnd, KeepsTrace, Keeps}
+use Rattle.image.specs.Accepted.{keeps-accepted}
 use Rattle.writer.specs.Layout.{nul, lineFeed, fileBlock, startSize, Trace, count}
 use Rattle.afresh.specs.FileOf.{pointers, blocks, fileOf, fileSize, Measures, Good, AllGood}
 use Rattle.writer.specs.LayoutLaws.{length-fileBlock, Fronted, kinded, room-enough, area-whole, Stands}

@@ -12,7 +12,7 @@ use Rattle.word.specs.Word.{wordAt, bytesOf}
 use Rattle.word.specs.WordLaws.{word-among}
 use Rattle.sheet.specs.Area.{areaOf}
 use Rattle.sheet.specs.Sizes.{length-area}
-use Rattle.block.specs.Image.{pointerOf}
+use Rattle.block.specs.Block.{pointerOf}
 use Rattle.writer.specs.Layout.{nul, lineFeed, fileBlock, startSize, Trace, Samples.integers, dataBytes, traceSize, traceBytes}
 use Rattle.afresh.specs.FileOf.{sizes, pointers, blocks, fileOf, fileSize, Good, AllGood}
 use Rattle.writer.specs.LayoutLaws.{length-fileBlock, length-traceBytes, Stands, stands}

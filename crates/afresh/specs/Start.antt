@@ -14,10 +14,10 @@ use Rattle.refusal.specs.declared.Part.the-variants.{File}
 use Rattle.refusal.specs.declared.Verdict.the-variants.{Accepted, Refused}
 use Rattle.refusal.specs.Table.{refusal}
 use Rattle.sheet.specs.Area.{areaSize}
-use Rattle.block.specs.Head.{known, revisionOf, roomOf, countOf, headOf, badRoom}
-use Rattle.block.specs.HeadLaws.{join-neither}
-use Rattle.block.specs.Image.{andThen, imageOf, checkOf}
-use Rattle.block.specs.ImageLaws.{length-accepts}
+use Rattle.head.specs.Head.{known, revisionOf, roomOf, countOf, headOf, badRoom}
+use Rattle.refusal.specs.Tests.{join-neither}
+use Rattle.image.specs.Image.{andThen, imageOf, checkOf}
+use Rattle.image.specs.ImageLaws.{length-accepts}
 use Rattle.writer.specs.declared.Written.the-variants.{To}
 use Rattle.writer.specs.Layout.{nul, lineFeed}
 use Rattle.writer.specs.Answers.{startAnswer, startLeft}

@@ -13,7 +13,7 @@ use Rattle.word.specs.Round.{round4, round4-same}
 use Rattle.word.specs.Word.{bytesOf}
 use Rattle.word.specs.WordLaws.{length-bytesOf}
 use Rattle.sheet.specs.Area.{areaOf, areaSize}
-use Rattle.block.specs.Head.{roomOf, countOf}
+use Rattle.head.specs.Head.{roomOf, countOf}
 use Rattle.writer.specs.declared.Written.the-variants.{To}
 use Rattle.writer.specs.Layout.{plainEnds, nul, lineFeed, fileBlock, startImage, startSize, Trace, traceSize, traceBytes}
 use Rattle.writer.specs.Answers.{startAnswer, startLeft, newLength, newBytes, addAnswer, grown, addLeft}

@@ -1,7 +1,2 @@
-pub mod Head
-pub mod HeadLaws
-pub mod Image
-pub mod ImageLaws
-pub mod Keeps
-pub mod Accepted
-pub mod Broken
+pub mod Block
+pub mod BlockLaws

@@ -2,11 +2,6 @@ pub mod Run
 pub mod Grammar
 pub mod Number
 pub mod Power
-pub mod Double
-pub mod Values
-pub mod Location
 pub mod Agreed
 pub mod Marks
 pub mod Meaning
-pub mod Rounded
-pub mod LocationMarks

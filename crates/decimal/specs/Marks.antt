@@ -6,15 +6,10 @@ use mathlib.Core.List.{List, _∷_, _++_}
 use Prim.Native.Nat.{ℕ}
 use native.Mathlib.Omega.{arith}
 use lib.Dec.{eqb}
-use Rattle.refusal.specs.declared.Rule.the-variants.{NoNumber}
-use Rattle.refusal.specs.declared.Part.the-variants.{File}
-use Rattle.refusal.specs.Table.{refusal}
-use Rattle.decimal.specs.declared.DoubleAnswer.the-variants.{Refused}
 use Rattle.decimal.specs.Run.{digit, All, all-append, all-among, all-weaker}
 use Rattle.decimal.specs.Grammar.{Parts, Sign, Sign.dash, Sign.nothing, Fraction, Fraction.no-point, Fraction.point, Power, Power.no-power, Power.power, Writes}
 use Rattle.decimal.specs.Number.{noNumber, numberOf}
 use Rattle.decimal.specs.Agreed.{no-number}
-use Rattle.decimal.specs.Double.{doubleOf, onNumber}
 
 -- a digit, a point, a minus or E
 abbrev pub mark : ℕ → Bool
@@ -57,8 +52,3 @@ plus = other-byte 43 refl
 
 pub space : (before after : List ℕ) → numberOf (before ++ 32 ∷ after) ≡ noNumber
 space = other-byte 32 refl
-
--- nor is it a double
-pub comma-double : (before after : List ℕ) → doubleOf (before ++ 44 ∷ after) ≡ Refused (refusal NoNumber File 0)
-unfolding doubleOf onNumber
-comma-double before after = rw (comma before after)

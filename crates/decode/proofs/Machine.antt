@@ -1,21 +1,21 @@
 -- The machine's 32-bit patterns, read as signed numbers, and shifts that lose nothing.
 -- Assumes nothing.
-use mathlib.Core.Path.{_≡_, sym, ap, _∙_}
-use mathlib.Core.Bool.{Bool, true, false, _||_}
-use Prim.Native.Nat.{ℕ, zero, suc, _+_, _-_, _*_, _%_, _^_, _≤_, _<_}
+use mathlib.Core.Path.{_≡_}
+use mathlib.Core.Bool.{Bool, true, false}
+use Prim.Native.Nat.{ℕ, suc, _+_, _-_, _*_, _%_, _^_, _≤_, _<_}
 use native.Mathlib.Nat.{lt-of-lt-of-le, lt-of-not-le, mul-le-mul-right, suc-mul}
 use native.Mathlib.Decide.{decLe}
 use native.Mathlib.Omega.{arith}
-use lib.IntN.{ℤ, pos, negsuc, negℤ, natAbs, _-ℤ_, +ℤ-idl}
-use lib.Dec.{T, ltb}
-use lib.Signed.{mag, ltZ, nonNeg}
+use lib.IntN.{ℤ, pos, negsuc, negℤ, _-ℤ_}
+use lib.Dec.{ltb}
+use lib.Signed.{mag}
 use lib.Pow.{shl-lt, shl-exact, pow-mono}
-use borrow.Author.Tests.{ltb-true, lt-ltb, le-ltb, eq-eqb, ne-eqb}
+use borrow.Author.Tests.{lt-ltb, le-ltb, eq-eqb, ne-eqb}
 use mir.Syntax.{w16, w32}
-use mir.Val.{toZ, ofZ, boolByte, Fits, SFits}
+use mir.Val.{toZ, ofZ, boolByte, SFits}
 use mir.Facts.{toZ-pos, toZ-neg, toZ-ofZ}
 use Rattle.decode.specs.Sample.{classBy}
-use Rattle.word.specs.Signed.{kept}
+use Rattle.word.specs.Signed.{kept, negates, negated}
 
 -- `!k` of a k that is not negative
 pub flipped : (k : ℕ) → k < 2147483648 → toZ w32 (4294967295 - k) ≡ negsuc k
@@ -30,14 +30,6 @@ fits16 z h = rw (toZ-ofZ {w = w16} {z = z} (record { sfits = h })) (record { sfi
 
 pub kept16 : (z : ℤ) → mag z < 32768 → toZ w32 (ofZ w32 (toZ w16 (ofZ w16 z))) ≡ z
 kept16 z h = rw (toZ-ofZ {w = w16} {z = z} (record { sfits = h })) (kept z (omega arith))
-
--- `-n` of an n that is not negative
-minus : (n : ℕ) → n < 2147483648 → pos 0 -ℤ toZ w32 n ≡ negℤ (pos n)
-minus n h = rw (toZ-pos w32 {n = n} h) (+ℤ-idl (negℤ (pos n)))
-
-minus-small : (n : ℕ) → n < 2147483648 → mag (negℤ (pos n)) < 2147483648
-minus-small zero h = h
-minus-small (suc n) h = omega arith
 
 -- 15 bits, shifted up by at most 15: nothing is lost, and what comes out fits, with either sign
 shifted : (m e : ℕ) → m < 32768 → e < 16 → (m * 2 ^ e) % 18446744073709551616 ≡ m * 2 ^ e
@@ -54,13 +46,11 @@ shift-plus m e h l = rw (shifted m e h l) (toZ-pos w32 {n = m * 2 ^ e} (shifted-
 
 pub shift-minus-fits : (m e : ℕ) → m < 32768 → e < 16 → SFits w32 (pos 0 -ℤ toZ w32 ((m * 2 ^ e) % 18446744073709551616))
 shift-minus-fits m e h l =
-    let k = shifted-small m e h l in
-    rw (shifted m e h l, minus (m * 2 ^ e) k) (record { sfits = minus-small (m * 2 ^ e) k })
+    rw (shifted m e h l) (negates (m * 2 ^ e) (shifted-small m e h l))
 
 pub shift-minus : (m e : ℕ) → m < 32768 → e < 16 → toZ w32 (ofZ w32 (pos 0 -ℤ toZ w32 ((m * 2 ^ e) % 18446744073709551616))) ≡ negℤ (pos (m * 2 ^ e))
 shift-minus m e h l =
-    let k = shifted-small m e h l in
-    rw (shifted m e h l, minus (m * 2 ^ e) k) (kept (negℤ (pos (m * 2 ^ e))) (minus-small (m * 2 ^ e) k))
+    rw (shifted m e h l) (negated (m * 2 ^ e) (shifted-small m e h l))
 
 -- ---- the class of a pattern, counted
 

@@ -12,7 +12,7 @@ use lib.ListN.{length, take}
 use Rattle.refusal.specs.declared.Refusal.{Refusal}
 use Rattle.refusal.specs.declared.Verdict.{Verdict}
 use Rattle.refusal.specs.declared.Verdict.the-variants.{Accepted, Refused}
-use Rattle.block.specs.Image.{checkOf}
+use Rattle.image.specs.Image.{checkOf}
 use Rattle.reader.specs.Questions.{asked, integersAnswer, bitsAnswer, integersLeft, patternsLeft, classesLeft}
 use Rattle.reader.specs.Answers.{integers-kept, bits-kept}
 use Rattle.writer.specs.declared.Written.the-variants as written

@@ -18,8 +18,9 @@ use Rattle.sample.specs.Needed.{needed, room}
 use Rattle.text.specs.Runs.{run, same}
 use Rattle.sheet.specs.Lines.{lineLen, keyLen, linesFrom, linesOf}
 use Rattle.sheet.specs.Area.{joined, stringsOf, textSize, areaSize}
-use Rattle.block.specs.Head.{highFirst, roomOf, countOf, stringEnd, lineEnd}
-use Rattle.block.specs.Image.{pointerOf, blockSize, dataSize, sampleCount, formatCode, checkOf, traceBlockOf}
+use Rattle.head.specs.Head.{highFirst, roomOf, countOf, stringEnd, lineEnd}
+use Rattle.block.specs.Block.{pointerOf, blockSize, dataSize, sampleCount, formatCode, traceBlockOf}
+use Rattle.image.specs.Image.{checkOf}
 use Rattle.reader.specs.declared.FileAnswer.{FileAnswer}
 use Rattle.reader.specs.declared.FileAnswer.the-variants as file
 use Rattle.reader.specs.Questions.{fileFacts, fileAnswer}

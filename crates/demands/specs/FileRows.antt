@@ -23,8 +23,9 @@ use Rattle.text.specs.Runs.{all, same}
 use Rattle.text.specs.Order.{rises}
 use Rattle.text.specs.Note.{valueOk}
 use Rattle.strings.specs.Strings.{offset, body, keyLen, keyOf, valueOf, frameOf, judgedOf, onJudged, onFrame, stepOf, onStep, stringsFrom, stringsOf}
-use Rattle.block.specs.Head.{highFirst, roomOf, countOf, stringEnd, lineEnd, headRows, headOf}
-use Rattle.block.specs.Image.{pointerOf, blockSize, endAt, badPointer, pointerRow, blockRows, blockOf, areaOf, andThen, traceOf, tracesFrom, restOf, imageOf, badLength, checkOf}
+use Rattle.head.specs.Head.{highFirst, roomOf, countOf, stringEnd, lineEnd, headRows, headOf}
+use Rattle.block.specs.Block.{pointerOf, blockSize, endAt, badPointer, pointerRow, blockRows, blockOf}
+use Rattle.image.specs.Image.{areaOf, andThen, traceOf, tracesFrom, restOf, imageOf, badLength, checkOf}
 use Rattle.demands.specs.FirstRow.{row, firstOf, first-nothing, first-row, first-more, first-next, each, Refuses, first-each}
 
 -- ---- the strings of an area, from one at the place `at` on: 14 "offset not in the area, too small for a keyword, or past it", 15 "terminator not at the

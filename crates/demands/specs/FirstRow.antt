@@ -12,8 +12,8 @@ use Rattle.refusal.specs.declared.Verdict.{Verdict}
 use Rattle.refusal.specs.declared.Verdict.the-variants.{Accepted, Refused}
 use Rattle.refusal.specs.Table.{refusal}
 use Rattle.refusal.specs.Rows.{Rows, pick, first}
-use Rattle.block.specs.Image.{andThen}
-use Rattle.block.specs.ImageLaws.{refused-not}
+use Rattle.image.specs.Image.{andThen}
+use Rattle.refusal.specs.Tests.{refused-not}
 use Rattle.reader.specs.Questions.{asked}
 
 abbrev pub row : Bool → Rule → Part → ℕ → Verdict

@@ -18,9 +18,9 @@ use Rattle.word.specs.Round.{round4}
 use Rattle.word.specs.Word.{wordAt}
 use Rattle.refusal.specs.declared.Verdict.the-variants.{Accepted}
 use Rattle.strings.specs.Spelled.{Str, Spells}
-use Rattle.block.specs.Head.{highFirst, roomOf, countOf, stringEnd, lineEnd}
-use Rattle.block.specs.Image.{checkOf}
-use Rattle.block.specs.Keeps.{stringsEnd}
+use Rattle.head.specs.Head.{highFirst, roomOf, countOf, stringEnd, lineEnd}
+use Rattle.image.specs.Image.{checkOf}
+use Rattle.image.specs.Keeps.{stringsEnd}
 use Rattle.reader.specs.declared.FileAnswer.the-variants as file
 use Rattle.reader.specs.Questions.{fileAnswer, traceAnswer, countAnswer, nthAnswer, findAnswer, keywordAnswer, valueAnswer, numberAnswer, doubleAnswer, locationAnswer, integersAnswer, bitsAnswer, integersLeft, patternsLeft, classesLeft}
 use Rattle.writer.specs.declared.Written.{Written}

@@ -12,9 +12,9 @@ use Rattle.word.specs.Part.{part}
 use Rattle.strings.specs.Spelled.{Spells}
 use Rattle.sheet.specs.Area.{stringsOf}
 use Rattle.sheet.specs.Spelling.{area-spells}
-use Rattle.block.specs.Head.{highFirst, roomOf, stringEnd, lineEnd}
-use Rattle.block.specs.Image.{checkOf}
-use Rattle.block.specs.Keeps.{traceAt}
+use Rattle.head.specs.Head.{highFirst, roomOf, stringEnd, lineEnd}
+use Rattle.image.specs.Image.{checkOf}
+use Rattle.image.specs.Keeps.{traceAt}
 use Rattle.reader.specs.declared.FileAnswer.the-variants as file
 use Rattle.reader.specs.Questions.{fileAnswer}
 use Rattle.reader.specs.Listed.{file-area}

@@ -26,15 +26,16 @@ use Rattle.strings.specs.declared.Found.the-variants.{Nothing, Is}
 use Rattle.strings.specs.Strings.{nthOf, findOf, valueFound}
 use Rattle.decimal.specs.declared.Decimal.{Decimal}
 use Rattle.decimal.specs.declared.NumberAnswer.the-variants as number
-use Rattle.decimal.specs.declared.DoubleAnswer.the-variants as double
-use Rattle.decimal.specs.declared.LocationAnswer.{LocationAnswer}
-use Rattle.decimal.specs.declared.LocationAnswer.the-variants as location
+use Rattle.double.specs.declared.DoubleAnswer.the-variants as double
+use Rattle.double.specs.declared.LocationAnswer.{LocationAnswer}
+use Rattle.double.specs.declared.LocationAnswer.the-variants as location
 use Rattle.decimal.specs.Number.{decimalOf, limits, judged, shapeRows, partsOf, numberOf}
-use Rattle.decimal.specs.Double.{scaledOf, withSign, noDouble, doubleFrom, onNumber, doubleOf}
-use Rattle.decimal.specs.Values.{Value, valuesOf}
-use Rattle.decimal.specs.Location.{valueCount, absent, coordinates, onDouble, oneOf, threeOf, located, locationOf}
-use Rattle.block.specs.Head.{highFirst, countOf}
-use Rattle.block.specs.Image.{andThen, checkOf, traceBlockOf}
+use Rattle.double.specs.Double.{scaledOf, withSign, noDouble, doubleFrom, onNumber, doubleOf}
+use Rattle.double.specs.Values.{Value, valuesOf}
+use Rattle.double.specs.Location.{valueCount, absent, coordinates, onDouble, oneOf, threeOf, located, locationOf}
+use Rattle.head.specs.Head.{highFirst, countOf}
+use Rattle.block.specs.Block.{traceBlockOf}
+use Rattle.image.specs.Image.{andThen, checkOf}
 use Rattle.reader.specs.declared.Whose.the-variants.{One, Nobody}
 use Rattle.reader.specs.declared.FileAnswer.the-variants as file
 use Rattle.reader.specs.declared.TraceAnswer.the-variants as trace

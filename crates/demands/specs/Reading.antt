@@ -21,19 +21,19 @@ use Rattle.refusal.specs.declared.Verdict.the-variants.{Accepted}
 use Rattle.refusal.specs.Table.{refusal}
 use Rattle.strings.specs.Spelled.{Str, valueOfKey}
 use Rattle.decimal.specs.declared.Decimal.{Decimal}
-use Rattle.decimal.specs.declared.Coordinates.{Coordinates}
+use Rattle.double.specs.declared.Coordinates.{Coordinates}
 use Rattle.decimal.specs.declared.NumberAnswer.the-variants as number
-use Rattle.decimal.specs.declared.DoubleAnswer.the-variants as double
-use Rattle.decimal.specs.declared.LocationAnswer.the-variants as location
+use Rattle.double.specs.declared.DoubleAnswer.the-variants as double
+use Rattle.double.specs.declared.LocationAnswer.the-variants as location
 use Rattle.decimal.specs.Grammar.{Parts, Writes, Short, over, under}
 use Rattle.decimal.specs.Number.{decimalOf, noNumber, tooLong, numberOf}
-use Rattle.decimal.specs.Double.{doubleOf}
-use Rattle.decimal.specs.Location.{locationOf}
+use Rattle.double.specs.Double.{doubleOf}
+use Rattle.double.specs.Location.{locationOf}
 use Rattle.decimal.specs.Meaning.{Means, number-means}
 use Rattle.decimal.specs.Agreed.{parts-unique, is-number, no-number, too-long}
-use Rattle.decimal.specs.Marks.{comma, comma-double}
-use Rattle.decimal.specs.LocationMarks.{comma-location}
-use Rattle.decimal.specs.Rounded.{text-rounded-once}
+use Rattle.decimal.specs.Marks.{comma}
+use Rattle.double.specs.LocationMarks.{comma-double, comma-location}
+use Rattle.double.specs.Rounded.{text-rounded-once}
 use Rattle.sample.specs.Needed.{width}
 use Rattle.sample.specs.Run.{run}
 use Rattle.decode.specs.Sample.{patternOf, twos, exponentIn, scaled, groupSample, sampleOf, classOf}
@@ -46,10 +46,11 @@ use Rattle.sheet.specs.Area.{joined, areaSize, stringsOf, measuredOf}
 use Rattle.sheet.specs.Paper.{sheetOf, GoodLines, accepted-lines}
 use Rattle.sheet.specs.Spelling.{measured-size}
 use Rattle.sheet.specs.Meaning.{Parted, lines-parted}
-use Rattle.block.specs.Head.{highFirst, countOf}
-use Rattle.block.specs.Image.{dataAt, endAt, checkOf}
-use Rattle.block.specs.Keeps.{traceAt, Keeps}
-use Rattle.block.specs.Accepted.{accepted-keeps, keeps-accepted}
+use Rattle.head.specs.Head.{highFirst, countOf}
+use Rattle.block.specs.Block.{dataAt, endAt}
+use Rattle.image.specs.Image.{checkOf}
+use Rattle.image.specs.Keeps.{traceAt, Keeps}
+use Rattle.image.specs.Accepted.{accepted-keeps, keeps-accepted}
 use Rattle.reader.specs.declared.FileAnswer.the-variants as file
 use Rattle.reader.specs.Questions.{fileAnswer, codeAt, countAt, ofIntegers, ofBits, dataOf, samplesOf, patternsOf, classesOf, integersAnswer, bitsAnswer, integersLeft, patternsLeft, classesLeft, numberAnswer, doubleAnswer, locationAnswer}
 use Rattle.reader.specs.Listed.{Lists, file-lists, trace-lists, lists-once}

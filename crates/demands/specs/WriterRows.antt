@@ -23,7 +23,7 @@ use Rattle.sheet.specs.declared.Measured.the-variants as measured
 use Rattle.sheet.specs.Lines.{plain, lineLen, lineOf, keyLen, keyOf, valueOf, spaced, continues, judgedOf, onJudged, stepOf, onStep, checkFrom, linesVerdict}
 use Rattle.sheet.specs.Area as area
 use Rattle.sheet.specs.Area.{areaSize, measuredOf}
-use Rattle.block.specs.Head.{roomOf, countOf, stringEnd, lineEnd}
+use Rattle.head.specs.Head.{roomOf, countOf, stringEnd, lineEnd}
 use Rattle.reader.specs.Questions.{asked}
 use Rattle.writer.specs.declared.Written.{Written}
 use Rattle.writer.specs.declared.Written.the-variants as written

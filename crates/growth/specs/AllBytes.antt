@@ -25,7 +25,7 @@ use Rattle.encode.specs.Write.{flat, residue, fixedBytes, exponentsOf, mantissa
 use Rattle.sheet.specs.declared.Measured.the-variants.{Size}
 use Rattle.sheet.specs.Area.{areaOf, areaSize, padding, stringsOf, textSize, measuredOf}
 use Rattle.sheet.specs.Spelling.{among, Terminators, terminators-end, area-spells}
-use Rattle.block.specs.Head.{control, highFirst, stringEnd, lineEnd}
+use Rattle.head.specs.Head.{control, highFirst, stringEnd, lineEnd}
 use Rattle.writer.specs.Layout.{Trace, Samples, Samples.integers, Samples.patterns, count, fitting, samplesData, orderMark, plainEnds, nul, lineFeed, fileBlock, startImage, traceBlock, blockBytes, dataBytes, traceBytes}
 use Rattle.writer.specs.Answers.{newBytes, grown}
 use Rattle.writer.specs.Shown.{Added, Started}

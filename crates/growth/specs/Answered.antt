@@ -15,9 +15,9 @@ use Rattle.strings.specs.declared.Found.the-variants.{Nothing, Is}
 use Rattle.strings.specs.Strings.{valueFound}
 use Rattle.strings.specs.Spelled.{Str, nthStr, valueOfKey, hasKey}
 use Rattle.decimal.specs.Number.{numberOf}
-use Rattle.decimal.specs.Double.{doubleOf}
-use Rattle.decimal.specs.Location.{locationOf}
-use Rattle.block.specs.Image.{checkOf}
+use Rattle.double.specs.Double.{doubleOf}
+use Rattle.double.specs.Location.{locationOf}
+use Rattle.image.specs.Image.{checkOf}
 use Rattle.reader.specs.declared.CountAnswer.the-variants as count
 use Rattle.reader.specs.declared.StringAnswer.the-variants as string
 use Rattle.reader.specs.declared.KeywordAnswer.the-variants.{Yes, No}

@@ -12,8 +12,8 @@ use borrow.Author.Tests.{eqb-true}
 use Rattle.word.specs.Part.{length-part}
 use Rattle.text.specs.Runs.{all, both}
 use Rattle.sheet.specs.Spelling.{among, Terminators, LineEnd, terminators-end}
-use Rattle.block.specs.Head.{terminatorAt, stringEnd, lineEnd, lacks, apart}
-use Rattle.block.specs.Keeps.{KeepsTerminator, Keeps}
+use Rattle.head.specs.Head.{terminatorAt, stringEnd, lineEnd, lacks, apart}
+use Rattle.image.specs.Keeps.{KeepsTerminator, Keeps}
 use Rattle.growth.specs.Kept.{short-terminator}
 
 terminator-size : (f : List ℕ) (at : ℕ) → at + 3 ≤ length f → KeepsTerminator f at → (1 ≤ length (terminatorAt f at)) × (length (terminatorAt f at) ≤ 2)

@@ -15,7 +15,7 @@ use Rattle.word.specs.Put.{put, length-put, drop-put-after, take-put, take-put-
 use Rattle.word.specs.Round.{round4}
 use Rattle.word.specs.Word.{wordAt, bytesOf}
 use Rattle.word.specs.WordLaws.{length-bytesOf, bytesOf-bytes, word-put, word-put-after}
-use Rattle.block.specs.Head.{highFirst, roomOf, countOf}
+use Rattle.head.specs.Head.{highFirst, roomOf, countOf}
 use Rattle.writer.specs.Layout.{Trace}
 use Rattle.writer.specs.Answers.{newBytes, grown}
 use Rattle.writer.specs.Shown.{room-small, placed, Added}

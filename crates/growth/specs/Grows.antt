@@ -17,9 +17,9 @@ use Rattle.word.specs.WordLaws.{word-take}
 use Rattle.encode.specs.declared.Fit.the-variants.{All}
 use Rattle.sheet.specs.declared.Measured.the-variants.{Size}
 use Rattle.sheet.specs.Area.{areaSize, measuredOf}
-use Rattle.block.specs.Head.{highFirst, roomOf, countOf, stringEnd, lineEnd}
-use Rattle.block.specs.Keeps.{Keeps}
-use Rattle.block.specs.Accepted.{accepted-keeps}
+use Rattle.head.specs.Head.{highFirst, roomOf, countOf, stringEnd, lineEnd}
+use Rattle.image.specs.Keeps.{Keeps}
+use Rattle.image.specs.Accepted.{accepted-keeps}
 use Rattle.writer.specs.Layout.{Trace, fitting, unfit, traceSize, traceBytes}
 use Rattle.writer.specs.Answers.{newBytes, newLength, grown}
 use Rattle.writer.specs.Shown.{Added}

@@ -12,9 +12,9 @@ use lib.Dec.{eqb}
 use Rattle.word.specs.Part.{part, getD-part}
 use Rattle.word.specs.Round.{round4}
 use Rattle.word.specs.Word.{valueOf, wordAt}
-use Rattle.block.specs.Head.{highFirst, revisionOf, roomOf, countOf, terminatorAt, stringEnd, lineEnd}
-use Rattle.block.specs.Image.{pointerOf, markAt, blockSize, dataSize, sampleCount, formatCode, dataAt, endAt}
-use Rattle.block.specs.Keeps.{traceAt, endBefore, KeepsTerminator, Keeps}
+use Rattle.head.specs.Head.{highFirst, revisionOf, roomOf, countOf, terminatorAt, stringEnd, lineEnd}
+use Rattle.block.specs.Block.{pointerOf, markAt, blockSize, dataSize, sampleCount, formatCode, dataAt, endAt}
+use Rattle.image.specs.Keeps.{traceAt, endBefore, KeepsTerminator, Keeps}
 use Rattle.writer.specs.Layout.{Trace}
 use Rattle.growth.specs.Grows.{Grows}
 

@@ -10,9 +10,9 @@ use lib.ListN.{length}
 use Rattle.word.specs.Part.{part}
 use Rattle.word.specs.Round.{round4}
 use Rattle.sheet.specs.Area.{areaOf, areaSize}
-use Rattle.block.specs.Head.{highFirst, countOf, stringEnd, lineEnd}
-use Rattle.block.specs.Image.{markAt, blockSize, dataSize, sampleCount, formatCode, dataAt, endAt}
-use Rattle.block.specs.Keeps.{traceAt}
+use Rattle.head.specs.Head.{highFirst, countOf, stringEnd, lineEnd}
+use Rattle.block.specs.Block.{markAt, blockSize, dataSize, sampleCount, formatCode, dataAt, endAt}
+use Rattle.image.specs.Keeps.{traceAt}
 use Rattle.writer.specs.Layout.{Trace, count, samplesData, blockBytes, dataBytes, traceSize, traceBytes}
 use Rattle.writer.specs.LayoutLaws.{Stands, stands}
 use Rattle.growth.specs.Grows.{Grows}

@@ -10,7 +10,7 @@ use lib.Seq.{length-take-le}
 use Rattle.word.specs.Bytes.{Bytes}
 use Rattle.word.specs.Round.{round4}
 use Rattle.sheet.specs.Area.{areaSize}
-use Rattle.block.specs.Head.{countOf, stringEnd, lineEnd}
+use Rattle.head.specs.Head.{countOf, stringEnd, lineEnd}
 use Rattle.writer.specs.Layout.{Trace}
 use Rattle.writer.specs.Answers.{grown}
 use Rattle.writer.specs.Shown.{Added}

@@ -20,10 +20,11 @@ use Rattle.strings.specs.Spelled.{Str, textOf, sizeOf, written, Spells, Spells.
 use Rattle.sheet.specs.Area as area
 use Rattle.sheet.specs.Area.{areaSize}
 use Rattle.sheet.specs.Spelling.{area-bounds, area-spells}
-use Rattle.block.specs.Head.{highFirst, roomOf, countOf, stringEnd, lineEnd}
-use Rattle.block.specs.Image.{dataSize, dataAt, endAt, checkOf}
-use Rattle.block.specs.Keeps.{traceAt, endBefore, stringsEnd, KeepsTrace, Keeps}
-use Rattle.block.specs.Accepted.{keeps-accepted}
+use Rattle.head.specs.Head.{highFirst, roomOf, countOf, stringEnd, lineEnd}
+use Rattle.block.specs.Block.{dataSize, dataAt, endAt}
+use Rattle.image.specs.Image.{checkOf}
+use Rattle.image.specs.Keeps.{traceAt, endBefore, stringsEnd, KeepsTrace, Keeps}
+use Rattle.image.specs.Accepted.{keeps-accepted}
 use Rattle.writer.specs.Layout.{Trace, count}
 use Rattle.writer.specs.Answers.{grown}
 use Rattle.writer.specs.Shown.{Added}

@@ -19,9 +19,10 @@ use Rattle.text.specs.Runs.{same}
 use Rattle.strings.specs.Strings.{placesOf, findOf, keyIn, valueFound}
 use Rattle.strings.specs.Spelled.{Str, Spells, nthStr, strsIn}
 use Rattle.strings.specs.Paper.{spelled-places, spelled-value}
-use Rattle.block.specs.Head.{highFirst, roomOf, countOf, stringEnd, lineEnd}
-use Rattle.block.specs.Image.{blockSize, dataSize, dataAt, checkOf, traceBlockOf}
-use Rattle.block.specs.Keeps.{traceAt, stringsEnd, Strings}
+use Rattle.head.specs.Head.{highFirst, roomOf, countOf, stringEnd, lineEnd}
+use Rattle.block.specs.Block.{blockSize, dataSize, dataAt, traceBlockOf}
+use Rattle.image.specs.Image.{checkOf}
+use Rattle.image.specs.Keeps.{traceAt, stringsEnd, Strings}
 use Rattle.reader.specs.declared.Area.{Area}
 use Rattle.reader.specs.declared.Area.the-variants.{Outside, From}
 use Rattle.reader.specs.declared.StringAnswer.{StringAnswer}

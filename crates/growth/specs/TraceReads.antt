@@ -24,9 +24,10 @@ use Rattle.encode.specs.Cut.{cut, floats-back}
 use Rattle.sheet.specs.declared.Measured.the-variants.{Size}
 use Rattle.sheet.specs.Area.{stringsOf, measuredOf}
 use Rattle.sheet.specs.Spelling.{LineEnd, area-spells}
-use Rattle.block.specs.Head.{highFirst, countOf, stringEnd, lineEnd}
-use Rattle.block.specs.Image.{dataAt, endAt, checkOf, traceBlockOf}
-use Rattle.block.specs.Keeps.{traceAt}
+use Rattle.head.specs.Head.{highFirst, countOf, stringEnd, lineEnd}
+use Rattle.block.specs.Block.{dataAt, endAt, traceBlockOf}
+use Rattle.image.specs.Image.{checkOf}
+use Rattle.image.specs.Keeps.{traceAt}
 use Rattle.reader.specs.declared.TraceAnswer.the-variants as trace
 use Rattle.reader.specs.Questions.{traceAnswer, dataOf, codeAt, countAt, ofIntegers, integersAnswer, bitsAnswer, samplesOf, patternsOf, classesOf, integersLeft, patternsLeft, classesLeft}
 use Rattle.reader.specs.Listed.{whose-one, trace-area}

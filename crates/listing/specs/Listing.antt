@@ -20,9 +20,10 @@ use Rattle.text.specs.Runs.{same}
 use Rattle.text.specs.Note.{linesOf}
 use Rattle.strings.specs.Strings.{placesOf}
 use Rattle.strings.specs.Spelled.{Str, strsIn}
-use Rattle.block.specs.Head.{highFirst, roomOf, countOf, stringEnd, lineEnd}
-use Rattle.block.specs.Image.{sampleCount, formatCode, dataAt, checkOf}
-use Rattle.block.specs.Keeps.{traceAt}
+use Rattle.head.specs.Head.{highFirst, roomOf, countOf, stringEnd, lineEnd}
+use Rattle.block.specs.Block.{sampleCount, formatCode, dataAt}
+use Rattle.image.specs.Image.{checkOf}
+use Rattle.image.specs.Keeps.{traceAt}
 use Rattle.listing.specs.declared.Listed.{Listed}
 use Rattle.listing.specs.declared.Listed.the-variants.{To, Full}
 use Rattle.listing.specs.Digits.{digits}

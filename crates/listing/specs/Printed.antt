@@ -7,7 +7,7 @@ use lib.ListN.{length}
 use Rattle.word.specs.Part.{part}
 use Rattle.strings.specs.Spelled.{Str, Spells}
 use Rattle.strings.specs.Paper.{spelled-places}
-use Rattle.block.specs.Head.{highFirst, stringEnd, lineEnd}
+use Rattle.head.specs.Head.{highFirst, stringEnd, lineEnd}
 use Rattle.listing.specs.Listing.{stringsIn}
 
 pub printed : (f : List ℕ) (a e : ℕ) (ss : List Str) → a ≤ e → e ≤ length f → Spells (highFirst f) (stringEnd f) (lineEnd f) ss (part a e f) → stringsIn f a e ≡ ss

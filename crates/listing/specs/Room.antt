@@ -26,10 +26,11 @@ use Rattle.text.specs.Note.{lineLen, linesOf, lineLen-le, line-ends}
 use Rattle.strings.specs.Strings.{frameOf, placeOf, onText, placesFrom, placesOf, keyIn, valueIn}
 use Rattle.strings.specs.Walks.{Fits, place-fits}
 use Rattle.strings.specs.Spelled.{strsIn}
-use Rattle.block.specs.Head.{highFirst, roomOf, countOf, stringEnd, lineEnd}
-use Rattle.block.specs.Image.{blockSize, dataSize, sampleCount, formatCode, dataAt, endAt, imageOf}
-use Rattle.block.specs.Keeps.{traceAt, endBefore}
-use Rattle.block.specs.Accepted.{image-headed, before-next}
+use Rattle.head.specs.Head.{highFirst, roomOf, countOf, stringEnd, lineEnd}
+use Rattle.block.specs.Block.{blockSize, dataSize, sampleCount, formatCode, dataAt, endAt}
+use Rattle.image.specs.Image.{imageOf}
+use Rattle.image.specs.Keeps.{traceAt, endBefore}
+use Rattle.image.specs.Accepted.{image-headed, before-next}
 use Rattle.reader.specs.Reach.{some-trace, trace-pointed, trace-blocked}
 use Rattle.listing.specs.Numbers.{below-hundred}
 use Rattle.listing.specs.Digits.{digits, digits-few}

@@ -18,13 +18,15 @@ use Rattle.refusal.specs.declared.Refusal.{Refusal}
 use Rattle.refusal.specs.declared.Verdict.the-variants.{Accepted, Refused}
 use Rattle.strings.specs.Strings.{placesOf}
 use Rattle.strings.specs.Spelled.{strsIn}
-use Rattle.block.specs.declared.FileBlock.{FileBlock}
+use Rattle.head.specs.declared.FileBlock.{FileBlock}
 use Rattle.block.specs.declared.TraceBlock.{TraceBlock}
-use Rattle.block.specs.Head.{highFirst, roomOf, countOf, stringEnd, lineEnd, goodTerminator}
-use Rattle.block.specs.HeadLaws.{good-most, length-terminator}
-use Rattle.block.specs.Image.{pointerOf, imageOf, checkOf, fileBlockOf, traceBlockOf}
-use Rattle.block.specs.Keeps.{traceAt, endBefore}
-use Rattle.block.specs.Accepted.{image-headed}
+use Rattle.head.specs.Head.{highFirst, roomOf, countOf, stringEnd, lineEnd, goodTerminator}
+use Rattle.head.specs.HeadLaws.{good-most, length-terminator}
+use Rattle.block.specs.Block.{pointerOf, traceBlockOf}
+use Rattle.head.specs.Head.{fileBlockOf}
+use Rattle.image.specs.Image.{imageOf, checkOf}
+use Rattle.image.specs.Keeps.{traceAt, endBefore}
+use Rattle.image.specs.Accepted.{image-headed}
 use Rattle.reader.specs.Reach.{Checked, checked, some-trace, pointer-slot, trace-pointed, trace-blocked}
 use Rattle.listing.specs.declared.Listed.{Listed}
 use Rattle.listing.specs.declared.Listed.the-variants.{To, Full}

@@ -16,8 +16,8 @@ ghost use Rattle.refusal.specs.declared.Verdict.the-variants.{Accepted};
 ghost use Rattle.text.specs.Note.{linesOf};
 ghost use Rattle.strings.specs.Strings.{placesOf};
 ghost use Rattle.strings.specs.Spelled.{strsIn};
-ghost use Rattle.block.specs.Head.{countOf};
-ghost use Rattle.block.specs.Image.{imageOf};
+ghost use Rattle.head.specs.Head.{countOf};
+ghost use Rattle.image.specs.Image.{imageOf};
 ghost use Rattle.listing.specs.Digits.{digits};
 ghost use Rattle.listing.specs.Listing.{ended, whose, order, headLine, traceLine, refusalLine, space, spaced, label, stringLine, linesText, valuesOf, stringsText, traceText, tracesText, fileText, listAnswer, Within, listLeft};
 ghost use Rattle.listing.specs.Wrote.{Room, Wrote};
@@ -276,7 +276,7 @@ fn put_trace(out: &mut [u8], at: usize, f: &[u8], k: u16) -> usize
     requires { ⌜ (imageOf false (now f) ≡ Accepted) × (32 ≤ length (now f)) × (k < countOf (now f)) × Room (now out) at (traceText (now f) k) ⌝ }
     ensures { λ r. ⌜ Wrote (now (out .entry)) at (traceText (now (f .entry)) k) r (now (out .exit)) ⌝ }
 {
-    let high = block::is_high(f);
+    let high = head::is_high(f);
     let b = block::trace_block(f, high, k);
     let from = b.p + 32;
     let to = b.p + b.b;
@@ -289,8 +289,8 @@ fn put_trace(out: &mut [u8], at: usize, f: &[u8], k: u16) -> usize
         from,
         to,
         high,
-        block::terminator(f, 8),
-        block::terminator(f, 11),
+        head::terminator(f, 8),
+        head::terminator(f, 11),
     )
 }
 
@@ -313,7 +313,7 @@ fn put_file(out: &mut [u8], f: &[u8]) -> usize
     requires { ⌜ (imageOf false (now f) ≡ Accepted) × (32 ≤ length (now f)) × (length (now f) ≤ 65536) × Room (now out) 0 (fileText (now f)) ⌝ }
     ensures { λ r. ⌜ Wrote (now (out .entry)) 0 (fileText (now (f .entry))) r (now (out .exit)) ⌝ }
 {
-    let b = block::file_block(f);
+    let b = head::file_block(f);
     let high = b.high;
     let start = 32 + b.m;
     let first = block::pointer(f, high, 0);
@@ -326,8 +326,8 @@ fn put_file(out: &mut [u8], f: &[u8]) -> usize
         start,
         first,
         high,
-        block::terminator(f, 8),
-        block::terminator(f, 11),
+        head::terminator(f, 8),
+        head::terminator(f, 11),
     );
     put_traces(out, d, f, b.n as u16)
 }
@@ -357,7 +357,7 @@ pub fn list(input: &[u8], out: &mut [u8]) -> Listed
             },
         ));
     }
-    let v = block::check(input, n, false);
+    let v = image::check(input, n, false);
     match v {
         Verdict::Refused(r) => Listed::To(put_refusal(out, 0, r)),
         Verdict::Accepted => Listed::To(put_file(out, input)),

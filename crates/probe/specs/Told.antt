@@ -4,13 +4,13 @@
 use mathlib.Core.Bool.{false}
 use lib.IntN.{pos}
 use Rattle.refusal.specs.Table.{numberOf}
-use Rattle.decimal.specs.Location.{absent}
+use Rattle.double.specs.Location.{absent}
 use Rattle.decimal.specs.declared.NumberAnswer.{NumberAnswer}
 use Rattle.decimal.specs.declared.NumberAnswer.the-variants as number
-use Rattle.decimal.specs.declared.DoubleAnswer.{DoubleAnswer}
-use Rattle.decimal.specs.declared.DoubleAnswer.the-variants as double
-use Rattle.decimal.specs.declared.LocationAnswer.{LocationAnswer}
-use Rattle.decimal.specs.declared.LocationAnswer.the-variants as location
+use Rattle.double.specs.declared.DoubleAnswer.{DoubleAnswer}
+use Rattle.double.specs.declared.DoubleAnswer.the-variants as double
+use Rattle.double.specs.declared.LocationAnswer.{LocationAnswer}
+use Rattle.double.specs.declared.LocationAnswer.the-variants as location
 use Rattle.probe.specs.declared.Number.{Number}
 use Rattle.probe.specs.declared.Double.{Double}
 use Rattle.probe.specs.declared.Location.{Location}

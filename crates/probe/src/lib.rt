@@ -5,16 +5,16 @@ ghost use Prim.Native.Nat.{_/_, _%_, _+_, _*_};
 ghost use lib.Dec.{leb};
 ghost use lib.ListN.{length};
 ghost use Rattle.decimal.specs.Number.{numberOf};
-ghost use Rattle.decimal.specs.Double.{doubleOf};
-ghost use Rattle.decimal.specs.Location.{locationOf};
+ghost use Rattle.double.specs.Double.{doubleOf};
+ghost use Rattle.double.specs.Location.{locationOf};
 ghost use Rattle.sample.specs.Needed.{room};
 ghost use Rattle.decode.specs.Sample.{integersThere, integersRead, bitsThere, patternsRead, classesRead};
 ghost use Rattle.listing.specs.Listing.{listAnswer, listLeft};
 ghost use Rattle.probe.specs.Told.{numberTold, doubleTold, locationTold};
 ghost use Rattle.probe.specs.Listed.{lengthTold};
 ghost use Rattle.probe.specs.Written.{isAll, integersTaken, integersLeft, bitsTaken, bitsLeft};
-use decimal::DoubleAnswer;
-use decimal::LocationAnswer;
+use double::DoubleAnswer;
+use double::LocationAnswer;
 use decimal::NumberAnswer;
 use listing::Listed;
 use encode::Fit;
@@ -132,7 +132,7 @@ pub extern "C" fn probe_number(text: &[u8]) -> Number
 pub extern "C" fn probe_double(text: &[u8]) -> Double
     ensures { λ r. ⌜ r ≡ doubleTold (doubleOf (now (text .entry))) ⌝ }
 {
-    double_told(decimal::double(text))
+    double_told(double::double(text))
 }
 
 // The location that a text is.
@@ -140,7 +140,7 @@ pub extern "C" fn probe_double(text: &[u8]) -> Double
 pub extern "C" fn probe_location(text: &[u8]) -> Location
     ensures { λ r. ⌜ r ≡ locationTold (locationOf (now (text .entry))) ⌝ }
 {
-    location_told(decimal::location(text))
+    location_told(double::location(text))
 }
 
 // ---- samples (document 01, "Samples")

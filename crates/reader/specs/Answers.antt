@@ -16,10 +16,10 @@ use Rattle.refusal.specs.declared.Refusal.{Refusal}
 use Rattle.refusal.specs.declared.Verdict.{Verdict}
 use Rattle.refusal.specs.declared.Verdict.the-variants.{Accepted, Refused}
 use Rattle.sample.specs.Run.{length-run}
-use Rattle.block.specs.Head.{highFirst, countOf, refused}
-use Rattle.block.specs.HeadLaws.{isAccepted}
-use Rattle.block.specs.Image.{checkOf, traceBlockOf}
-use Rattle.block.specs.ImageLaws.{refused-not}
+use Rattle.head.specs.Head.{highFirst, countOf, refused}
+use Rattle.refusal.specs.Tests.{isAccepted, refused-not}
+use Rattle.block.specs.Block.{traceBlockOf}
+use Rattle.image.specs.Image.{checkOf}
 use Rattle.reader.specs.declared.Whose.{Whose}
 use Rattle.reader.specs.declared.Whose.the-variants.{Whole, One, Nobody}
 use Rattle.reader.specs.declared.FileAnswer.the-variants as file

@@ -9,9 +9,9 @@ use lib.ListN.{length}
 use Rattle.refusal.specs.declared.Refusal.{Refusal}
 use Rattle.refusal.specs.declared.Verdict.the-variants.{Refused}
 use Rattle.decimal.specs.declared.NumberAnswer.the-variants as number
-use Rattle.decimal.specs.declared.DoubleAnswer.the-variants as double
-use Rattle.decimal.specs.declared.LocationAnswer.the-variants as location
-use Rattle.block.specs.Image.{checkOf}
+use Rattle.double.specs.declared.DoubleAnswer.the-variants as double
+use Rattle.double.specs.declared.LocationAnswer.the-variants as location
+use Rattle.image.specs.Image.{checkOf}
 use Rattle.reader.specs.declared.FileAnswer.the-variants as file
 use Rattle.reader.specs.declared.TraceAnswer.the-variants as trace
 use Rattle.reader.specs.declared.CountAnswer.the-variants as count

@@ -20,8 +20,9 @@ use Rattle.sample.specs.Needed.{needed}
 use Rattle.sample.specs.Run.{run}
 use Rattle.decode.specs.Sample.{sampleOf, patternOf, classOf}
 use Rattle.block.specs.declared.TraceBlock.{TraceBlock}
-use Rattle.block.specs.Head.{highFirst, roomOf, stringEnd, refused}
-use Rattle.block.specs.Image.{pointerOf, blockSize, checkOf}
+use Rattle.head.specs.Head.{highFirst, roomOf, stringEnd, refused}
+use Rattle.block.specs.Block.{pointerOf, blockSize}
+use Rattle.image.specs.Image.{checkOf}
 use Rattle.reader.specs.declared.Whose.the-variants.{Whole, One}
 use Rattle.reader.specs.declared.Area.{Area}
 use Rattle.reader.specs.declared.Area.the-variants.{Outside, From}

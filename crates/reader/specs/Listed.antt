@@ -21,16 +21,17 @@ use Rattle.strings.specs.declared.Found.the-variants.{Nothing, Is}
 use Rattle.strings.specs.Strings.{placesOf, keyIn, valueIn, nthOf, findOf, keyFound, valueFound}
 use Rattle.strings.specs.Spelled.{Str, Spells, nthStr, valueOfKey, hasKey}
 use Rattle.strings.specs.Paper.{spelled-once, spelled-count, spelled-nth, found, spelled-value}
-use Rattle.block.specs.Head.{highFirst, roomOf, countOf, stringEnd, lineEnd}
-use Rattle.block.specs.Image.{dataAt, checkOf}
-use Rattle.block.specs.Keeps.{traceAt, stringsEnd, Strings}
-use Rattle.block.specs.Accepted.{accepted-keeps}
+use Rattle.head.specs.Head.{highFirst, roomOf, countOf, stringEnd, lineEnd}
+use Rattle.block.specs.Block.{dataAt}
+use Rattle.image.specs.Image.{checkOf}
+use Rattle.image.specs.Keeps.{traceAt, stringsEnd, Strings}
+use Rattle.image.specs.Accepted.{accepted-keeps}
 use Rattle.decimal.specs.declared.NumberAnswer.the-variants as number
-use Rattle.decimal.specs.declared.DoubleAnswer.the-variants as double
-use Rattle.decimal.specs.declared.LocationAnswer.the-variants as location
+use Rattle.double.specs.declared.DoubleAnswer.the-variants as double
+use Rattle.double.specs.declared.LocationAnswer.the-variants as location
 use Rattle.decimal.specs.Number.{numberOf}
-use Rattle.decimal.specs.Double.{doubleOf}
-use Rattle.decimal.specs.Location.{locationOf}
+use Rattle.double.specs.Double.{doubleOf}
+use Rattle.double.specs.Location.{locationOf}
 use Rattle.reader.specs.declared.Whose.the-variants.{Whole, One, Nobody}
 use Rattle.reader.specs.declared.Area.the-variants.{From}
 use Rattle.reader.specs.declared.Opened.the-variants as opened

@@ -24,16 +24,17 @@ use Rattle.sample.specs.Run.{run}
 use Rattle.decode.specs.Sample.{bitsAsked, sampleOf, patternOf, classOf}
 use Rattle.decimal.specs.declared.NumberAnswer.{NumberAnswer}
 use Rattle.decimal.specs.declared.NumberAnswer.the-variants as number
-use Rattle.decimal.specs.declared.DoubleAnswer.{DoubleAnswer}
-use Rattle.decimal.specs.declared.DoubleAnswer.the-variants as double
-use Rattle.decimal.specs.declared.LocationAnswer.{LocationAnswer}
-use Rattle.decimal.specs.declared.LocationAnswer.the-variants as location
+use Rattle.double.specs.declared.DoubleAnswer.{DoubleAnswer}
+use Rattle.double.specs.declared.DoubleAnswer.the-variants as double
+use Rattle.double.specs.declared.LocationAnswer.{LocationAnswer}
+use Rattle.double.specs.declared.LocationAnswer.the-variants as location
 use Rattle.decimal.specs.Number.{numberOf}
-use Rattle.decimal.specs.Double.{doubleOf}
-use Rattle.decimal.specs.Location.{locationOf}
-use Rattle.block.specs.Head.{highFirst, roomOf, countOf, stringEnd, refused}
-use Rattle.block.specs.Image.{sampleCount, formatCode, dataAt, endAt, checkOf, traceBlockOf}
-use Rattle.block.specs.Keeps.{traceAt}
+use Rattle.double.specs.Double.{doubleOf}
+use Rattle.double.specs.Location.{locationOf}
+use Rattle.head.specs.Head.{highFirst, roomOf, countOf, stringEnd, refused}
+use Rattle.block.specs.Block.{sampleCount, formatCode, dataAt, endAt, traceBlockOf}
+use Rattle.image.specs.Image.{checkOf}
+use Rattle.image.specs.Keeps.{traceAt}
 use Rattle.reader.specs.declared.Whose.{Whose}
 use Rattle.reader.specs.declared.Whose.the-variants.{Whole, One, Nobody}
 use Rattle.reader.specs.declared.Area.{Area}

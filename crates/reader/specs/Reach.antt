@@ -22,11 +22,14 @@ use Rattle.strings.specs.declared.Found.the-variants.{Nothing, Is}
 use Rattle.strings.specs.Strings.{nthOf, findOf}
 use Rattle.lookup.specs.Lists.{In, AllIn, area-in, nth-in, find-in}
 use Rattle.block.specs.declared.TraceBlock.{TraceBlock}
-use Rattle.block.specs.Head.{highFirst, roomOf, countOf, stringEnd, goodTerminator, refused}
-use Rattle.block.specs.Image.{dataAt, imageOf, badLength, checkOf, traceBlockOf}
-use Rattle.block.specs.ImageLaws.{Pointed, Blocked, refused-not, long-enough}
-use Rattle.block.specs.Keeps.{traceAt, endBefore}
-use Rattle.block.specs.Accepted.{image-headed, image-traced, traced-places}
+use Rattle.head.specs.Head.{highFirst, roomOf, countOf, stringEnd, goodTerminator, refused}
+use Rattle.block.specs.Block.{dataAt, traceBlockOf}
+use Rattle.image.specs.Image.{imageOf, badLength, checkOf}
+use Rattle.refusal.specs.Tests.{refused-not}
+use Rattle.block.specs.BlockLaws.{Pointed, Blocked}
+use Rattle.image.specs.ImageLaws.{long-enough}
+use Rattle.image.specs.Keeps.{traceAt, endBefore}
+use Rattle.image.specs.Accepted.{image-headed, image-traced, traced-places}
 use Rattle.reader.specs.declared.Whose.{Whose}
 use Rattle.reader.specs.declared.Whose.the-variants.{Whole, One, Nobody}
 use Rattle.reader.specs.declared.Area.{Area}

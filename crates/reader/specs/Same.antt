@@ -7,7 +7,7 @@ use Prim.Native.Nat.{ℕ, _≤_}
 use lib.IntN.{ℤ}
 use lib.ListN.{length, take}
 use borrow.Author.Tests.{le-ltb}
-use Rattle.block.specs.Image.{checkOf}
+use Rattle.image.specs.Image.{checkOf}
 use Rattle.reader.specs.Questions.{fileAnswer, traceAnswer, countAnswer, nthAnswer, findAnswer, keywordAnswer, valueAnswer, numberAnswer, doubleAnswer, locationAnswer, integersAnswer, bitsAnswer, integersLeft, patternsLeft, classesLeft}
 
 module _ (xs ys : List ℕ) (n : ℕ) (same : take n xs ≡ take n ys) (fx : n ≤ length xs) (fy : n ≤ length ys) where

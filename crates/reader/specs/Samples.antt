@@ -16,8 +16,9 @@ use Rattle.refusal.specs.declared.Verdict.the-variants.{Accepted, Refused}
 use Rattle.sample.specs.Needed.{needed}
 use Rattle.decode.specs.Sample.{integersAsked, integersThere, integersRead, bitsThere, patternsRead, classesRead}
 use Rattle.block.specs.declared.TraceBlock.{TraceBlock}
-use Rattle.block.specs.Head.{highFirst, countOf, refused}
-use Rattle.block.specs.Image.{endAt, checkOf, traceBlockOf}
+use Rattle.head.specs.Head.{highFirst, countOf, refused}
+use Rattle.block.specs.Block.{endAt, traceBlockOf}
+use Rattle.image.specs.Image.{checkOf}
 use Rattle.reader.specs.declared.Whose.{Whose}
 use Rattle.reader.specs.declared.Whose.the-variants.{Whole, One, Nobody}
 use Rattle.reader.specs.declared.TraceAnswer.the-variants as trace

@@ -1,8 +1,8 @@
 // The questions on a file: blocks, strings, keywords, numbers in values, samples (document 01, rows 18, 32, 33). Every question checks the whole
 // file first; its answer is one of the image, the first `length` bytes of the lent buffer. A part is -1 for the file, else the trace.
 use block::TraceBlock;
-use decimal::DoubleAnswer;
-use decimal::LocationAnswer;
+use double::DoubleAnswer;
+use double::LocationAnswer;
 use decimal::NumberAnswer;
 use refusal::Part;
 use refusal::Refusal;
@@ -15,8 +15,8 @@ ghost use mathlib.Core.Bool.{false};
 ghost use Prim.Native.Nat.{_≤_};
 ghost use lib.ListN.{length};
 ghost use Rattle.refusal.specs.declared.Verdict.the-variants.{Accepted};
-ghost use Rattle.block.specs.Head.{countOf, refused};
-ghost use Rattle.block.specs.Image.{imageOf};
+ghost use Rattle.head.specs.Head.{countOf, refused};
+ghost use Rattle.image.specs.Image.{imageOf};
 ghost use Rattle.reader.specs.Questions.{noTrace, areaAsked, fileAnswer, traceAnswer, countAnswer, nthAnswer, findAnswer, keywordAnswer, valueThere, valueAnswer, numberAnswer, doubleAnswer, locationAnswer, ofIntegers, ofBits, kept, integersAnswer, integersLeft, bitsAnswer, patternsLeft, classesLeft, whoseOf};
 ghost use Rattle.reader.specs.Leaves.{openedOf, Within, Fits, integersTold, samplesTold, bitsTold, patternsTold, classesTold};
 
@@ -94,7 +94,7 @@ fn whose_in(f: &[u8], part: i32) -> Whose
     requires { ⌜ 32 ≤ length (now f) ⌝ }
     ensures { λ r. ⌜ r ≡ whoseOf part (countOf (now (f .entry))) ⌝ }
 {
-    let n = word::word2(f, block::is_high(f), 6);
+    let n = word::word2(f, head::is_high(f), 6);
     named(part, n as u16)
 }
 
@@ -114,7 +114,7 @@ fn area_of(f: &[u8], part: i32) -> Area
     requires { ⌜ (32 ≤ length (now f)) × (imageOf false (now f) ≡ Accepted) ⌝ }
     ensures { λ r. ⌜ r ≡ areaAsked (now (f .entry)) part ⌝ }
 {
-    let high = block::is_high(f);
+    let high = head::is_high(f);
     let w = whose_in(f, part);
     match w {
         Whose::Nobody => Area::Outside,
@@ -135,7 +135,7 @@ enum Opened {
 fn open_area(buffer: &[u8], length: usize, part: i32) -> Opened
     ensures { λ r. ⌜ r ≡ openedOf (now (buffer .entry)) length part ⌝ }
 {
-    let v = block::check(buffer, length, false);
+    let v = image::check(buffer, length, false);
     if let Verdict::Refused(r) = v {
         return Opened::Bad(r);
     }
@@ -152,12 +152,12 @@ fn open_area(buffer: &[u8], length: usize, part: i32) -> Opened
 pub fn file_block(buffer: &[u8], length: usize) -> FileAnswer
     ensures { λ r. ⌜ r ≡ fileAnswer (now (buffer .entry)) length ⌝ }
 {
-    let v = block::check(buffer, length, false);
+    let v = image::check(buffer, length, false);
     if let Verdict::Refused(r) = v {
         return FileAnswer::Refused(r);
     }
     let f = &buffer[..length];
-    let b = block::file_block(f);
+    let b = head::file_block(f);
     let high = b.high;
     let m = b.m;
     let n = b.n;
@@ -174,14 +174,14 @@ pub fn file_block(buffer: &[u8], length: usize) -> FileAnswer
 pub fn trace_block(buffer: &[u8], length: usize, trace: i32) -> TraceAnswer
     ensures { λ r. ⌜ r ≡ traceAnswer (now (buffer .entry)) length trace ⌝ }
 {
-    let v = block::check(buffer, length, false);
+    let v = image::check(buffer, length, false);
     if let Verdict::Refused(r) = v {
         return TraceAnswer::Refused(r);
     }
     let f = &buffer[..length];
     let w = whose_in(f, trace);
     match w {
-        Whose::One(k) => TraceAnswer::Is(block::trace_block(f, block::is_high(f), k)),
+        Whose::One(k) => TraceAnswer::Is(block::trace_block(f, head::is_high(f), k)),
         Whose::Whole => TraceAnswer::Refused(no_trace()),
         Whose::Nobody => TraceAnswer::Refused(no_trace()),
     }
@@ -198,7 +198,7 @@ pub fn string_count(buffer: &[u8], length: usize, part: i32) -> CountAnswer
         Opened::Bad(r) => CountAnswer::Refused(r),
         Opened::From(a, e) => {
             let f = &buffer[..length];
-            CountAnswer::Is(lookup::count(f, a, e, block::is_high(f), block::terminator(f, 8)))
+            CountAnswer::Is(lookup::count(f, a, e, head::is_high(f), head::terminator(f, 8)))
         }
     }
 }
@@ -222,7 +222,7 @@ pub fn string(buffer: &[u8], length: usize, part: i32, i: usize) -> StringAnswer
         Opened::Bad(r) => StringAnswer::Refused(r),
         Opened::From(a, e) => {
             let f = &buffer[..length];
-            there(lookup::nth(f, a, e, block::is_high(f), block::terminator(f, 8), i))
+            there(lookup::nth(f, a, e, head::is_high(f), head::terminator(f, 8), i))
         }
     }
 }
@@ -236,7 +236,7 @@ pub fn find(buffer: &[u8], length: usize, part: i32, key: &[u8]) -> StringAnswer
         Opened::Bad(r) => StringAnswer::Refused(r),
         Opened::From(a, e) => {
             let f = &buffer[..length];
-            there(lookup::find(f, a, e, block::is_high(f), block::terminator(f, 8), key))
+            there(lookup::find(f, a, e, head::is_high(f), head::terminator(f, 8), key))
         }
     }
 }
@@ -295,7 +295,7 @@ pub fn double(buffer: &[u8], length: usize, part: i32, key: &[u8]) -> DoubleAnsw
     if let StringAnswer::Refused(r) = s {
         return DoubleAnswer::Refused(r);
     }
-    decimal::double(value_at(buffer, s))
+    double::double(value_at(buffer, s))
 }
 
 pub fn location(buffer: &[u8], length: usize, part: i32, key: &[u8]) -> LocationAnswer
@@ -305,7 +305,7 @@ pub fn location(buffer: &[u8], length: usize, part: i32, key: &[u8]) -> Location
     if let StringAnswer::Refused(r) = s {
         return LocationAnswer::Refused(r);
     }
-    decimal::location(value_at(buffer, s))
+    double::location(value_at(buffer, s))
 }
 
 // ---- samples: rows 18, 33 and 32 in that order; then the data block alone, out of the middle of the file, is handed to the decoder
@@ -361,7 +361,7 @@ fn integers_of(f: &[u8], t: TraceBlock, row: &mut [i32]) -> Verdict
     let p = t.p;
     let b = t.b;
     let d = t.d;
-    decode::read_integers(code, &f[p + b..p + b + d], block::is_high(f), row);
+    decode::read_integers(code, &f[p + b..p + b + d], head::is_high(f), row);
     Verdict::Accepted // the row holds all S samples
 }
 
@@ -398,7 +398,7 @@ fn bits_of(f: &[u8], t: TraceBlock, row: &mut [u64], classes: &mut [u8]) -> Verd
     let p = t.p;
     let b = t.b;
     let d = t.d;
-    decode::read_bits(code, &f[p + b..p + b + d], block::is_high(f), row, classes);
+    decode::read_bits(code, &f[p + b..p + b + d], head::is_high(f), row, classes);
     Verdict::Accepted
 }
 

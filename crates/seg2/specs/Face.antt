@@ -9,13 +9,13 @@ use Rattle.refusal.specs.declared.Verdict.{Verdict}
 use Rattle.refusal.specs.declared.Verdict.the-variants.{Accepted, Refused}
 use Rattle.refusal.specs.Rows.{pick}
 use Rattle.refusal.specs.Table.{numberOf, partOf}
-use Rattle.decimal.specs.Location.{absent}
+use Rattle.double.specs.Location.{absent}
 use Rattle.decimal.specs.declared.NumberAnswer.{NumberAnswer}
 use Rattle.decimal.specs.declared.NumberAnswer.the-variants as number
-use Rattle.decimal.specs.declared.DoubleAnswer.{DoubleAnswer}
-use Rattle.decimal.specs.declared.DoubleAnswer.the-variants as double
-use Rattle.decimal.specs.declared.LocationAnswer.{LocationAnswer}
-use Rattle.decimal.specs.declared.LocationAnswer.the-variants as location
+use Rattle.double.specs.declared.DoubleAnswer.{DoubleAnswer}
+use Rattle.double.specs.declared.DoubleAnswer.the-variants as double
+use Rattle.double.specs.declared.LocationAnswer.{LocationAnswer}
+use Rattle.double.specs.declared.LocationAnswer.the-variants as location
 use Rattle.reader.specs.declared.FileAnswer.{FileAnswer}
 use Rattle.reader.specs.declared.FileAnswer.the-variants as file
 use Rattle.reader.specs.declared.TraceAnswer.{TraceAnswer}

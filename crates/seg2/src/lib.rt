@@ -1,7 +1,7 @@
 // The face for other languages: thin functions on numbers and byte slices, each with a whole promise. include/seg2.h declares them.
 // Every answer begins with the refusal's number in document 01's table (0: none), its part (-1 for the file, else the trace) and its place.
-use decimal::DoubleAnswer;
-use decimal::LocationAnswer;
+use double::DoubleAnswer;
+use double::LocationAnswer;
 use decimal::NumberAnswer;
 use reader::CountAnswer;
 use reader::FileAnswer;
@@ -14,7 +14,7 @@ ghost use mathlib.Core.Path.{_≡_};
 ghost use mathlib.Core.Bool.{false};
 ghost use Prim.Native.Nat.{_-_};
 ghost use lib.ListN.{length};
-ghost use Rattle.block.specs.Image.{checkOf};
+ghost use Rattle.image.specs.Image.{checkOf};
 ghost use Rattle.reader.specs.Questions.{fileAnswer, traceAnswer, countAnswer, nthAnswer, findAnswer, keywordAnswer, numberAnswer, doubleAnswer, locationAnswer, integersAnswer, integersLeft, bitsAnswer, patternsLeft, classesLeft};
 ghost use Rattle.writer.specs.Layout.{ofIntegers, ofPatterns};
 ghost use Rattle.writer.specs.Answers.{startAnswer, startLeft, addAnswer, addLeft};
@@ -457,7 +457,7 @@ fn length_told(a: Written) -> Seg2Length
 pub extern "C" fn seg2_check(buffer: &[u8], length: usize) -> Seg2Verdict
     ensures { λ r. ⌜ r ≡ verdictOf (checkOf false (now (buffer .entry)) length) ⌝ }
 {
-    told(block::check(buffer, length, false))
+    told(image::check(buffer, length, false))
 }
 
 // The file block.

@@ -1,6 +1,6 @@
 // The worked values of document 01 and the examples of the paper (document 001), run against the proved functions. Each group writes one line.
-use decimal::DoubleAnswer;
-use decimal::LocationAnswer;
+use double::DoubleAnswer;
+use double::LocationAnswer;
 use decimal::NumberAnswer;
 use refusal::Part;
 use refusal::Verdict;
@@ -29,7 +29,7 @@ fn number_refused(text: &[u8], number: u32) -> bool {
 }
 
 fn double_is(text: &[u8], value: f64) -> bool {
-    let answer = decimal::double(text);
+    let answer = double::double(text);
     match answer {
         DoubleAnswer::Is(x) => x == value,
         DoubleAnswer::Refused(_) => false,
@@ -37,7 +37,7 @@ fn double_is(text: &[u8], value: f64) -> bool {
 }
 
 fn double_refused(text: &[u8], number: u32) -> bool {
-    let answer = decimal::double(text);
+    let answer = double::double(text);
     match answer {
         DoubleAnswer::Is(_) => false,
         DoubleAnswer::Refused(r) => {
@@ -48,7 +48,7 @@ fn double_refused(text: &[u8], number: u32) -> bool {
 }
 
 fn location_is(text: &[u8], count: u32, x: f64, y: f64, z: f64) -> bool {
-    let answer = decimal::location(text);
+    let answer = double::location(text);
     match answer {
         LocationAnswer::Is(c) => (c.count == count) & ((c.x == x) & ((c.y == y) & (c.z == z))),
         LocationAnswer::Refused(_) => false,
@@ -56,7 +56,7 @@ fn location_is(text: &[u8], count: u32, x: f64, y: f64, z: f64) -> bool {
 }
 
 fn location_refused(text: &[u8], number: u32) -> bool {
-    let answer = decimal::location(text);
+    let answer = double::location(text);
     match answer {
         LocationAnswer::Is(_) => false,
         LocationAnswer::Refused(r) => {
@@ -120,7 +120,7 @@ fn strings_are(area: &[u8], count: usize) -> bool {
 
 // The number that a file is refused by, or 0.
 fn refused_by(file: &[u8]) -> u32 {
-    let v = block::check(file, file.len(), false);
+    let v = image::check(file, file.len(), false);
     match v {
         Verdict::Accepted => 0,
         Verdict::Refused(r) => {

@@ -21,8 +21,8 @@ use Rattle.encode.specs.declared.Fit.the-variants.{All, At}
 use Rattle.sheet.specs.declared.Measured.{Measured}
 use Rattle.sheet.specs.declared.Measured.the-variants as measured
 use Rattle.sheet.specs.Area.{measuredOf}
-use Rattle.block.specs.Head.{highFirst, roomOf, countOf, stringEnd, lineEnd}
-use Rattle.block.specs.Image.{checkOf}
+use Rattle.head.specs.Head.{highFirst, roomOf, countOf, stringEnd, lineEnd}
+use Rattle.image.specs.Image.{checkOf}
 use Rattle.writer.specs.declared.Written.{Written}
 use Rattle.writer.specs.declared.Written.the-variants.{To, Refused}
 use Rattle.writer.specs.Layout.{nul, lineFeed, startImage, startSize, Trace, Samples, fitting, unfit, traceSize, traceBytes}

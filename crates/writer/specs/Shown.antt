@@ -25,11 +25,12 @@ use Rattle.sheet.specs.declared.Measured.{Measured}
 use Rattle.sheet.specs.declared.Measured.the-variants as measured
 use Rattle.sheet.specs.Area.{areaSize, measuredOf}
 use Rattle.sheet.specs.Spelling.{measured-size}
-use Rattle.block.specs.Head.{highFirst, roomOf, countOf, stringEnd, lineEnd, refused}
-use Rattle.block.specs.HeadLaws.{Headed, neither, join-neither}
-use Rattle.block.specs.Image.{imageOf, badLength, checkOf}
-use Rattle.block.specs.ImageLaws.{refused-not, long-enough}
-use Rattle.block.specs.Accepted.{image-headed}
+use Rattle.head.specs.Head.{highFirst, roomOf, countOf, stringEnd, lineEnd, refused}
+use Rattle.refusal.specs.Tests.{neither, join-neither, refused-not}
+use Rattle.head.specs.HeadLaws.{Headed}
+use Rattle.image.specs.Image.{imageOf, badLength, checkOf}
+use Rattle.image.specs.ImageLaws.{long-enough}
+use Rattle.image.specs.Accepted.{image-headed}
 use Rattle.writer.specs.declared.Written.{Written}
 use Rattle.writer.specs.declared.Written.the-variants.{To, Refused}
 use Rattle.writer.specs.Layout.{nul, lineFeed, startImage, startSize, Trace, Samples, fitting, unfit}

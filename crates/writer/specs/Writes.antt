@@ -30,10 +30,12 @@ use Rattle.sheet.specs.declared.Measured.the-variants as measured
 use Rattle.sheet.specs.Area.{areaOf, areaSize, measuredOf}
 use Rattle.sheet.specs.Sizes.{length-area}
 use Rattle.sheet.specs.Spelling.{measured-size}
-use Rattle.block.specs.Head.{highFirst, roomOf, countOf, terminatorAt, stringEnd, lineEnd, goodTerminator}
-use Rattle.block.specs.HeadLaws.{good-most, neither}
-use Rattle.block.specs.Image.{checkOf, fileBlockOf}
-use Rattle.block.specs.declared.FileBlock.{FileBlock}
+use Rattle.head.specs.Head.{highFirst, roomOf, countOf, terminatorAt, stringEnd, lineEnd, goodTerminator}
+use Rattle.refusal.specs.Tests.{neither}
+use Rattle.head.specs.HeadLaws.{good-most}
+use Rattle.head.specs.Head.{fileBlockOf}
+use Rattle.image.specs.Image.{checkOf}
+use Rattle.head.specs.declared.FileBlock.{FileBlock}
 use Rattle.writer.specs.declared.Written.{Written}
 use Rattle.writer.specs.declared.Written.the-variants.{To, Refused}
 use Rattle.writer.specs.Layout.{orderMark, plainEnds, nul, lineFeed, fileBlock, startImage, startSize, Trace, Samples, integers, patterns, ofIntegers, ofPatterns, count, fitting, unfit, samplesData, traceBlock, dataBytes, traceSize, traceBytes}

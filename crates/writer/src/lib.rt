@@ -145,12 +145,12 @@ pub fn start(buffer: &mut [u8], order: usize, slots: usize, sheet: &[u8]) -> Wri
 fn opened(buffer: &[u8], length: usize, sheet: &[u8]) -> Measured
     ensures { λ r. ⌜ r ≡ openedOf (now (buffer .entry)) length (now (sheet .entry)) ⌝ }
 {
-    let v = block::check(buffer, length, true);
+    let v = image::check(buffer, length, true);
     if let Verdict::Refused(r) = v {
         return Measured::Refused(r);
     }
     let f = &buffer[..length];
-    let b = block::file_block(f);
+    let b = head::file_block(f);
     if b.m < 4 * b.n + 4 {
         return Measured::Refused(Refusal {
             rule: Rule::NoSlot,
@@ -158,7 +158,7 @@ fn opened(buffer: &[u8], length: usize, sheet: &[u8]) -> Measured
             place: 0,
         });
     }
-    sheet::measure(sheet, block::terminator(f, 8), block::terminator(f, 11))
+    sheet::measure(sheet, head::terminator(f, 8), head::terminator(f, 11))
 }
 
 fn wrong(rule: Rule, place: usize) -> Verdict
@@ -361,7 +361,7 @@ fn grow_integers(buffer: &mut [u8], length: usize, sheet: &[u8], size: usize, co
     requires { ⌜ Growing (now buffer) length (now sheet) size (ofIntegers (now sheet) code (now row)) ⌝ }
     ensures { λ _. ⌜ now (buffer .exit) ≡ grown (now (buffer .entry)) length (ofIntegers (now (sheet .entry)) code (now (row .entry))) ⌝ }
 {
-    let b = block::file_block(&buffer[..length]);
+    let b = head::file_block(&buffer[..length]);
     let at = word::round_up(length);
     let t = [buffer[9], buffer[10]];
     let u = [buffer[12], buffer[13]];
@@ -376,7 +376,7 @@ fn grow_bits(buffer: &mut [u8], length: usize, sheet: &[u8], size: usize, code: 
     requires { ⌜ Growing (now buffer) length (now sheet) size (ofPatterns (now sheet) code (now row)) ⌝ }
     ensures { λ _. ⌜ now (buffer .exit) ≡ grown (now (buffer .entry)) length (ofPatterns (now (sheet .entry)) code (now (row .entry))) ⌝ }
 {
-    let b = block::file_block(&buffer[..length]);
+    let b = head::file_block(&buffer[..length]);
     let at = word::round_up(length);
     let t = [buffer[9], buffer[10]];
     let u = [buffer[12], buffer[13]];

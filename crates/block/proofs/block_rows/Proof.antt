@@ -1,7 +1,7 @@
 -- `block::block_rows` meets its contract. Each answer is the first row whose test holds. Assumes nothing.
 use mathlib.Core.Path.{sym, _∙_}
 use borrow.Author.Tests.{eq-eqb, ne-eqb}
-use Rattle.block.specs.Image.{markAt, blockSize, dataSize, sampleCount, formatCode, blockOf}
+use Rattle.block.specs.Block.{markAt, blockSize, dataSize, sampleCount, formatCode, blockOf}
 use borrow.Author.Needs.{needs}
 use Rattle.block.proofs.block_rows.Statement.{statement}
 use Rattle.block.proofs.block_rows.Tie as tie

@@ -1,5 +1,5 @@
 -- `block::pointer` meets its contract. Assumes nothing.
-use Rattle.block.specs.Image.{pointerOf}
+use Rattle.block.specs.Block.{pointerOf}
 use borrow.Author.Needs.{needs}
 use Rattle.block.proofs.pointer.Statement.{statement}
 use Rattle.block.proofs.pointer.Tie as tie

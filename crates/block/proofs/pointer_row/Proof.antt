@@ -1,6 +1,6 @@
 -- `block::pointer_row` meets its contract. Assumes nothing.
 use mathlib.Core.Path.{sym, _∙_}
-use Rattle.block.specs.Image.{pointerRow}
+use Rattle.block.specs.Block.{pointerRow}
 use borrow.Author.Needs.{needs}
 use Rattle.block.proofs.pointer_row.Statement.{statement}
 use Rattle.block.proofs.pointer_row.Tie as tie

@@ -1,5 +1,5 @@
 -- `block::trace_block` meets its contract. Assumes nothing.
-use Rattle.block.specs.Image.{blockSize, dataSize, sampleCount, formatCode, traceBlockOf}
+use Rattle.block.specs.Block.{blockSize, dataSize, sampleCount, formatCode, traceBlockOf}
 use borrow.Author.Needs.{needs}
 use Rattle.block.proofs.trace_block.Statement.{statement}
 use Rattle.block.proofs.trace_block.Tie as tie

@@ -1,9 +1,9 @@
 -- `decimal::made` meets its contract: at most 18 digits fit 64 bits, and at most 2 stay below a hundred. Assumes nothing.
 use Prim.Native.Nat.{_<_}
 use native.Mathlib.Omega.{arith}
+use Rattle.word.specs.Signed.{kept}
 use borrow.Author.Needs.{needs}
 use Rattle.decimal.specs.Number.{decimalOf, room-none, room-behind, two-digits}
-use Rattle.decimal.proofs.Pattern.{kept}
 use Rattle.decimal.proofs.made.Statement.{statement}
 use Rattle.decimal.proofs.made.Tie as tie
 

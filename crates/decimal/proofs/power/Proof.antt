@@ -1,8 +1,8 @@
 -- `decimal::power` meets its contract: a law for each of the three cases. Assumes nothing.
 use mathlib.Core.Path.{_∙_}
+use Rattle.word.specs.Signed.{kept}
 use borrow.Author.Needs.{needs}
 use Rattle.decimal.specs.Power.{power-down, power-less, power-more}
-use Rattle.decimal.proofs.Pattern.{kept}
 use Rattle.decimal.proofs.power.Statement.{statement}
 use Rattle.decimal.proofs.power.Tie as tie
 

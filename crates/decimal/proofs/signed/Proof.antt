@@ -1,8 +1,8 @@
 -- `decimal::signed` meets its contract. Assumes nothing.
+use Rattle.word.specs.Signed.{negates, negated}
 use borrow.Author.Needs.{needs}
 use mir.Syntax.{w32}
 use mir.Facts.{toZ-pos}
-use Rattle.decimal.proofs.Pattern.{negates, negated}
 use Rattle.decimal.proofs.signed.Statement.{statement}
 use Rattle.decimal.proofs.signed.Tie as tie
 

@@ -2,8 +2,8 @@
 use mathlib.Core.Path.{sym}
 use Prim.Native.Nat.{_-_}
 use native.Mathlib.Omega.{arith}
-use Rattle.word.specs.Signed.{kept, sign}
-use Rattle.encode.proofs.Signs.{flips, minus-bits, plus-size, plus-bits}
+use Rattle.word.specs.Signed.{kept, sign, flips, plus-size}
+use Rattle.encode.proofs.Signs.{minus-bits, plus-bits}
 use Rattle.encode.proofs.bits.Statement.{statement}
 use Rattle.encode.proofs.bits.Tie as tie
 

@@ -3,8 +3,7 @@ use mathlib.Core.Path.{sym}
 use Prim.Native.Nat.{_-_}
 use native.Mathlib.Omega.{arith}
 use borrow.Author.Needs.{needs}
-use Rattle.word.specs.Signed.{kept, sign}
-use Rattle.encode.proofs.Signs.{flips, minus-size, plus-size}
+use Rattle.word.specs.Signed.{kept, sign, flips, minus-size, plus-size}
 use Rattle.encode.proofs.magnitude.Statement.{statement}
 use Rattle.encode.proofs.magnitude.Tie as tie
 

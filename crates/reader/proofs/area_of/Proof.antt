@@ -3,7 +3,7 @@ use mathlib.Core.Path.{sym, ap, _∙_}
 use native.Mathlib.Omega.{arith}
 use lib.IntN.{ℤ}
 use borrow.Author.Needs.{needs}
-use Rattle.block.specs.Head.{countOf}
+use Rattle.head.specs.Head.{countOf}
 use Rattle.reader.specs.Reach.{whose-trace, some-trace, pointer-slot, trace-pointed}
 use Rattle.reader.specs.Leaves.{area-whole, area-one}
 use Rattle.reader.specs.Questions.{whoseOf, areaOf}

@@ -2,8 +2,8 @@
 use mathlib.Core.Path.{sym, _∙_}
 use lib.IntN.{ℤ}
 use borrow.Author.Needs.{needs}
-use Rattle.decimal.specs.Double.{doubleOf}
-use Rattle.decimal.specs.declared.DoubleAnswer.the-variants as double
+use Rattle.double.specs.Double.{doubleOf}
+use Rattle.double.specs.declared.DoubleAnswer.the-variants as double
 use Rattle.reader.specs.Reach.{find-lent, value-made}
 use Rattle.reader.specs.Questions.{findAnswer, doubleAnswer}
 use Rattle.word.specs.Signed.{handed}

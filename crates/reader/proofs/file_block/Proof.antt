@@ -2,7 +2,7 @@
 use mathlib.Core.Path.{sym, _∙_}
 use native.Mathlib.Omega.{arith}
 use borrow.Author.Needs.{needs}
-use Rattle.block.specs.Image.{fileBlockOf}
+use Rattle.head.specs.Head.{fileBlockOf}
 use Rattle.reader.specs.Reach.{checked}
 use Rattle.reader.specs.Questions.{fileAnswer}
 use Rattle.reader.proofs.file_block.Statement.{statement}

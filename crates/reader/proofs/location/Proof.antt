@@ -2,8 +2,8 @@
 use mathlib.Core.Path.{sym, _∙_}
 use lib.IntN.{ℤ}
 use borrow.Author.Needs.{needs}
-use Rattle.decimal.specs.Location.{locationOf}
-use Rattle.decimal.specs.declared.LocationAnswer.the-variants as location
+use Rattle.double.specs.Location.{locationOf}
+use Rattle.double.specs.declared.LocationAnswer.the-variants as location
 use Rattle.reader.specs.Reach.{find-lent, value-made}
 use Rattle.reader.specs.Questions.{findAnswer, locationAnswer}
 use Rattle.word.specs.Signed.{handed}

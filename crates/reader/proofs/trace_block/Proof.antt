@@ -4,7 +4,7 @@ use native.Mathlib.Omega.{arith}
 use lib.IntN.{ℤ}
 use lib.ListN.{take}
 use borrow.Author.Needs.{needs}
-use Rattle.block.specs.Head.{countOf}
+use Rattle.head.specs.Head.{countOf}
 use Rattle.reader.specs.Reach.{checked, whose-trace, pointer-slot, trace-pointed}
 use Rattle.reader.specs.Questions.{whoseOf, traceAnswer}
 use Rattle.word.specs.Signed.{handed}

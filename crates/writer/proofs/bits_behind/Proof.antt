@@ -5,7 +5,7 @@ use Rattle.writer.specs.Layout.{ofPatterns, count}
 use Rattle.writer.specs.LayoutLaws.{kinded}
 use Rattle.writer.specs.Shown.{opened, samples-fit}
 use Rattle.writer.specs.Writes.{add-unfit, add-long, add-full, add-fits, new-end, growing}
-use Rattle.block.specs.HeadLaws.{neither}
+use Rattle.refusal.specs.Tests.{neither}
 use Rattle.word.specs.Bytes.{each-bytes}
 use borrow.Author.Tests.{ltb-false}
 use Rattle.sheet.specs.Spelling.{measured-size}

@@ -1,0 +1,30 @@
+-- `double::magnitude` meets its contract. Below zero, the flipped bits are one less than the magnitude, for the least number too.
+-- Assumes nothing.
+use mathlib.Core.Path.{sym}
+use native.Mathlib.Omega.{arith}
+use Rattle.word.specs.Signed.{kept, sign, flips, minus-size, plus-size}
+use borrow.Author.Needs.{needs}
+use Rattle.double.proofs.magnitude.Statement.{statement}
+use Rattle.double.proofs.magnitude.Tie as tie
+
+pub magnitude-spec : {M : Type 1} → statement M
+magnitude-spec =
+    tie.close
+    (tie.spec
+    (λ c.
+    let z = c .before .args .z in
+    let f = c .before .fits .z .sfits in
+    rw (flips z f (sign z f (c .if1 .taken))) (tt, record { fits = omega arith }))
+    (λ c.
+    let z = c .before .args .z in
+    let f = c .before .fits .z .sfits in
+    rw (flips z f (sign z f (c .if1 .taken))) (omega arith))
+    (λ c.
+    let z = c .before .args .z in
+    let f = c .before .fits .z .sfits in
+    rw (kept z f) (plus-size z f (sign z f (c .if1 .left))))
+    (λ c.
+    let z = c .before .args .z in
+    let f = c .before .fits .z .sfits in
+    rw (flips z f (sign z f (c .if1 .taken))) (sym (minus-size z (sign z f (c .if1 .taken)))))
+    (λ c. search needs))

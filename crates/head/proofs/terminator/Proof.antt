@@ -1,0 +1,21 @@
+-- `head::terminator` meets its contract. A good terminator has at most two characters. Assumes nothing.
+use Rattle.head.specs.Head.{terminatorAt}
+use Rattle.head.specs.HeadLaws.{good-most}
+use borrow.Author.Needs.{needs}
+use native.Mathlib.Omega.{arith}
+use Rattle.head.proofs.terminator.Statement.{statement}
+use Rattle.head.proofs.terminator.Tie as tie
+
+pub terminator-spec : {M : Type 1} → statement M
+unfolding terminatorAt
+terminator-spec =
+    tie.close
+    (tie.spec
+    (λ c. search needs)
+    (λ c. search needs)
+    (λ c κs. search needs)
+    (λ c. search needs)
+    (λ c. search needs)
+    (λ c. search needs)
+    (λ c. let m = good-most _ _ (c .before .before .before .pre .1) in omega (arith, m .1, c .wide .ensures .0, c .before .before .before .pre .0))
+    (λ c. rw (c .before .wide .ensures .0)))

@@ -1,0 +1,95 @@
+-- The file block (document 01, "The file block" and rows 2 to 7). f is the image: the bytes that are the file.
+-- Assumes nothing.
+use mathlib.Core.Bool.{Bool, not, _&&_, _||_}
+use mathlib.Core.List.{List, [], _∷_}
+use Prim.Native.Nat.{ℕ, _+_, _/_, _%_}
+use lib.ListN.{length, getD}
+use lib.Dec.{ltb, leb, eqb}
+use Rattle.word.specs.Part.{part}
+use Rattle.word.specs.Word.{wordAt}
+use Rattle.refusal.specs.declared.Rule.{Rule}
+use Rattle.refusal.specs.declared.Rule.the-variants.{FirstBytes, Revision, PointerRoom, TraceCount, Terminator, RoomEnd}
+use Rattle.refusal.specs.declared.Part.the-variants.{File}
+use Rattle.refusal.specs.declared.Verdict.{Verdict}
+use Rattle.refusal.specs.declared.Verdict.the-variants.{Accepted, Refused}
+use Rattle.refusal.specs.Table.{refusal}
+use Rattle.refusal.specs.Rows.{Rows, first}
+use Rattle.text.specs.Runs.{all}
+use Rattle.head.specs.declared.FileBlock.{FileBlock}
+
+-- ---- what stands in the first 32 bytes
+
+-- "bytes 0 and 1: 55 3A is low byte first, 3A 55 high byte first"
+abbrev pub known : List ℕ → Bool
+known f = (eqb (getD f 0 0) 85 && eqb (getD f 1 0) 58) || (eqb (getD f 0 0) 58 && eqb (getD f 1 0) 85)
+
+unfoldable pub highFirst : List ℕ → Bool
+highFirst f = eqb (getD f 0 0) 58
+
+-- "Bytes 2-3 revision, 4-5 M (size of the pointer room), 6-7 N (traces)"
+unfoldable pub revisionOf : List ℕ → ℕ
+revisionOf f = wordAt 2 (highFirst f) f 2
+
+unfoldable pub roomOf : List ℕ → ℕ
+roomOf f = wordAt 2 (highFirst f) f 4
+
+unfoldable pub countOf : List ℕ → ℕ
+countOf f = wordAt 2 (highFirst f) f 6
+
+-- "8 length of the string terminator with characters in 9-10, 11 length of the line terminator with characters in 12-13": the one whose length
+-- stands at a place. The unused second byte of a one-byte terminator is ignored
+unfoldable pub terminatorAt : List ℕ → ℕ → List ℕ
+terminatorAt f at = part (at + 1) (at + 1 + getD f at 0) f
+
+abbrev pub stringEnd : List ℕ → List ℕ
+stringEnd f = terminatorAt f 8
+
+abbrev pub lineEnd : List ℕ → List ℕ
+lineEnd f = terminatorAt f 11
+
+-- "each terminator's length is 1 or 2 (any other is bad), the used terminator characters are 0 to 31, neither terminator uses tab (9)"
+abbrev pub control : ℕ → Bool
+control c = leb c 31 && not (eqb c 9)
+
+unfoldable pub goodTerminator : List ℕ → ℕ → Bool
+goodTerminator f at = (eqb (getD f at 0) 1 || eqb (getD f at 0) 2) && all control (terminatorAt f at)
+
+-- "and the two share no character"
+abbrev pub lacks : List ℕ → ℕ → Bool
+lacks u b = all (λ x. not (eqb x b)) u
+
+unfoldable pub apart : List ℕ → List ℕ → Bool
+apart t u = all (lacks u) t
+
+-- ---- rows 2 to 7. An addition also takes an image with N=0: `grow` says so
+
+abbrev pub badRoom : ℕ → Bool
+badRoom m = ltb m 4 || not (eqb (m % 4) 0)
+
+abbrev pub badCount : Bool → ℕ → ℕ → Bool
+badCount grow m n = (eqb n 0 && not grow) || ltb (m / 4) n
+
+abbrev pub badLines : List ℕ → Bool
+badLines f = not (goodTerminator f 11) || not (apart (stringEnd f) (lineEnd f))
+
+abbrev pub refused : Rule → ℕ → Verdict
+refused r at = Refused (refusal r File at)
+
+abbrev pub headRows : Bool → List ℕ → Rows Verdict
+headRows grow f =
+    (not (known f), refused FirstBytes 0)
+    ∷ (not (eqb (revisionOf f) 1), refused Revision 2)
+    ∷ (badRoom (roomOf f), refused PointerRoom 4)
+    ∷ (badCount grow (roomOf f) (countOf f), refused TraceCount 6)
+    ∷ (not (goodTerminator f 8), refused Terminator 8)
+    ∷ (badLines f, refused Terminator 11)
+    ∷ (ltb (length f) (32 + roomOf f), refused RoomEnd 4)
+    ∷ []
+
+unfoldable pub headOf : Bool → List ℕ → Verdict
+headOf grow f = first (headRows grow f) Accepted
+
+-- ---- the block as an answer
+
+unfoldable pub fileBlockOf : List ℕ → FileBlock
+fileBlockOf f = record { high = highFirst f; m = roomOf f; n = countOf f }

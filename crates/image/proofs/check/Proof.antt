@@ -1,0 +1,20 @@
+-- `image::check` meets its contract. The image is the first bytes of the buffer. Assumes nothing.
+use mathlib.Core.Path.{sym, _∙_}
+use lib.ListN.{length}
+use lib.Seq.{length-take-le}
+use Rattle.image.specs.Image.{checkOf}
+use Rattle.image.specs.ImageLaws.{long-enough}
+use borrow.Author.Needs.{needs}
+use Rattle.image.proofs.check.Statement.{statement}
+use Rattle.image.proofs.check.Tie as tie
+
+pub check-spec : {M : Type 1} → statement M
+unfolding checkOf
+check-spec =
+    tie.close
+    (tie.spec
+    (λ c κs. search needs)
+    (λ c. c .refusing .ensures ∙ rw (c .before .if1 .taken))
+    (λ c. let l = long-enough (length (c .before .before .before .args .buffer .now)) (c .before .before .before .args .length) (c .before .if1 .left) in sym (length-take-le _ _ (l .2)))
+    (λ c κs. let l = long-enough (length (c .before .before .before .args .buffer .now)) (c .before .before .before .args .length) (c .before .if1 .left) in rw (length-take-le (c .before .before .before .args .length) (c .before .before .before .args .buffer .now) (l .2)) (l .0))
+    (λ c. c .image .ensures ∙ rw (c .before .before .if1 .left)))

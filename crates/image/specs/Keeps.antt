@@ -1,0 +1,65 @@
+-- The rules of a file in the format's own words, and in no order of checking (document 01, "The file block", "The trace block", "Strings").
+-- f is the image.
+-- Assumes nothing.
+use mathlib.Core.Path.{_≡_}
+use mathlib.Core.Bool.{Bool, true}
+use mathlib.Core.List.{List}
+use mathlib.Core.Logic.{_⊎_}
+use Prim.Native.Nat.{ℕ, zero, suc, _+_, _*_, _%_, _≤_, _<_}
+use lib.ListN.{length, getD}
+use lib.Dec.{eqb}
+use Rattle.word.specs.Part.{part}
+use Rattle.refusal.specs.Rows.{pick}
+use Rattle.sample.specs.Needed.{needed}
+use Rattle.text.specs.Runs.{all}
+use Rattle.strings.specs.Spelled.{Str, Spells}
+use Rattle.head.specs.Head.{highFirst, revisionOf, roomOf, countOf, terminatorAt, stringEnd, lineEnd, control, apart}
+use Rattle.block.specs.Block.{pointerOf, markAt, blockSize, dataSize, sampleCount, formatCode, dataAt, endAt}
+
+-- where the trace k begins, and where what stands before it ends: the pointer room before the first, then the data of the trace before
+abbrev pub traceAt : List ℕ → ℕ → ℕ
+traceAt f k = pointerOf (highFirst f) f k
+
+unfoldable pub endBefore : List ℕ → ℕ → ℕ
+endBefore f zero = 32 + roomOf f
+endBefore f (suc k) = endAt (highFirst f) f (traceAt f k)
+
+-- "The file's strings fill the bytes from 32+M to the first pointer"; "With N=0 the file's strings run to the image's end"
+abbrev pub stringsEnd : List ℕ → ℕ
+stringsEnd f = pick (eqb (countOf f) 0) (length f) (traceAt f 0)
+
+-- the bytes from a to e spell a list of strings
+abbrev pub Strings : List ℕ → ℕ → ℕ → Type 0
+Strings f a e = (ss : List Str) × Spells (highFirst f) (stringEnd f) (lineEnd f) ss (part a e f)
+
+-- the terminator whose length stands at a place
+pub record KeepsTerminator (f : List ℕ) (at : ℕ) : Type 0 where
+  pub size : (getD f at 0 ≡ 1) ⊎ (getD f at 0 ≡ 2)
+  pub characters : all control (terminatorAt f at) ≡ true
+
+pub record KeepsTrace (f : List ℕ) (k : ℕ) : Type 0 where
+  pub aligned : traceAt f k % 4 ≡ 0
+  pub behind : endBefore f k ≤ traceAt f k
+  pub mark : markAt (highFirst f) f (traceAt f k) ≡ 17442
+  pub least : 32 ≤ blockSize (highFirst f) f (traceAt f k)
+  pub whole : blockSize (highFirst f) f (traceAt f k) % 4 ≡ 0
+  pub samples-whole : dataSize (highFirst f) f (traceAt f k) % 4 ≡ 0
+  pub inside : dataAt (highFirst f) f (traceAt f k) + dataSize (highFirst f) f (traceAt f k) ≤ length f
+  pub code : (1 ≤ formatCode f (traceAt f k)) × (formatCode f (traceAt f k) ≤ 5)
+  pub groups : formatCode f (traceAt f k) ≡ 3 → sampleCount (highFirst f) f (traceAt f k) % 4 ≡ 0
+  pub samples : needed (formatCode f (traceAt f k)) (sampleCount (highFirst f) f (traceAt f k)) ≤ dataSize (highFirst f) f (traceAt f k)
+  pub strings : Strings f (traceAt f k + 32) (dataAt (highFirst f) f (traceAt f k))
+
+-- a file has a trace; an image that an addition takes (`grow`) may have none
+pub record Keeps (grow : Bool) (f : List ℕ) : Type 0 where
+  pub length : (32 ≤ lib.ListN.length f) × (lib.ListN.length f ≤ 67108864)
+  pub first : ((getD f 0 0 ≡ 85) × (getD f 1 0 ≡ 58)) ⊎ ((getD f 0 0 ≡ 58) × (getD f 1 0 ≡ 85))
+  pub revision : revisionOf f ≡ 1
+  pub room : (4 ≤ roomOf f) × (roomOf f % 4 ≡ 0) × (32 + roomOf f ≤ lib.ListN.length f)
+  pub some : countOf f ≡ 0 → grow ≡ true
+  pub count : 4 * countOf f ≤ roomOf f
+  pub string-end : KeepsTerminator f 8
+  pub line-end : KeepsTerminator f 11
+  pub ends-apart : apart (stringEnd f) (lineEnd f) ≡ true
+  pub strings : Strings f (32 + roomOf f) (stringsEnd f)
+  pub traces : (k : ℕ) → k < countOf f → KeepsTrace f k

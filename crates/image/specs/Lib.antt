@@ -1,0 +1,5 @@
+pub mod Image
+pub mod ImageLaws
+pub mod Keeps
+pub mod Accepted
+pub mod Broken

@@ -1,0 +1,29 @@
+-- Tests that are put together, and what an answer tells: the laws that the rows of every check use.
+-- Assumes nothing.
+use mathlib.Core.Path.{_≡_, refl}
+use mathlib.Core.Bool.{Bool, true, false, _&&_, _||_}
+use Prim.Native.Nat.{ℕ}
+use native.Mathlib.Omega.{arith}
+use Rattle.refusal.specs.declared.Refusal.{Refusal}
+use Rattle.refusal.specs.declared.Verdict.{Verdict}
+use Rattle.refusal.specs.declared.Verdict.the-variants.{Accepted, Refused}
+
+-- neither of two tests
+pub neither : (a b : Bool) → (a || b) ≡ false → (a ≡ false) × (b ≡ false)
+neither true b h = let z : _≡_ {A = ℕ} 0 1 = cc in absurd (omega arith)
+neither false b h = (refl, h)
+
+pub join-neither : (a b : Bool) → a ≡ false → b ≡ false → (a || b) ≡ false
+join-neither a b h k = rw (h, k)
+
+-- not both of two tests
+pub not-both : (a b : Bool) → (a && b) ≡ false → a ≡ true → b ≡ false
+not-both true b h e = h
+not-both false b h e = let z : _≡_ {A = ℕ} 0 1 = cc in absurd (omega arith)
+
+abbrev pub isAccepted : Verdict → Bool
+isAccepted Accepted = true
+isAccepted (Refused r) = false
+
+pub refused-not : (r : Refusal) → Refused r ≡ Accepted → ⊥
+refused-not r e = let z : _≡_ {A = ℕ} 0 1 = cc in omega arith
