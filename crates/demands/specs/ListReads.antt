@@ -11,7 +11,7 @@ use Rattle.refusal.specs.declared.Verdict.the-variants.{Accepted}
 use Rattle.word.specs.Part.{part}
 use Rattle.strings.specs.Spelled.{Spells}
 use Rattle.sheet.specs.Area.{stringsOf}
-use Rattle.sheet.specs.Spelling.{area-spells}
+use Rattle.area.specs.Spelling.{area-spells}
 use Rattle.head.specs.Head.{highFirst, roomOf, stringEnd, lineEnd}
 use Rattle.image.specs.Image.{checkOf}
 use Rattle.image.specs.Keeps.{traceAt}

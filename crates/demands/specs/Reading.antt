@@ -44,8 +44,8 @@ use Rattle.sheet.specs.declared.Measured.the-variants.{Size}
 use Rattle.sheet.specs.Lines.{linesOf}
 use Rattle.sheet.specs.Area.{joined, areaSize, stringsOf, measuredOf}
 use Rattle.sheet.specs.Paper.{sheetOf, GoodLines, accepted-lines}
-use Rattle.sheet.specs.Spelling.{measured-size}
-use Rattle.sheet.specs.Meaning.{Parted, lines-parted}
+use Rattle.area.specs.Spelling.{measured-size}
+use Rattle.area.specs.Meaning.{Parted, lines-parted}
 use Rattle.head.specs.Head.{highFirst, countOf}
 use Rattle.block.specs.Block.{dataAt, endAt}
 use Rattle.image.specs.Image.{checkOf}

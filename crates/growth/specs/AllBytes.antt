@@ -24,8 +24,9 @@ use Rattle.strings.specs.Spelled.{Str, Good, Rising, textOf, sizeOf, written, S
 use Rattle.encode.specs.Write.{flat, residue, fixedBytes, exponentsOf, mantissaOf, onesBits, wordsOf, groupBytes, groups, filledUp, integersData, bitsData}
 use Rattle.sheet.specs.declared.Measured.the-variants.{Size}
 use Rattle.sheet.specs.Area.{areaOf, areaSize, padding, stringsOf, textSize, measuredOf}
-use Rattle.sheet.specs.Spelling.{among, Terminators, terminators-end, area-spells}
-use Rattle.head.specs.Head.{control, highFirst, stringEnd, lineEnd}
+use Rattle.area.specs.Spelling.{among, Terminators, terminators-end, area-spells}
+use Rattle.text.specs.Chars.{control}
+use Rattle.head.specs.Head.{highFirst, stringEnd, lineEnd}
 use Rattle.writer.specs.Layout.{Trace, Samples, Samples.integers, Samples.patterns, count, fitting, samplesData, orderMark, plainEnds, nul, lineFeed, fileBlock, startImage, traceBlock, blockBytes, dataBytes, traceBytes}
 use Rattle.writer.specs.Answers.{newBytes, grown}
 use Rattle.writer.specs.Shown.{Added, Started}

@@ -11,7 +11,7 @@ use lib.Dec.{eqb}
 use borrow.Author.Tests.{eqb-true}
 use Rattle.word.specs.Part.{length-part}
 use Rattle.text.specs.Runs.{all, both}
-use Rattle.sheet.specs.Spelling.{among, Terminators, LineEnd, terminators-end}
+use Rattle.area.specs.Spelling.{among, Terminators, LineEnd, terminators-end}
 use Rattle.head.specs.Head.{terminatorAt, stringEnd, lineEnd, lacks, apart}
 use Rattle.image.specs.Keeps.{KeepsTerminator, Keeps}
 use Rattle.growth.specs.Kept.{short-terminator}

@@ -19,7 +19,7 @@ use Rattle.refusal.specs.declared.Verdict.the-variants.{Accepted}
 use Rattle.strings.specs.Spelled.{Str, textOf, sizeOf, written, Spells, Spells.empty, Spells.full}
 use Rattle.sheet.specs.Area as area
 use Rattle.sheet.specs.Area.{areaSize}
-use Rattle.sheet.specs.Spelling.{area-bounds, area-spells}
+use Rattle.area.specs.Spelling.{area-bounds, area-spells}
 use Rattle.head.specs.Head.{highFirst, roomOf, countOf, stringEnd, lineEnd}
 use Rattle.block.specs.Block.{dataSize, dataAt, endAt}
 use Rattle.image.specs.Image.{checkOf}

@@ -14,6 +14,7 @@ use Rattle.refusal.specs.declared.Verdict.{Verdict}
 use Rattle.refusal.specs.declared.Verdict.the-variants.{Accepted, Refused}
 use Rattle.refusal.specs.Table.{refusal}
 use Rattle.refusal.specs.Rows.{Rows, first}
+use Rattle.text.specs.Chars.{control}
 use Rattle.text.specs.Runs.{all}
 use Rattle.head.specs.declared.FileBlock.{FileBlock}
 
@@ -47,10 +48,7 @@ stringEnd f = terminatorAt f 8
 abbrev pub lineEnd : List ℕ → List ℕ
 lineEnd f = terminatorAt f 11
 
--- "each terminator's length is 1 or 2 (any other is bad), the used terminator characters are 0 to 31, neither terminator uses tab (9)"
-abbrev pub control : ℕ → Bool
-control c = leb c 31 && not (eqb c 9)
-
+-- "each terminator's length is 1 or 2 (any other is bad)", and its characters are a terminator's
 unfoldable pub goodTerminator : List ℕ → ℕ → Bool
 goodTerminator f at = (eqb (getD f at 0) 1 || eqb (getD f at 0) 2) && all control (terminatorAt f at)
 

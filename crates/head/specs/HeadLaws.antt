@@ -15,7 +15,8 @@ use Rattle.refusal.specs.Tests.{neither, join-neither, isAccepted}
 use Rattle.refusal.specs.Rows.{first, clear, through}
 use Rattle.refusal.specs.declared.Verdict.the-variants.{Accepted}
 use Rattle.text.specs.Runs.{all, both, more, none}
-use Rattle.head.specs.Head.{known, highFirst, revisionOf, roomOf, countOf, terminatorAt, stringEnd, lineEnd, control, goodTerminator, lacks, apart, headRows, headOf}
+use Rattle.text.specs.Chars.{control}
+use Rattle.head.specs.Head.{known, highFirst, revisionOf, roomOf, countOf, terminatorAt, stringEnd, lineEnd, goodTerminator, lacks, apart, headRows, headOf}
 
 -- ---- terminators of one and of two characters
 module _ (f : List ℕ) (at : ℕ) (fits : at + 3 ≤ length f) where

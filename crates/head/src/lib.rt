@@ -9,7 +9,8 @@ ghost use mathlib.Core.Path.{_≡_};
 ghost use mathlib.Core.Bool.{true};
 ghost use Prim.Native.Nat.{_+_, _≤_};
 ghost use lib.ListN.{length};
-ghost use Rattle.head.specs.Head.{known, highFirst, terminatorAt, control, goodTerminator, lacks, apart, badRoom, badCount, badLines, refused, headOf};
+ghost use Rattle.text.specs.Chars.{control};
+ghost use Rattle.head.specs.Head.{known, highFirst, terminatorAt, goodTerminator, lacks, apart, badRoom, badCount, badLines, refused, headOf};
 ghost use Rattle.head.specs.Head.{fileBlockOf};
 
 // ---- the file block

@@ -13,7 +13,8 @@ use Rattle.refusal.specs.Rows.{pick}
 use Rattle.sample.specs.Needed.{needed}
 use Rattle.text.specs.Runs.{all}
 use Rattle.strings.specs.Spelled.{Str, Spells}
-use Rattle.head.specs.Head.{highFirst, revisionOf, roomOf, countOf, terminatorAt, stringEnd, lineEnd, control, apart}
+use Rattle.text.specs.Chars.{control}
+use Rattle.head.specs.Head.{highFirst, revisionOf, roomOf, countOf, terminatorAt, stringEnd, lineEnd, apart}
 use Rattle.block.specs.Block.{pointerOf, markAt, blockSize, dataSize, sampleCount, formatCode, dataAt, endAt}
 
 -- where the trace k begins, and where what stands before it ends: the pointer room before the first, then the data of the trace before

@@ -4,6 +4,3 @@ pub mod Judging
 pub mod Sizes
 pub mod Counting
 pub mod Paper
-pub mod Spelling
-pub mod Writing
-pub mod Meaning

@@ -1,20 +1,17 @@
-// Sheets: strings as lines of text, checked, measured and written as an area (document 01, "What we write", rows 25 to 27).
-// A sheet is the bytes of its lines, each ended by 0Ah; t is the file's string terminator, u its line terminator, `high` its byte order.
+// Sheets: strings as lines of text, checked line by line and measured (document 01, "What we write", rows 25 to 27). Lines and Area have the
+// definitions, Paper the second view: a sheet is taken exactly where its lines keep the rules. Stands on `strings`, `text`, `word`, `refusal`.
+// A sheet is the bytes of its lines, each ended by 0Ah; t is the file's string terminator, u its line terminator.
 use refusal::Part;
 use refusal::Refusal;
 use refusal::Rule;
 use strings::Judged;
 ghost use mathlib.Core.Path.{_≡_};
-ghost use mathlib.Core.List.{_++_};
-ghost use Prim.Native.Nat.{_+_, _≤_, _<_};
+ghost use Prim.Native.Nat.{_+_, _≤_};
 ghost use lib.ListN.{length};
-ghost use Rattle.word.specs.Put.{put};
 ghost use Rattle.text.specs.Runs.{all};
-ghost use Rattle.strings.specs.Spelled.{sizeOf};
-ghost use Rattle.sheet.specs.Lines.{plain, lineLen, spaced, continues, judgedOf, stepOf, linesOf};
-ghost use Rattle.sheet.specs.Area.{strOf, noteOf, stringsOf, areaOf, measuredOf};
+ghost use Rattle.sheet.specs.Lines.{plain, lineLen, spaced, continues, judgedOf, stepOf};
+ghost use Rattle.sheet.specs.Area.{measuredOf};
 ghost use Rattle.sheet.specs.Sizes.{lineCost, capped};
-ghost use Rattle.sheet.specs.Writing.{stringBytes, textsOf, moreOf, lineAt, Noted, Headed, Writable};
 
 // A step over one line: past it, with its length and its keyword's; or the refusal.
 pub enum Step {
@@ -29,7 +26,7 @@ pub enum Measured {
 }
 
 // The length of the first line, without its end.
-fn line_len(s: &[u8]) -> usize
+pub fn line_len(s: &[u8]) -> usize
     ensures { λ r. ⌜ (r ≡ lineLen (now (s .entry))) × (r ≤ length (now (s .entry))) ⌝ }
 {
     let mut i: usize = 0;
@@ -193,104 +190,4 @@ pub fn measure(sheet: &[u8], t: &[u8], u: &[u8]) -> Measured
         });
     }
     Measured::Size(size)
-}
-
-// A line as a string of its own, stored from place `to` on; w is its keyword's length. Answers the place behind it.
-fn write_line(part: &mut [u8], high: bool, t: &[u8], l: &[u8], w: usize, to: usize) -> usize
-    requires { ⌜ (w < length (now l)) × (2 + length (now l) + length (now t) < 65536) × (to + (2 + length (now l) + length (now t)) ≤ length (now part)) ⌝ }
-    ensures { λ r. ⌜ (r ≡ to + (2 + length (now (l .entry)) + length (now (t .entry)))) × (now (part .exit) ≡ put (now (part .entry)) to (stringBytes high (now (t .entry)) (strOf (lineAt w (now (l .entry)))))) ⌝ }
-{
-    let n = 2 + l.len() + t.len();
-    let a = to + 2;
-    let b = a + w;
-    let c = b + 1;
-    let d = a + l.len();
-    let from = w + 1;
-    word::put2(part, high, to, n as u16);
-    word::copy(part, a, &l[..w]);
-    word::copy(part, b, b" ");
-    word::copy(part, c, &l[from..]);
-    word::copy(part, d, t);
-    to + n
-}
-
-// A further line of a NOTE: the line terminator and the value v. Answers the place behind it.
-fn write_more(part: &mut [u8], u: &[u8], v: &[u8], to: usize) -> usize
-    requires { ⌜ to + (length (now u) + length (now v)) ≤ length (now part) ⌝ }
-    ensures { λ r. ⌜ (r ≡ to + (length (now (u .entry)) + length (now (v .entry)))) × (now (part .exit) ≡ put (now (part .entry)) to (now (u .entry) ++ now (v .entry))) ⌝ }
-{
-    let a = to + u.len();
-    word::copy(part, to, u);
-    word::copy(part, a, v);
-    a + v.len()
-}
-
-// The further lines of a NOTE, of which s has nothing but. Answers the place behind them.
-fn write_lines(part: &mut [u8], u: &[u8], s: &[u8], to: usize) -> usize
-    requires { ⌜ Noted (now s) × (to + length (moreOf (now u) (linesOf (now s))) ≤ length (now part)) ⌝ }
-    ensures { λ r. ⌜ (r ≡ to + length (moreOf (now (u .entry)) (linesOf (now (s .entry))))) × (now (part .exit) ≡ put (now (part .entry)) to (moreOf (now (u .entry)) (linesOf (now (s .entry))))) ⌝ }
-{
-    let mut at: usize = 0;
-    let mut end = to;
-    while at < s.len() {
-        let n = line_len(&s[at..]);
-        let from = at + 5;
-        let e = at + n;
-        end = write_more(part, u, &s[from..e], end);
-        at = e + 1;
-    }
-    end
-}
-
-// A NOTE of all the lines of s, stored from place `to` on. Its offset is stored last: the lines are gone through once, and the place behind them tells
-// its size. Answers the place behind it.
-fn write_note(part: &mut [u8], high: bool, t: &[u8], u: &[u8], s: &[u8], to: usize) -> usize
-    requires { ⌜ Headed (now s) × (sizeOf (now t) (noteOf (now u) (linesOf (now s))) < 65536) × (to + sizeOf (now t) (noteOf (now u) (linesOf (now s))) ≤ length (now part)) ⌝ }
-    ensures { λ r. ⌜ (r ≡ to + sizeOf (now (t .entry)) (noteOf (now (u .entry)) (linesOf (now (s .entry))))) × (now (part .exit) ≡ put (now (part .entry)) to (stringBytes high (now (t .entry)) (noteOf (now (u .entry)) (linesOf (now (s .entry)))))) ⌝ }
-{
-    let n = line_len(s);
-    let a = to + 2;
-    let b = a + 5;
-    let c = a + n;
-    let from = n + 1;
-    word::copy(part, a, b"NOTE ");
-    word::copy(part, b, &s[5..n]);
-    let e = write_lines(part, u, &s[from..], c);
-    word::copy(part, e, t);
-    let end = e + t.len();
-    word::put2(part, high, to, (end - to) as u16);
-    end
-}
-
-// The strings of a sheet, one behind the other. Answers the place behind them.
-fn write_strings(part: &mut [u8], high: bool, t: &[u8], u: &[u8], sheet: &[u8]) -> usize
-    requires { ⌜ Writable (now t) (now u) (now sheet) (length (now part)) ⌝ }
-    ensures { λ r. ⌜ (r ≡ length (textsOf high (now (t .entry)) (stringsOf (now (u .entry)) (now (sheet .entry))))) × (now (part .exit) ≡ put (now (part .entry)) 0 (textsOf high (now (t .entry)) (stringsOf (now (u .entry)) (now (sheet .entry))))) ⌝ }
-{
-    let mut at: usize = 0;
-    let mut to: usize = 0;
-    while at < sheet.len() {
-        let n = line_len(&sheet[at..]);
-        let e = at + n;
-        let w = text::key_run(&sheet[at..e]);
-        let k = at + w;
-        if text::is_note(&sheet[at..k]) {
-            return write_note(part, high, t, u, &sheet[at..], to);
-        }
-        to = write_line(part, high, t, &sheet[at..e], w, to);
-        at = e + 1;
-    }
-    to
-}
-
-// The area of a sheet that `measure` gave a size, from the start of `part`, which has room for it; what is past it is left.
-pub fn write_area(part: &mut [u8], high: bool, t: &[u8], u: &[u8], sheet: &[u8])
-    requires { ⌜ Writable (now t) (now u) (now sheet) (length (now part)) ⌝ }
-    ensures { λ _. ⌜ now (part .exit) ≡ put (now (part .entry)) 0 (areaOf high (now (t .entry)) (now (u .entry)) (now (sheet .entry))) ⌝ }
-{
-    let to = write_strings(part, high, t, u, sheet);
-    let a = to + 2;
-    let e = word::round_up(a);
-    word::put2(part, high, to, 0);
-    word::zeros(part, a, e);
 }

@@ -23,6 +23,10 @@ keyChar b = (leb 33 b && leb b 96) || (leb 123 b && leb b 126)
 abbrev pub valueChar : ℕ → Bool
 valueChar b = (leb 32 b && leb b 126) || eqb b 9
 
+-- a terminator's characters "are 0 to 31, neither terminator uses tab (9)"
+abbrev pub control : ℕ → Bool
+control b = leb b 31 && not (eqb b 9)
+
 -- NOTE
 abbrev pub note : List ℕ
 note = 78 ∷ 79 ∷ 84 ∷ 69 ∷ []

@@ -19,7 +19,7 @@ use Rattle.encode.specs.Back.{length-integersData, length-bitsData}
 use Rattle.sheet.specs.declared.Measured.the-variants.{Size}
 use Rattle.sheet.specs.Area.{areaOf, areaSize, measuredOf}
 use Rattle.sheet.specs.Sizes.{length-area}
-use Rattle.sheet.specs.Spelling.{measured-size}
+use Rattle.area.specs.Spelling.{measured-size}
 use Rattle.head.specs.Head.{highFirst, revisionOf, roomOf, countOf, terminatorAt, stringEnd, lineEnd}
 use Rattle.block.specs.Block.{markAt, blockSize, dataSize, sampleCount, formatCode}
 use Rattle.writer.specs.Layout.{orderMark, plainEnds, nul, lineFeed, fileBlock, startImage, startSize, Trace, Samples, integers, patterns, count, fitting, samplesData, traceBlock, blockBytes, dataBytes, traceSize, traceBytes}

@@ -24,7 +24,7 @@ use Rattle.encode.specs.declared.Fit.the-variants.{All, At}
 use Rattle.sheet.specs.declared.Measured.{Measured}
 use Rattle.sheet.specs.declared.Measured.the-variants as measured
 use Rattle.sheet.specs.Area.{areaSize, measuredOf}
-use Rattle.sheet.specs.Spelling.{measured-size}
+use Rattle.area.specs.Spelling.{measured-size}
 use Rattle.head.specs.Head.{highFirst, roomOf, countOf, stringEnd, lineEnd, refused}
 use Rattle.refusal.specs.Tests.{neither, join-neither, refused-not}
 use Rattle.head.specs.HeadLaws.{Headed}

@@ -29,7 +29,7 @@ use Rattle.encode.specs.Write.{integersData, bitsData}
 use Rattle.sheet.specs.declared.Measured.the-variants as measured
 use Rattle.sheet.specs.Area.{areaOf, areaSize, measuredOf}
 use Rattle.sheet.specs.Sizes.{length-area}
-use Rattle.sheet.specs.Spelling.{measured-size}
+use Rattle.area.specs.Spelling.{measured-size}
 use Rattle.head.specs.Head.{highFirst, roomOf, countOf, terminatorAt, stringEnd, lineEnd, goodTerminator}
 use Rattle.refusal.specs.Tests.{neither}
 use Rattle.head.specs.HeadLaws.{good-most}

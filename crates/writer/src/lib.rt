@@ -18,7 +18,7 @@ ghost use Rattle.decode.specs.Sample.{integersAsked, bitsAsked};
 ghost use Rattle.encode.specs.Unfit.{unfitIntegers};
 ghost use Rattle.encode.specs.Write.{integersData, bitsData};
 ghost use Rattle.sheet.specs.Area.{areaOf, measuredOf};
-ghost use Rattle.sheet.specs.Writing.{Writable};
+ghost use Rattle.area.specs.Writing.{Writable};
 ghost use Rattle.writer.specs.Layout.{orderMark, plainEnds, nul, lineFeed, fileBlock, startImage, startSize, traceBlock, traceBytes};
 ghost use Rattle.refusal.specs.Table.{refusal};
 ghost use Rattle.writer.specs.Layout.{integers, patterns, ofIntegers, ofPatterns};
@@ -91,7 +91,7 @@ fn put_area(buf: &mut [u8], at: usize, high: bool, t: &[u8], u: &[u8], sheet: &[
     requires { ⌜ (at ≤ length (now buf)) × Writable (now t) (now u) (now sheet) (length (now buf) - at) ⌝ }
     ensures { λ _. ⌜ now (buf .exit) ≡ put (now (buf .entry)) at (areaOf high (now (t .entry)) (now (u .entry)) (now (sheet .entry))) ⌝ }
 {
-    sheet::write_area(&mut buf[at..], high, t, u, sheet);
+    area::write_area(&mut buf[at..], high, t, u, sheet);
 }
 
 // The image of a start.

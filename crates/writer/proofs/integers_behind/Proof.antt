@@ -8,7 +8,7 @@ use Rattle.writer.specs.Writes.{add-unfit, add-long, add-full, add-fits,
 use Rattle.refusal.specs.Tests.{neither}
 use Rattle.word.specs.Bytes.{each-bytes}
 use borrow.Author.Tests.{ltb-false}
-use Rattle.sheet.specs.Spelling.{measured-size}
+use Rattle.area.specs.Spelling.{measured-size}
 use borrow.Author.Needs.{needs}
 use native.Mathlib.Omega.{arith}
 use Rattle.writer.proofs.integers_behind.Statement.{statement}

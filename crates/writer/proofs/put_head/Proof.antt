@@ -1,7 +1,7 @@
 -- `writer::put_head` meets its contract. The block and its strings. Assumes nothing.
 use Rattle.word.specs.Put.{length-put}
-use Rattle.sheet.specs.Spelling.{measured-size}
-use Rattle.sheet.specs.Writing.{writable}
+use Rattle.area.specs.Spelling.{measured-size}
+use Rattle.area.specs.Writing.{writable}
 use Rattle.writer.specs.Writes.{head-put}
 use borrow.Author.Needs.{needs}
 use native.Mathlib.Omega.{arith}

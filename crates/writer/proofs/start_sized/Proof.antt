@@ -1,8 +1,8 @@
 -- `writer::start_sized` meets its contract. The maximum is out of reach, so the buffer alone decides row 30. Assumes nothing.
 use mathlib.Core.Path.{_∙_}
 use Rattle.writer.specs.Writes.{start-full, start-fits}
-use Rattle.sheet.specs.Spelling.{measured-size}
-use Rattle.sheet.specs.Writing.{writable}
+use Rattle.area.specs.Spelling.{measured-size}
+use Rattle.area.specs.Writing.{writable}
 use borrow.Author.Needs.{needs}
 use native.Mathlib.Omega.{arith}
 use Rattle.writer.proofs.start_sized.Statement.{statement}

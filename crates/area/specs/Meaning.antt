@@ -18,11 +18,11 @@ use Rattle.text.specs.Order.{less, rises}
 use Rattle.text.specs.Note as Note
 use Rattle.text.specs.Note.{starts, starts-front, withEnds}
 use Rattle.strings.specs.Spelled.{Str, written}
 use Rattle.sheet.specs.declared.Measured.the-variants.{Size}
 use Rattle.sheet.specs.Lines.{Line, plain, lineLen, keyLen, continues, judgedOf, stepOf, checkFrom, linesVerdict, linesFrom, linesOf}
 use Rattle.sheet.specs.Area.{strOf, values, noteOf, joined, stringsOf, textSize, areaOf, areaSize, measuredOf}
 use Rattle.sheet.specs.Paper.{GoodLines}
-use Rattle.sheet.specs.Spelling.{LineEnd, Plains, plains-of, plain-value, note-next, area-bounds}
+use Rattle.area.specs.Spelling.{LineEnd, Plains, plains-of, plain-value, note-next, area-bounds}
 
 -- ---- before the first NOTE, and from it on
 

@@ -1,11 +1,11 @@
--- `sheet::write_area` meets its contract. Strings, end mark and zeros are the area. Assumes nothing.
+-- `area::write_area` meets its contract. Strings, end mark and zeros are the area. Assumes nothing.
 use mathlib.Core.Path.{refl}
 use Rattle.word.specs.Put.{length-put}
-use Rattle.sheet.specs.Writing.{texts-room, area-written}
+use Rattle.area.specs.Writing.{texts-room, area-written}
 use borrow.Author.Needs.{needs}
 use native.Mathlib.Omega.{arith}
-use Rattle.sheet.proofs.write_area.Statement.{statement}
-use Rattle.sheet.proofs.write_area.Tie as tie
+use Rattle.area.proofs.write_area.Statement.{statement}
+use Rattle.area.proofs.write_area.Tie as tie
 
 pub write-area-spec : {M : Type 1} → statement M
 write-area-spec =

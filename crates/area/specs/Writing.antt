@@ -18,12 +18,12 @@ use Rattle.text.specs.Chars.{keyChar, note}
 use Rattle.text.specs.Runs.{run, same, same-eq, same-refl}
 use Rattle.text.specs.Note.{withEnds}
 use Rattle.strings.specs.Spelled.{Str, textOf, sizeOf, written}
 use Rattle.sheet.specs.declared.Measured.the-variants.{Size}
 use Rattle.sheet.specs.Lines.{Line, lineLen, linesVerdict, linesOf}
 use Rattle.sheet.specs.Area.{strOf, values, noteOf, joined, stringsOf, textSize, padding, areaOf, areaSize, measuredOf}
 use Rattle.sheet.specs.Counting.{past-line, lines-none}
 use Rattle.sheet.specs.Paper.{bytesOfLine, sheetOf, GoodLine, GoodLines, long-line, good-line, good-key, after-line, line-key, lines-read, accepted-lines}
-use Rattle.sheet.specs.Spelling.{note-next, measured-size}
+use Rattle.area.specs.Spelling.{note-next, measured-size}
 
 -- ---- the bytes
 

@@ -1,11 +1,11 @@
--- `sheet::write_note` meets its contract. The stores make the string, the offset last. Assumes nothing.
+-- `area::write_note` meets its contract. The stores make the string, the offset last. Assumes nothing.
 use mathlib.Core.Path.{refl}
 use Rattle.word.specs.Part.{part-rest}
-use Rattle.sheet.specs.Writing.{note-at, note-written}
+use Rattle.area.specs.Writing.{note-at, note-written}
 use borrow.Author.Needs.{needs}
 use native.Mathlib.Omega.{arith}
-use Rattle.sheet.proofs.write_note.Statement.{statement}
-use Rattle.sheet.proofs.write_note.Tie as tie
+use Rattle.area.proofs.write_note.Statement.{statement}
+use Rattle.area.proofs.write_note.Tie as tie
 
 pub write-note-spec : {M : Type 1} → statement M
 write-note-spec =

@@ -1,12 +1,12 @@
--- `sheet::write_line` meets its contract. The stores, one behind the other, are the string. Assumes nothing.
+-- `area::write_line` meets its contract. The stores, one behind the other, are the string. Assumes nothing.
 use mathlib.Core.Path.{refl, sym}
 use lib.Seq.{length-take-le}
 use Rattle.word.specs.Part.{part-rest}
-use Rattle.sheet.specs.Writing.{string-written}
+use Rattle.area.specs.Writing.{string-written}
 use borrow.Author.Needs.{needs}
 use native.Mathlib.Omega.{arith}
-use Rattle.sheet.proofs.write_line.Statement.{statement}
-use Rattle.sheet.proofs.write_line.Tie as tie
+use Rattle.area.proofs.write_line.Statement.{statement}
+use Rattle.area.proofs.write_line.Tie as tie
 
 pub write-line-spec : {M : Type 1} → statement M
 write-line-spec =

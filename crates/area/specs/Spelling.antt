@@ -17,25 +17,21 @@ use Rattle.refusal.specs.declared.Part.{Part}
 use Rattle.refusal.specs.declared.Part.the-variants.{File}
 use Rattle.refusal.specs.declared.Verdict.{Verdict}
 use Rattle.refusal.specs.declared.Verdict.the-variants.{Accepted, Refused}
-use Rattle.text.specs.Chars.{blank, valueChar, note, blank-value}
+use Rattle.text.specs.Chars.{blank, valueChar, control, note, blank-value}
 use Rattle.text.specs.Runs.{all, same, same-eq, both, Stops, all-weaker}
 use Rattle.text.specs.Order.{rises}
 use Rattle.text.specs.Note.{withEnds, valueOk, Lines, Lines.done, Lines.char, Lines.line, lines-accept}
 use Rattle.strings.specs.Strings as Strings
 use Rattle.strings.specs.Paper.{spelled-accepted}
 use Rattle.strings.specs.Spelled.{Good, Rising, sizeOf, Spells, Spells.full}
 use Rattle.sheet.specs.declared.Measured as measured
 use Rattle.sheet.specs.declared.Measured.the-variants.{Size}
 use Rattle.sheet.specs.Lines.{Line, plain, spaced, continues, linesVerdict, linesOf}
 use Rattle.sheet.specs.Area.{strOf, values, noteOf, joined, stringsOf, textSize, padding, areaOf, areaSize, sized, onVerdict, measuredOf}
 use Rattle.sheet.specs.Sizes.{length-area, textSize-low}
 use Rattle.sheet.specs.Paper.{sheetOf, GoodLine, GoodLines, good-accepted, lines-read, accepted-lines}
 
 -- ---- terminators (document 01, "The file block", house rule)
-
--- "the used terminator characters are 0 to 31, neither terminator uses tab (9)"
-abbrev pub control : ℕ → Bool
-control b = leb b 31 && not (eqb b 9)
 
 abbrev pub among : ℕ → List ℕ → Bool
 among b [] = false

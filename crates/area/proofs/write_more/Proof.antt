@@ -1,9 +1,9 @@
--- `sheet::write_more` meets its contract. Assumes nothing.
+-- `area::write_more` meets its contract. Assumes nothing.
 use mathlib.Core.Path.{refl, _∙_}
-use Rattle.sheet.specs.Writing.{put-then}
+use Rattle.area.specs.Writing.{put-then}
 use borrow.Author.Needs.{needs}
-use Rattle.sheet.proofs.write_more.Statement.{statement}
-use Rattle.sheet.proofs.write_more.Tie as tie
+use Rattle.area.proofs.write_more.Statement.{statement}
+use Rattle.area.proofs.write_more.Tie as tie
 
 pub write-more-spec : {M : Type 1} → statement M
 write-more-spec =
