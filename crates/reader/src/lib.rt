@@ -1,5 +1,6 @@
-// The questions on a file: blocks, strings, keywords, numbers in values, samples (document 01, rows 18, 32, 33). Every question checks the whole
-// file first; its answer is one of the image, the first `length` bytes of the lent buffer. A part is -1 for the file, else the trace.
+// The questions on a file: blocks, strings, keywords and numbers in values (document 01, rows 18, 20 to 23). Questions has the definitions, those of
+// samples too; Listed, Answers, First, Same and Reach are the second view. Every question checks the whole file first; its answer is one of the image,
+// the first `length` bytes of the lent buffer. A part is -1 for the file, else the trace. Stands on `image`, `lookup`, `double` and what they stand on.
 use block::TraceBlock;
 use double::DoubleAnswer;
 use double::LocationAnswer;
@@ -15,10 +16,10 @@ ghost use mathlib.Core.Bool.{false};
 ghost use Prim.Native.Nat.{_≤_};
 ghost use lib.ListN.{length};
 ghost use Rattle.refusal.specs.declared.Verdict.the-variants.{Accepted};
-ghost use Rattle.head.specs.Head.{countOf, refused};
+ghost use Rattle.head.specs.Head.{countOf};
 ghost use Rattle.image.specs.Image.{imageOf};
-ghost use Rattle.reader.specs.Questions.{noTrace, areaAsked, fileAnswer, traceAnswer, countAnswer, nthAnswer, findAnswer, keywordAnswer, valueThere, valueAnswer, numberAnswer, doubleAnswer, locationAnswer, ofIntegers, ofBits, kept, integersAnswer, integersLeft, bitsAnswer, patternsLeft, classesLeft, whoseOf};
-ghost use Rattle.reader.specs.Leaves.{openedOf, Within, Fits, integersTold, samplesTold, bitsTold, patternsTold, classesTold};
+ghost use Rattle.reader.specs.Questions.{noTrace, areaAsked, fileAnswer, traceAnswer, countAnswer, nthAnswer, findAnswer, keywordAnswer, valueThere, valueAnswer, numberAnswer, doubleAnswer, locationAnswer, whoseOf};
+ghost use Rattle.reader.specs.Leaves.{openedOf, Within};
 
 // Whom a part number names.
 pub enum Whose {
@@ -306,117 +307,4 @@ pub fn location(buffer: &[u8], length: usize, part: i32, key: &[u8]) -> Location
         return LocationAnswer::Refused(r);
     }
     double::location(value_at(buffer, s))
-}
-
-// ---- samples: rows 18, 33 and 32 in that order; then the data block alone, out of the middle of the file, is handed to the decoder
-
-// Codes 1 to 3.
-fn is_integers(code: u8) -> bool
-    ensures { λ r. ⌜ r ≡ ofIntegers code ⌝ }
-{
-    match code {
-        1 => true,
-        2 => true,
-        3 => true,
-        _ => false,
-    }
-}
-
-// Codes 4 and 5.
-fn is_bits(code: u8) -> bool
-    ensures { λ r. ⌜ r ≡ ofBits code ⌝ }
-{
-    match code {
-        4 => true,
-        5 => true,
-        _ => false,
-    }
-}
-
-// Rows 32 and 33: part -1, place 0.
-fn refusing(rule: Rule) -> Verdict
-    ensures { λ r. ⌜ r ≡ refused rule 0 ⌝ }
-{
-    Verdict::Refused(Refusal {
-        rule,
-        part: Part::File,
-        place: 0,
-    })
-}
-
-// The samples of the trace whose block is t, of an accepted image.
-fn integers_of(f: &[u8], t: TraceBlock, row: &mut [i32]) -> Verdict
-    requires { ⌜ (2 ≤ length (now f)) × Fits (length (now f)) t ⌝ }
-    ensures answer { λ r. ⌜ r ≡ integersTold t (length (now (row .entry))) ⌝ }
-    ensures row { λ _. ⌜ now (row .exit) ≡ kept (integersTold t (length (now (row .entry)))) (samplesTold (now (f .entry)) t) (now (row .entry)) ⌝ }
-{
-    let code = t.code;
-    let s = t.s;
-    if !is_integers(code) {
-        return refusing(Rule::CodeKind);
-    }
-    if row.len() != s {
-        return refusing(Rule::RowLength);
-    }
-    let p = t.p;
-    let b = t.b;
-    let d = t.d;
-    decode::read_integers(code, &f[p + b..p + b + d], head::is_high(f), row);
-    Verdict::Accepted // the row holds all S samples
-}
-
-// The samples of a trace of code 1 to 3, into a row of S numbers.
-pub fn integers(buffer: &[u8], length: usize, trace: i32, row: &mut [i32]) -> Verdict
-    ensures answer { λ r. ⌜ r ≡ integersAnswer (now (buffer .entry)) length trace (lib.ListN.length (now (row .entry))) ⌝ }
-    ensures row { λ _. ⌜ now (row .exit) ≡ integersLeft (now (buffer .entry)) length trace (now (row .entry)) ⌝ }
-{
-    let a = trace_block(buffer, length, trace);
-    match a {
-        TraceAnswer::Refused(r) => Verdict::Refused(r),
-        TraceAnswer::Is(t) => integers_of(&buffer[..length], t, row),
-    }
-}
-
-// The patterns of the trace whose block is t, and their classes.
-fn bits_of(f: &[u8], t: TraceBlock, row: &mut [u64], classes: &mut [u8]) -> Verdict
-    requires { ⌜ (2 ≤ length (now f)) × Fits (length (now f)) t ⌝ }
-    ensures answer { λ r. ⌜ r ≡ bitsTold t (length (now (row .entry))) (length (now (classes .entry))) ⌝ }
-    ensures row { λ _. ⌜ now (row .exit) ≡ kept (bitsTold t (length (now (row .entry))) (length (now (classes .entry)))) (patternsTold (now (f .entry)) t) (now (row .entry)) ⌝ }
-    ensures classes { λ _. ⌜ now (classes .exit) ≡ kept (bitsTold t (length (now (row .entry))) (length (now (classes .entry)))) (classesTold (now (f .entry)) t) (now (classes .entry)) ⌝ }
-{
-    let code = t.code;
-    let count = t.s;
-    if !is_bits(code) {
-        return refusing(Rule::CodeKind);
-    }
-    if row.len() != count {
-        return refusing(Rule::RowLength);
-    }
-    if classes.len() != count {
-        return refusing(Rule::RowLength);
-    }
-    let p = t.p;
-    let b = t.b;
-    let d = t.d;
-    decode::read_bits(code, &f[p + b..p + b + d], head::is_high(f), row, classes);
-    Verdict::Accepted
-}
-
-// The bit patterns of a trace of code 4 or 5 and their classes, into two rows of S elements.
-pub fn bits(
-    buffer: &[u8],
-    length: usize,
-    trace: i32,
-    row: &mut [u64],
-    classes: &mut [u8],
-) -> Verdict
-    ensures answer { λ r. ⌜ r ≡ bitsAnswer (now (buffer .entry)) length trace (lib.ListN.length (now (row .entry))) (lib.ListN.length (now (classes .entry))) ⌝ }
-    ensures row { λ _. ⌜ now (row .exit) ≡ patternsLeft (now (buffer .entry)) length trace (now (row .entry)) (now (classes .entry)) ⌝ }
-    ensures classes { λ _. ⌜ now (classes .exit) ≡ classesLeft (now (buffer .entry)) length trace (now (row .entry)) (now (classes .entry)) ⌝ }
-{
-    let a = trace_block(buffer, length, trace);
-    match a {
-        TraceAnswer::Refused(r) => Verdict::Refused(r),
-        TraceAnswer::Is(t) => bits_of(&buffer[..length], t, row, classes),
-    }
 }

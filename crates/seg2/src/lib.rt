@@ -543,7 +543,7 @@ pub extern "C" fn seg2_integers(
     ensures answer { λ r. ⌜ r ≡ verdictOf (integersAnswer (now (buffer .entry)) length trace (lib.ListN.length (now (row .entry)))) ⌝ }
     ensures row { λ _. ⌜ now (row .exit) ≡ integersLeft (now (buffer .entry)) length trace (now (row .entry)) ⌝ }
 {
-    told(reader::integers(buffer, length, trace, row))
+    told(traces::integers(buffer, length, trace, row))
 }
 
 // The bit patterns and the classes of the samples of a trace of code 4 or 5, into two rows of as many.
@@ -559,7 +559,7 @@ pub extern "C" fn seg2_bits(
     ensures row { λ _. ⌜ now (row .exit) ≡ patternsLeft (now (buffer .entry)) length trace (now (row .entry)) (now (classes .entry)) ⌝ }
     ensures classes { λ _. ⌜ now (classes .exit) ≡ classesLeft (now (buffer .entry)) length trace (now (row .entry)) (now (classes .entry)) ⌝ }
 {
-    told(reader::bits(buffer, length, trace, row, classes))
+    told(traces::bits(buffer, length, trace, row, classes))
 }
 
 // ---- writing

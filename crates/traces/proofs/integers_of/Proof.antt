@@ -1,10 +1,10 @@
--- `reader::integers_of` meets its contract. A law for each answer, with the tests as premises. Assumes nothing.
+-- `traces::integers_of` meets its contract. A law for each answer, with the tests as premises. Assumes nothing.
 use mathlib.Core.Path.{sym, _∙_}
 use borrow.Author.Tests.{not-true, not-false}
 use borrow.Author.Needs.{needs}
-use Rattle.reader.specs.Samples.{integers-kind, integers-long, integers-done}
-use Rattle.reader.proofs.integers_of.Statement.{statement}
-use Rattle.reader.proofs.integers_of.Tie as tie
+use Rattle.traces.specs.Samples.{integers-kind, integers-long, integers-done}
+use Rattle.traces.proofs.integers_of.Statement.{statement}
+use Rattle.traces.proofs.integers_of.Tie as tie
 
 pub integers-of-spec : {M : Type 1} → statement M
 integers-of-spec =

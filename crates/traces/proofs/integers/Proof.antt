@@ -1,14 +1,14 @@
--- `reader::integers` meets its contract. The block of a trace of an accepted image fits it. Assumes nothing.
+-- `traces::integers` meets its contract. The block of a trace of an accepted image fits it. Assumes nothing.
 use mathlib.Core.Path.{sym, _∙_}
 use native.Mathlib.Omega.{arith}
 use lib.IntN.{ℤ}
 use borrow.Author.Needs.{needs}
-use Rattle.reader.specs.Samples.{integers-bad, integers-answer, integers-left}
+use Rattle.traces.specs.Samples.{integers-bad, integers-answer, integers-left}
 use Rattle.reader.specs.Reach.{told, told-fits}
 use Rattle.reader.specs.Questions.{traceAnswer}
 use Rattle.word.specs.Signed.{handed}
-use Rattle.reader.proofs.integers.Statement.{statement}
-use Rattle.reader.proofs.integers.Tie as tie
+use Rattle.traces.proofs.integers.Statement.{statement}
+use Rattle.traces.proofs.integers.Tie as tie
 
 pub integers-spec : {M : Type 1} → statement M
 integers-spec =

@@ -1,10 +1,10 @@
--- `reader::bits_of` meets its contract. A law for each answer, with the tests as premises. Assumes nothing.
+-- `traces::bits_of` meets its contract. A law for each answer, with the tests as premises. Assumes nothing.
 use mathlib.Core.Path.{sym, _∙_}
 use borrow.Author.Tests.{not-true, not-false}
 use borrow.Author.Needs.{needs}
-use Rattle.reader.specs.Samples.{bits-kind, bits-long, classes-long, bits-done}
-use Rattle.reader.proofs.bits_of.Statement.{statement}
-use Rattle.reader.proofs.bits_of.Tie as tie
+use Rattle.traces.specs.Samples.{bits-kind, bits-long, classes-long, bits-done}
+use Rattle.traces.proofs.bits_of.Statement.{statement}
+use Rattle.traces.proofs.bits_of.Tie as tie
 
 pub bits-of-spec : {M : Type 1} → statement M
 bits-of-spec =
