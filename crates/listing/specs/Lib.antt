@@ -1,10 +1,6 @@
-pub mod Digits
 pub mod Listing
-pub mod Wrote
-pub mod Sizes
+pub mod Told
 pub mod Turns
 pub mod Walks
-pub mod Told
-pub mod Numbers
 pub mod Room
 pub mod Printed

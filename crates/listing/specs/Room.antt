@@ -1,18 +1,16 @@
 -- How long a listing can be: 16 bytes for each of the input's, and 64 more. A string of o bytes prints at most 16 o, a trace of B bytes 16 B.
 -- Assumes nothing.
-use mathlib.Core.Path.{_≡_, refl, sym, ap, _∙_}
+use mathlib.Core.Path.{_≡_, refl, ap}
 use mathlib.Core.Bool.{Bool, true, false}
 use mathlib.Core.List.{List, [], _∷_, _++_}
-use Prim.Native.Nat.{ℕ, zero, suc, _+_, _-_, _*_, _^_, _/_, _≤_, _<_}
+use Prim.Native.Nat.{ℕ, zero, suc, _+_, _-_, _*_, _≤_, _<_}
 use native.Mathlib.Omega.{arith}
 use lib.ListN.{length, take, drop, length-append, length-drop, length-take}
 use lib.Seq.{length-take-le}
 use lib.Dec.{leb}
 use borrow.Author.Tests.{leb-false}
-use Rattle.word.specs.Part.{part, length-part}
+use Rattle.word.specs.Part.{part}
 use Rattle.refusal.specs.Rows.{pick}
-use Rattle.refusal.specs.Table.{numberOf}
-use Rattle.refusal.specs.declared.Rule.{Rule}
 use Rattle.refusal.specs.declared.Part.{Part}
 use Rattle.refusal.specs.declared.Part.the-variants.{File, Trace}
 use Rattle.refusal.specs.declared.Verdict.the-variants.{Accepted}
@@ -22,7 +20,7 @@ use Rattle.strings.specs.declared.Frame.the-variants.{End, Text, Broken}
 use Rattle.strings.specs.declared.Place.{Place}
 use Rattle.text.specs.Chars.{note}
 use Rattle.text.specs.Runs.{same, same-eq}
-use Rattle.text.specs.Note.{lineLen, linesOf, lineLen-le, line-ends}
+use Rattle.text.specs.Note.{lineLen, linesOf, line-ends}
 use Rattle.strings.specs.Strings.{frameOf, placeOf, onText, placesFrom, placesOf, keyIn, valueIn}
 use Rattle.strings.specs.Walks.{Fits, place-fits}
 use Rattle.strings.specs.Spelled.{strsIn}
@@ -32,17 +30,15 @@ use Rattle.image.specs.Image.{imageOf}
 use Rattle.image.specs.Keeps.{traceAt, endBefore}
 use Rattle.image.specs.Accepted.{image-headed, before-next}
 use Rattle.reader.specs.Reach.{some-trace, trace-pointed, trace-blocked}
-use Rattle.listing.specs.Numbers.{below-hundred}
-use Rattle.listing.specs.Digits.{digits, digits-few}
-use Rattle.listing.specs.Listing.{ended, whose, headLine, traceLine, stringLine, linesText, valuesOf, stringsText, stringsIn, traceText, tracesText, fileText, roomFor}
-use Rattle.listing.specs.Sizes.{length-ended, length-order, length-head, length-trace, length-label, length-line}
-use Rattle.listing.specs.Turns.{length-spaced, starts-fits}
+use Rattle.lines.specs.Digits.{digits, digits-few}
+use Rattle.lines.specs.Lines.{whose, headLine, traceLine, stringLine}
+use Rattle.listing.specs.Listing.{linesText, valuesOf, stringsText, stringsIn, traceText, tracesText, fileText, roomFor}
+use Rattle.lines.specs.Sizes.{five, length-ended, length-order, length-head, length-trace, length-label, length-line}
+use Rattle.lines.specs.Spaced.{length-spaced}
+use Rattle.listing.specs.Turns.{starts-fits}
 use Rattle.listing.specs.Told.{line-some}
 
 -- ---- numbers
-five : (n : ℕ) → n < 100000 → length (digits n) ≤ 5
-five n h = digits-few 5 n (omega arith) h
-
 one : (n : ℕ) → n < 10 → length (digits n) ≤ 1
 one n h = digits-few 1 n (omega arith) h
 
@@ -54,18 +50,6 @@ whose-few : (p : Part) → Small p → length (whose p) ≤ 5
 unfolding whose
 whose-few File h = omega arith
 whose-few (Trace k) h = five k h
-
--- ---- a refusal
-pub trace-number : (k : ℕ) → k < 65536 → length (digits k) ≤ 5
-trace-number k h = five k (omega arith)
-
-pub rule-number : (r : Rule) → length (ended (numberOf r) 9) ≤ 3
-rule-number r = omega (arith, digits-few 2 (numberOf r) (omega arith) (below-hundred r), length-ended (numberOf r) 9)
-
-pub place-number : (n : ℕ) → n < 18446744073709551616 → length (ended n 10) ≤ 21
-place-number n h =
-    let z : 18446744073709551616 ≤ 10 ^ 20 = omega arith in
-    omega (arith, digits-few 20 n (omega arith) (omega arith), length-ended n 10)
 
 -- ---- a string
 line-few : (p : Part) (key v : List ℕ) → Small p → length (stringLine p key v) ≤ length v + length key + 10

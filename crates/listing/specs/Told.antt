@@ -1,13 +1,12 @@
 -- The blocks of an accepted file, as they are read for the listing; and the answer.
 -- Assumes nothing.
-use mathlib.Core.Path.{_≡_, refl, sym, ap, _∙_}
+use mathlib.Core.Path.{_≡_, refl, ap, _∙_}
 use mathlib.Core.Bool.{Bool, true, false}
-use mathlib.Core.List.{List, [], _∷_, _++_}
-use Prim.Native.Nat.{ℕ, zero, suc, _+_, _-_, _*_, _/_, _≤_, _<_}
+use mathlib.Core.List.{List, _++_}
+use Prim.Native.Nat.{ℕ, _+_, _-_, _*_, _≤_, _<_}
 use native.Mathlib.Omega.{arith}
 use lib.ListN.{length, take}
 use lib.Seq.{take-all}
-use lib.Dec.{ltb}
 use borrow.Author.Tests.{lt-ltb, le-ltb}
 use Rattle.word.specs.Part.{part}
 use Rattle.word.specs.Put.{put}
@@ -20,18 +19,18 @@ use Rattle.strings.specs.Strings.{placesOf}
 use Rattle.strings.specs.Spelled.{strsIn}
 use Rattle.head.specs.declared.FileBlock.{FileBlock}
 use Rattle.block.specs.declared.TraceBlock.{TraceBlock}
-use Rattle.head.specs.Head.{highFirst, roomOf, countOf, stringEnd, lineEnd, goodTerminator}
+use Rattle.head.specs.Head.{highFirst, countOf, stringEnd, lineEnd, goodTerminator}
 use Rattle.head.specs.HeadLaws.{good-most, length-terminator}
 use Rattle.block.specs.Block.{pointerOf, traceBlockOf}
 use Rattle.head.specs.Head.{fileBlockOf}
 use Rattle.image.specs.Image.{imageOf, checkOf}
-use Rattle.image.specs.Keeps.{traceAt, endBefore}
+use Rattle.image.specs.Keeps.{endBefore}
 use Rattle.image.specs.Accepted.{image-headed}
-use Rattle.reader.specs.Reach.{Checked, checked, some-trace, pointer-slot, trace-pointed, trace-blocked}
-use Rattle.listing.specs.declared.Listed.{Listed}
+use Rattle.reader.specs.Reach.{checked, some-trace, pointer-slot, trace-pointed, trace-blocked}
 use Rattle.listing.specs.declared.Listed.the-variants.{To, Full}
-use Rattle.listing.specs.Listing.{headLine, traceLine, refusalLine, stringsText, stringsIn, traceText, tracesText, fileText, checkedText, listingOf, roomFor, listAnswer, Within, listLeft}
-use Rattle.listing.specs.Wrote.{Room, Wrote, room-front, room-back, joined, first-room, second-room, both-wrote}
+use Rattle.lines.specs.Lines.{headLine, traceLine, refusalLine}
+use Rattle.listing.specs.Listing.{stringsText, stringsIn, traceText, tracesText, fileText, checkedText, listingOf, roomFor, listAnswer, Within, listLeft}
+use Rattle.lines.specs.Wrote.{Room, Wrote, room-front, room-back, joined, first-room, second-room, both-wrote}
 
 module _ (f : List ℕ) (ok : imageOf false f ≡ Accepted) (size : 32 ≤ length f) where
   pub ends-good : (goodTerminator f 8 ≡ true) × (goodTerminator f 11 ≡ true)

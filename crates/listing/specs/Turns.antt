@@ -1,57 +1,29 @@
--- The walks over a value, a NOTE's lines, an area's strings and a file's traces: a law for each turn.
+-- The walks over a NOTE's lines, an area's strings and a file's traces: a law for each turn.
 -- Assumes nothing.
 use mathlib.Core.Path.{_≡_, refl, sym, ap, _∙_}
 use mathlib.Core.Bool.{Bool, true, false}
 use mathlib.Core.List.{List, [], _∷_, _++_}
 use Prim.Native.Nat.{ℕ, zero, suc, _+_, _-_, _≤_, _<_}
 use native.Mathlib.Omega.{arith}
-use lib.ListN.{length, getD, take, drop, set, length-drop, drop-of-length-le}
-use lib.Seq.{drop-drop, length-take-le}
+use lib.ListN.{length, take, drop, length-drop}
+use lib.Seq.{drop-drop}
 use lib.Dec.{leb}
 use borrow.Author.Tests.{le-leb, lt-leb, leb-true}
-use Rattle.word.specs.Part.{part, length-part, part-rest}
-use Rattle.word.specs.Put.{put, put-none, copy-turn}
-use Rattle.refusal.specs.Rows.{pick}
+use Rattle.word.specs.Part.{part, length-part}
 use Rattle.refusal.specs.declared.Part.{Part}
 use Rattle.strings.specs.declared.Frame.{Frame}
 use Rattle.strings.specs.declared.Frame.the-variants.{End, Text, Broken}
 use Rattle.strings.specs.declared.Place.{Place}
-use Rattle.strings.specs.declared.Found.{Found}
 use Rattle.strings.specs.declared.Found.the-variants.{Nothing, Is}
 use Rattle.strings.specs.declared.Entry.the-variants.{Stop, At}
-use Rattle.text.specs.Runs.{same, both, none}
-use Rattle.text.specs.Note.{starts, lineLen, linesOf, lineLen-le, line-ends}
+use Rattle.text.specs.Runs.{same, both}
+use Rattle.text.specs.Note.{starts, lineLen, linesOf, line-ends}
 use Rattle.strings.specs.Strings.{frameOf, placeOf, onText, entryOf, placesFrom, placesOf, nthOf, keyIn, valueIn}
 use Rattle.strings.specs.Walks.{in-frame, place-next, place-stop, place-bounds}
 use Rattle.lookup.specs.Lists.{In}
-use Rattle.strings.specs.Spelled.{Str, strsIn}
-use Rattle.listing.specs.Listing.{space, spaced, stringLine, linesText, valuesOf, stringsText, traceText, tracesText}
-use Rattle.listing.specs.Wrote.{Wrote}
-
--- ---- a value without tabs
-pub length-spaced : (v : List ℕ) → length (spaced v) ≡ length v
-unfolding spaced
-length-spaced [] = refl
-length-spaced (b ∷ bs) = ap suc (length-spaced bs)
-
-pub spaced-at : (v : List ℕ) (i : ℕ) → i < length v → getD (spaced v) i 0 ≡ space (getD v i 0)
-unfolding spaced
-spaced-at [] i h = absurd (omega arith)
-spaced-at (b ∷ bs) zero h = refl
-spaced-at (b ∷ bs) (suc i) h = spaced-at bs i (omega arith)
-
-module _ (v out₀ out : List ℕ) (at i : ℕ) (e : put out (at + i) (drop i (spaced v)) ≡ put out₀ at (spaced v)) where
-  pub spaced-turn : (b : ℕ) → i < length v → b ≡ space (getD v i 0) → put (set out (at + i) b) (at + (i + 1)) (drop (i + 1) (spaced v)) ≡ put out₀ at (spaced v)
-  spaced-turn b h w =
-      let l = length-spaced v in
-      let q : b ≡ getD (spaced v) i 0 = w ∙ sym (spaced-at v i h) in
-      rw q (copy-turn 0 (spaced v) out at i (omega arith)) ∙ e
-
-  pub spaced-over : i ≤ length v → length v ≤ i → Wrote out₀ at (spaced v) (at + i) out
-  spaced-over h k =
-      let l = length-spaced v in
-      let d : drop i (spaced v) ≡ [] = drop-of-length-le (spaced v) {i = i} (omega arith) in
-      (omega arith, sym (put-none out (at + i)) ∙ sym (ap (λ (q : List ℕ). put out (at + i) q) d) ∙ e)
+use Rattle.strings.specs.Spelled.{strsIn}
+use Rattle.lines.specs.Lines.{stringLine}
+use Rattle.listing.specs.Listing.{linesText, valuesOf, stringsText, traceText, tracesText}
 
 -- ---- the lines of a NOTE: e is where the line from `from` on ends
 pub starts-fits : (u l : List ℕ) → starts u l ≡ true → length u ≤ length l

@@ -1,9 +1,9 @@
 -- What a walk has written, and what is left: of a NOTE's lines, of an area's strings and of a file's traces.
 -- Assumes nothing.
 use mathlib.Core.Path.{_≡_, refl, sym, ap, _∙_}
-use mathlib.Core.Bool.{Bool, true, false}
-use mathlib.Core.List.{List, [], _∷_, _++_}
-use Prim.Native.Nat.{ℕ, zero, suc, _+_, _-_, _≤_, _<_}
+use mathlib.Core.Bool.{Bool}
+use mathlib.Core.List.{List, _++_}
+use Prim.Native.Nat.{ℕ, _+_, _-_, _≤_, _<_}
 use native.Mathlib.Nat.{le-of-eq, le-refl}
 use native.Mathlib.Omega.{arith}
 use lib.ListN.{length, drop}
@@ -12,11 +12,12 @@ use Rattle.refusal.specs.declared.Part.{Part}
 use Rattle.strings.specs.declared.Place.{Place}
 use Rattle.strings.specs.declared.Found.the-variants.{Nothing, Is}
 use Rattle.text.specs.Note.{lineLen, linesOf}
-use Rattle.strings.specs.Strings.{placesOf, nthOf, keyIn, valueIn}
+use Rattle.strings.specs.Strings.{placesOf, nthOf}
 use Rattle.lookup.specs.Lists.{In}
 use Rattle.strings.specs.Spelled.{strsIn}
-use Rattle.listing.specs.Listing.{stringLine, linesText, stringsText, traceText, tracesText}
-use Rattle.listing.specs.Wrote.{Room, Wrote, Left, left-start, left-room, left-turn, left-over, left-last-room, left-last}
+use Rattle.lines.specs.Lines.{stringLine}
+use Rattle.listing.specs.Listing.{linesText, stringsText, traceText, tracesText}
+use Rattle.lines.specs.Wrote.{Room, Wrote, Left, left-start, left-room, left-turn, left-over, left-last-room, left-last}
 use Rattle.listing.specs.Turns.{line-on, line-last, lines-more, lines-one, textFrom, lineText, string-in, string-next, string-none, strings-over, trace-next, traces-over}
 
 -- ---- a NOTE: the line from `from` on ends at e

@@ -1,6 +1,6 @@
 -- `seg2::seg2_add_bits` meets its contract. The answer of the function below it, as it crosses. Assumes nothing.
 use mathlib.Core.Path.{ap, _∙_}
-use Rattle.seg2.specs.Face.{lengthOf}
+use Rattle.face.specs.Face.{lengthOf}
 use borrow.Author.Needs.{needs}
 use Rattle.seg2.proofs.seg2_add_bits.Statement.{statement}
 use Rattle.seg2.proofs.seg2_add_bits.Tie as tie

@@ -1,6 +1,6 @@
 -- `seg2::seg2_check` meets its contract. The answer of the function below it, as it crosses. Assumes nothing.
 use mathlib.Core.Path.{ap, _∙_}
-use Rattle.seg2.specs.Face.{verdictOf}
+use Rattle.face.specs.Face.{verdictOf}
 use borrow.Author.Needs.{needs}
 use Rattle.seg2.proofs.seg2_check.Statement.{statement}
 use Rattle.seg2.proofs.seg2_check.Tie as tie

@@ -1,6 +1,6 @@
 -- `seg2::seg2_file_block` meets its contract. The answer of the function below it, as it crosses. Assumes nothing.
 use mathlib.Core.Path.{ap, _∙_}
-use Rattle.seg2.specs.Face.{fileOf}
+use Rattle.face.specs.Face.{fileOf}
 use borrow.Author.Needs.{needs}
 use Rattle.seg2.proofs.seg2_file_block.Statement.{statement}
 use Rattle.seg2.proofs.seg2_file_block.Tie as tie

@@ -2,7 +2,7 @@
 use mathlib.Core.Path.{ap, _∙_}
 use mir.Syntax.{w32}
 use mir.Facts.{toZ-ofZ}
-use Rattle.seg2.specs.Face.{verdictOf}
+use Rattle.face.specs.Face.{verdictOf}
 use borrow.Author.Needs.{needs}
 use Rattle.seg2.proofs.seg2_integers.Statement.{statement}
 use Rattle.seg2.proofs.seg2_integers.Tie as tie

@@ -2,7 +2,7 @@
 use mathlib.Core.Path.{ap, _∙_}
 use mir.Syntax.{w32}
 use mir.Facts.{toZ-ofZ}
-use Rattle.seg2.specs.Face.{keywordOf}
+use Rattle.face.specs.Face.{keywordOf}
 use borrow.Author.Needs.{needs}
 use Rattle.seg2.proofs.seg2_keyword.Statement.{statement}
 use Rattle.seg2.proofs.seg2_keyword.Tie as tie

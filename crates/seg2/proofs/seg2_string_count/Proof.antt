@@ -2,7 +2,7 @@
 use mathlib.Core.Path.{ap, _∙_}
 use mir.Syntax.{w32}
 use mir.Facts.{toZ-ofZ}
-use Rattle.seg2.specs.Face.{countOf}
+use Rattle.face.specs.Face.{countOf}
 use borrow.Author.Needs.{needs}
 use Rattle.seg2.proofs.seg2_string_count.Statement.{statement}
 use Rattle.seg2.proofs.seg2_string_count.Tie as tie

@@ -1,0 +1,19 @@
+-- `face::told` meets its contract. Each arm is one of the answers. Assumes nothing.
+use mir.Syntax.{w32}
+use mir.Facts.{toZ-ofZ}
+use Rattle.face.specs.Face.{verdictOf}
+use borrow.Author.Needs.{needs}
+use Rattle.face.proofs.told.Statement.{statement}
+use Rattle.face.proofs.told.Tie as tie
+
+pub told-spec : {M : Type 1} → statement M
+unfolding verdictOf
+told-spec =
+    tie.close
+    (tie.spec
+    (λ c. search needs)
+    (λ c. search needs)
+    (λ c κs. search needs)
+    (λ c κs. search needs)
+    (λ c. rw (c .enum-told .given .1))
+    (λ c. rw (c .before .before .before .v .given .1, ← c .before .number .ensures, ← c .part-number .ensures, toZ-ofZ {w = w32} (record { sfits = c .part-number .ok }))))

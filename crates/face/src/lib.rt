@@ -1,0 +1,445 @@
+// The answers as they cross to another language: C structs of numbers, each beginning with the refusal's number in document 01's table (0: none), its
+// part (-1 for the file, else the trace) and its place. Face has the definitions; include/seg2.h declares the structs. Stands on `reader`, `writer`.
+use double::DoubleAnswer;
+use double::LocationAnswer;
+use decimal::NumberAnswer;
+use reader::CountAnswer;
+use reader::FileAnswer;
+use reader::KeywordAnswer;
+use reader::StringAnswer;
+use reader::TraceAnswer;
+use refusal::Verdict;
+use writer::Written;
+ghost use mathlib.Core.Path.{_≡_};
+ghost use Prim.Native.Nat.{_-_};
+ghost use Rattle.face.specs.Face.{flag, verdictOf, fileOf, traceOf, countOf, stringOf, keywordOf, valueOf, decimalOf, doubleOf, locationOf, lengthOf};
+
+#[repr(C)]
+pub struct Seg2Verdict {
+    pub number: u32,
+    pub part: i32,
+    pub place: usize,
+}
+
+// The byte order (0 low first, 1 high first), M, N, and the lengths of the string and the line terminator, whose characters stand in bytes 9 and 12 on.
+#[repr(C)]
+pub struct Seg2File {
+    pub number: u32,
+    pub part: i32,
+    pub place: usize,
+    pub order: u32,
+    pub room: usize,
+    pub count: usize,
+    pub strings: usize,
+    pub lines: usize,
+}
+
+// Where the block starts, B, D, S and the format code.
+#[repr(C)]
+pub struct Seg2Trace {
+    pub number: u32,
+    pub part: i32,
+    pub place: usize,
+    pub start: usize,
+    pub block: usize,
+    pub bytes: usize,
+    pub count: usize,
+    pub code: u32,
+}
+
+#[repr(C)]
+pub struct Seg2Count {
+    pub number: u32,
+    pub part: i32,
+    pub place: usize,
+    pub count: usize,
+}
+
+// Whether there is such a string; start and length of its keyword and of its value in the caller's own buffer.
+#[repr(C)]
+pub struct Seg2String {
+    pub number: u32,
+    pub part: i32,
+    pub place: usize,
+    pub found: u32,
+    pub key: usize,
+    pub letters: usize,
+    pub value: usize,
+    pub size: usize,
+}
+
+#[repr(C)]
+pub struct Seg2Keyword {
+    pub number: u32,
+    pub part: i32,
+    pub place: usize,
+    pub found: u32,
+}
+
+// Start and length of the value in the caller's own buffer; both 0 for a no or a refusal.
+#[repr(C)]
+pub struct Seg2Value {
+    pub number: u32,
+    pub part: i32,
+    pub place: usize,
+    pub start: usize,
+    pub size: usize,
+}
+
+// Sign (1: minus), coefficient as written and power of ten.
+#[repr(C)]
+pub struct Seg2Number {
+    pub number: u32,
+    pub part: i32,
+    pub place: usize,
+    pub minus: u32,
+    pub power: i32,
+    pub coefficient: u64,
+}
+
+#[repr(C)]
+pub struct Seg2Double {
+    pub number: u32,
+    pub part: i32,
+    pub place: usize,
+    pub value: f64,
+}
+
+// How many values there were, and the values; absent ones are 0.
+#[repr(C)]
+pub struct Seg2Location {
+    pub number: u32,
+    pub part: i32,
+    pub place: usize,
+    pub count: u32,
+    pub x: f64,
+    pub y: f64,
+    pub z: f64,
+}
+
+// The image's new length.
+#[repr(C)]
+pub struct Seg2Length {
+    pub number: u32,
+    pub part: i32,
+    pub place: usize,
+    pub length: usize,
+}
+
+fn one_if(b: bool) -> u32
+    ensures { λ r. ⌜ r ≡ flag b ⌝ }
+{
+    if b { 1 } else { 0 }
+}
+
+// How many bytes stand from a up to e.
+fn span(a: usize, e: usize) -> usize
+    ensures { λ r. ⌜ r ≡ e - a ⌝ }
+{
+    if e < a {
+        return 0;
+    }
+    e - a
+}
+
+// ---- answers as they cross to another language
+
+pub fn told(v: Verdict) -> Seg2Verdict
+    ensures { λ r. ⌜ r ≡ verdictOf v ⌝ }
+{
+    match v {
+        Verdict::Accepted => Seg2Verdict {
+            number: 0,
+            part: -1,
+            place: 0,
+        },
+        Verdict::Refused(r) => {
+            let rule = r.rule;
+            let part = r.part;
+            Seg2Verdict {
+                number: refusal::number(rule),
+                part: refusal::part_number(part),
+                place: r.place,
+            }
+        }
+    }
+}
+
+pub fn file_told(a: FileAnswer) -> Seg2File
+    ensures { λ r. ⌜ r ≡ fileOf a ⌝ }
+{
+    match a {
+        FileAnswer::Is(f) => Seg2File {
+            number: 0,
+            part: -1,
+            place: 0,
+            order: one_if(f.high),
+            room: f.m,
+            count: f.n,
+            strings: f.strings,
+            lines: f.lines,
+        },
+        FileAnswer::Refused(r) => {
+            let t = told(Verdict::Refused(r));
+            Seg2File {
+                number: t.number,
+                part: t.part,
+                place: t.place,
+                order: 0,
+                room: 0,
+                count: 0,
+                strings: 0,
+                lines: 0,
+            }
+        }
+    }
+}
+
+pub fn trace_told(a: TraceAnswer) -> Seg2Trace
+    ensures { λ r. ⌜ r ≡ traceOf a ⌝ }
+{
+    match a {
+        TraceAnswer::Is(t) => Seg2Trace {
+            number: 0,
+            part: -1,
+            place: 0,
+            start: t.p,
+            block: t.b,
+            bytes: t.d,
+            count: t.s,
+            code: t.code as u32,
+        },
+        TraceAnswer::Refused(r) => {
+            let t = told(Verdict::Refused(r));
+            Seg2Trace {
+                number: t.number,
+                part: t.part,
+                place: t.place,
+                start: 0,
+                block: 0,
+                bytes: 0,
+                count: 0,
+                code: 0,
+            }
+        }
+    }
+}
+
+pub fn count_told(a: CountAnswer) -> Seg2Count
+    ensures { λ r. ⌜ r ≡ countOf a ⌝ }
+{
+    match a {
+        CountAnswer::Is(n) => Seg2Count {
+            number: 0,
+            part: -1,
+            place: 0,
+            count: n,
+        },
+        CountAnswer::Refused(r) => {
+            let t = told(Verdict::Refused(r));
+            Seg2Count {
+                number: t.number,
+                part: t.part,
+                place: t.place,
+                count: 0,
+            }
+        }
+    }
+}
+
+pub fn string_told(a: StringAnswer) -> Seg2String
+    ensures { λ r. ⌜ r ≡ stringOf a ⌝ }
+{
+    match a {
+        StringAnswer::There(s) => Seg2String {
+            number: 0,
+            part: -1,
+            place: 0,
+            found: 1,
+            key: s.key,
+            letters: span(s.key, s.gap),
+            value: s.value,
+            size: span(s.value, s.end),
+        },
+        StringAnswer::Absent => Seg2String {
+            number: 0,
+            part: -1,
+            place: 0,
+            found: 0,
+            key: 0,
+            letters: 0,
+            value: 0,
+            size: 0,
+        },
+        StringAnswer::Refused(r) => {
+            let t = told(Verdict::Refused(r));
+            Seg2String {
+                number: t.number,
+                part: t.part,
+                place: t.place,
+                found: 0,
+                key: 0,
+                letters: 0,
+                value: 0,
+                size: 0,
+            }
+        }
+    }
+}
+
+pub fn keyword_told(a: KeywordAnswer) -> Seg2Keyword
+    ensures { λ r. ⌜ r ≡ keywordOf a ⌝ }
+{
+    match a {
+        KeywordAnswer::Yes => Seg2Keyword {
+            number: 0,
+            part: -1,
+            place: 0,
+            found: 1,
+        },
+        KeywordAnswer::No => Seg2Keyword {
+            number: 0,
+            part: -1,
+            place: 0,
+            found: 0,
+        },
+        KeywordAnswer::Refused(r) => {
+            let t = told(Verdict::Refused(r));
+            Seg2Keyword {
+                number: t.number,
+                part: t.part,
+                place: t.place,
+                found: 0,
+            }
+        }
+    }
+}
+
+pub fn value_told(a: StringAnswer) -> Seg2Value
+    ensures { λ r. ⌜ r ≡ valueOf a ⌝ }
+{
+    match a {
+        StringAnswer::There(s) => Seg2Value {
+            number: 0,
+            part: -1,
+            place: 0,
+            start: s.value,
+            size: span(s.value, s.end),
+        },
+        StringAnswer::Absent => Seg2Value {
+            number: 0,
+            part: -1,
+            place: 0,
+            start: 0,
+            size: 0,
+        },
+        StringAnswer::Refused(r) => {
+            let t = told(Verdict::Refused(r));
+            Seg2Value {
+                number: t.number,
+                part: t.part,
+                place: t.place,
+                start: 0,
+                size: 0,
+            }
+        }
+    }
+}
+
+pub fn number_told(a: NumberAnswer) -> Seg2Number
+    ensures { λ r. ⌜ r ≡ decimalOf a ⌝ }
+{
+    match a {
+        NumberAnswer::Is(n) => Seg2Number {
+            number: 0,
+            part: -1,
+            place: 0,
+            minus: one_if(n.minus),
+            power: n.power,
+            coefficient: n.coefficient,
+        },
+        NumberAnswer::Refused(r) => {
+            let t = told(Verdict::Refused(r));
+            Seg2Number {
+                number: t.number,
+                part: t.part,
+                place: t.place,
+                minus: 0,
+                power: 0,
+                coefficient: 0,
+            }
+        }
+    }
+}
+
+pub fn double_told(a: DoubleAnswer) -> Seg2Double
+    ensures { λ r. ⌜ r ≡ doubleOf a ⌝ }
+{
+    match a {
+        DoubleAnswer::Is(x) => Seg2Double {
+            number: 0,
+            part: -1,
+            place: 0,
+            value: x,
+        },
+        DoubleAnswer::Refused(r) => {
+            let t = told(Verdict::Refused(r));
+            Seg2Double {
+                number: t.number,
+                part: t.part,
+                place: t.place,
+                value: 0.0,
+            }
+        }
+    }
+}
+
+pub fn location_told(a: LocationAnswer) -> Seg2Location
+    ensures { λ r. ⌜ r ≡ locationOf a ⌝ }
+{
+    match a {
+        LocationAnswer::Is(c) => Seg2Location {
+            number: 0,
+            part: -1,
+            place: 0,
+            count: c.count,
+            x: c.x,
+            y: c.y,
+            z: c.z,
+        },
+        LocationAnswer::Refused(r) => {
+            let t = told(Verdict::Refused(r));
+            Seg2Location {
+                number: t.number,
+                part: t.part,
+                place: t.place,
+                count: 0,
+                x: 0.0,
+                y: 0.0,
+                z: 0.0,
+            }
+        }
+    }
+}
+
+pub fn length_told(a: Written) -> Seg2Length
+    ensures { λ r. ⌜ r ≡ lengthOf a ⌝ }
+{
+    match a {
+        Written::To(n) => Seg2Length {
+            number: 0,
+            part: -1,
+            place: 0,
+            length: n,
+        },
+        Written::Refused(r) => {
+            let t = told(Verdict::Refused(r));
+            Seg2Length {
+                number: t.number,
+                part: t.part,
+                place: t.place,
+                length: 0,
+            }
+        }
+    }
+}

@@ -1,0 +1,14 @@
+-- `lines::put_number` meets its contract. A 16-bit number is below 100,000. Assumes nothing.
+use Rattle.lines.specs.Sizes.{trace-number}
+use native.Mathlib.Omega.{arith}
+use borrow.Author.Needs.{needs}
+use Rattle.lines.proofs.put_number.Statement.{statement}
+use Rattle.lines.proofs.put_number.Tie as tie
+
+pub put-number-spec : {M : Type 1} → statement M
+put-number-spec =
+    tie.close
+    (tie.spec
+    (λ c κs. let l = trace-number (c .before .before .args .k) (omega arith) in omega (arith, l, c .before .before .pre))
+    (λ c. search needs)
+    (λ c. (c .before .before .put-digits .ensures, trace-number (c .before .before .before .before .before .args .k) (omega arith))))
