@@ -13,13 +13,15 @@ use Rattle.sheet.specs.declared.Measured.the-variants.{Size}
 use Rattle.refusal.specs.declared.Verdict.the-variants.{Accepted}
 use Rattle.image.specs.Image.{checkOf}
 use Rattle.head.specs.Head.{roomOf, countOf, stringEnd, lineEnd}
-use Rattle.writer.specs.declared.Written.{Written}
-use Rattle.writer.specs.declared.Written.the-variants.{To, Refused}
-use Rattle.writer.specs.Layout.{nul, lineFeed, startSize, Trace, traceSize}
-use Rattle.writer.specs.Answers.{startAnswer, startLeft, addAnswer, addLeft}
+use Rattle.start.specs.declared.Written.{Written}
+use Rattle.start.specs.declared.Written.the-variants.{To, Refused}
+use Rattle.layout.specs.Layout.{nul, lineFeed, startSize, Trace, traceSize}
+use Rattle.start.specs.Start.{startAnswer, startLeft}
+use Rattle.writer.specs.Answers.{addAnswer, addLeft}
 use Rattle.afresh.specs.FileOf.{sizes, fileOf, fileSize, Measures, Good, AllGood}
 use Rattle.afresh.specs.FileLaws.{length-more, file-fronted}
-use Rattle.writer.specs.Shown.{as-area, Started, started, starts, Added, added, adds}
+use Rattle.start.specs.StartShown.{as-area, Started, started, starts}
+use Rattle.writer.specs.Shown.{Added, added, adds}
 use Rattle.afresh.specs.Step.{Holds, start-past, start-afresh, new-end, add-afresh, add-past}
 use Rattle.afresh.specs.Calls.{lengthLeft, after, answersOf, acceptedOf, answers-to, accepted-to, Grew, start-grows}
 use Rattle.afresh.specs.Kept.{file-accepted}

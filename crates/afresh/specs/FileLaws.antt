@@ -10,8 +10,8 @@ use Rattle.word.specs.Word.{bytesOf}
 use Rattle.word.specs.WordLaws.{length-bytesOf}
 use Rattle.sheet.specs.Area.{areaOf}
 use Rattle.sheet.specs.Sizes.{length-area}
-use Rattle.writer.specs.Layout.{nul, lineFeed, fileBlock, startImage, startSize, Trace, traceSize, traceBytes}
-use Rattle.writer.specs.LayoutLaws.{length-fileBlock, Fronted, fronted, length-traceBytes, area-whole, size-whole}
+use Rattle.layout.specs.Layout.{nul, lineFeed, fileBlock, startImage, startSize, Trace, traceSize, traceBytes}
+use Rattle.layout.specs.LayoutLaws.{length-fileBlock, Fronted, fronted, length-traceBytes, area-whole, size-whole}
 use Rattle.afresh.specs.FileOf.{sizes, pointers, blocks, fileOf, fileSize, AllGood}
 
 -- ---- every size is a multiple of 4

@@ -11,7 +11,7 @@ use Rattle.word.specs.Word.{bytesOf}
 use Rattle.encode.specs.declared.Fit.the-variants.{All}
 use Rattle.sheet.specs.declared.Measured.the-variants.{Size}
 use Rattle.sheet.specs.Area.{areaOf, measuredOf}
-use Rattle.writer.specs.Layout.{nul, lineFeed, fileBlock, startSize, Trace, fitting, unfit, traceSize, traceBytes}
+use Rattle.layout.specs.Layout.{nul, lineFeed, fileBlock, startSize, Trace, fitting, unfit, traceSize, traceBytes}
 
 -- "B and D of all traces"
 unfoldable pub sizes : List Trace → ℕ

@@ -24,9 +24,9 @@ use Rattle.block.specs.Block.{pointerOf, endAt}
 use Rattle.image.specs.Image.{checkOf}
 use Rattle.image.specs.Keeps.{traceAt, endBefore, stringsEnd, KeepsTrace, Keeps}
 use Rattle.image.specs.Accepted.{keeps-accepted}
-use Rattle.writer.specs.Layout.{nul, lineFeed, fileBlock, startSize, Trace, count}
+use Rattle.layout.specs.Layout.{nul, lineFeed, fileBlock, startSize, Trace, count}
 use Rattle.afresh.specs.FileOf.{pointers, blocks, fileOf, fileSize, Measures, Good, AllGood}
-use Rattle.writer.specs.LayoutLaws.{length-fileBlock, Fronted, kinded, room-enough, area-whole, Stands}
+use Rattle.layout.specs.LayoutLaws.{length-fileBlock, Fronted, kinded, room-enough, area-whole, Stands}
 use Rattle.afresh.specs.FileLaws.{length-pointers, length-file, file-whole, size-none, size-low, file-fronted}
 use Rattle.afresh.specs.Step.{Holds}
 use Rattle.afresh.specs.Stands.{noTrace, Traced, file-traces}

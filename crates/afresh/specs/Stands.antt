@@ -13,9 +13,9 @@ use Rattle.word.specs.WordLaws.{word-among}
 use Rattle.sheet.specs.Area.{areaOf}
 use Rattle.sheet.specs.Sizes.{length-area}
 use Rattle.block.specs.Block.{pointerOf}
-use Rattle.writer.specs.Layout.{nul, lineFeed, fileBlock, startSize, Trace, Samples.integers, dataBytes, traceSize, traceBytes}
+use Rattle.layout.specs.Layout.{nul, lineFeed, fileBlock, startSize, Trace, Samples.integers, dataBytes, traceSize, traceBytes}
 use Rattle.afresh.specs.FileOf.{sizes, pointers, blocks, fileOf, fileSize, Good, AllGood}
-use Rattle.writer.specs.LayoutLaws.{length-fileBlock, length-traceBytes, Stands, stands}
+use Rattle.layout.specs.LayoutLaws.{length-fileBlock, length-traceBytes, Stands, stands}
 use Rattle.afresh.specs.FileLaws.{length-pointers, length-blocks, length-file, pointers-append, blocks-append, size-append, size-more}
 use Rattle.afresh.specs.Step.{behind}
 

@@ -18,10 +18,10 @@ use Rattle.head.specs.Head.{known, revisionOf, roomOf, countOf, headOf, badRoom
 use Rattle.refusal.specs.Tests.{join-neither}
 use Rattle.image.specs.Image.{andThen, imageOf, checkOf}
 use Rattle.image.specs.ImageLaws.{length-accepts}
-use Rattle.writer.specs.declared.Written.the-variants.{To}
-use Rattle.writer.specs.Layout.{nul, lineFeed}
-use Rattle.writer.specs.Answers.{startAnswer, startLeft}
-use Rattle.writer.specs.Shown.{started}
+use Rattle.start.specs.declared.Written.the-variants.{To}
+use Rattle.layout.specs.Layout.{nul, lineFeed}
+use Rattle.start.specs.Start.{startAnswer, startLeft}
+use Rattle.start.specs.StartShown.{started}
 use Rattle.afresh.specs.FileLaws.{size-low, file-fronted}
 use Rattle.afresh.specs.Step.{start-afresh}
 use Rattle.afresh.specs.Kept.{file-accepted}

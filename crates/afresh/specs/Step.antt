@@ -14,12 +14,15 @@ use Rattle.word.specs.Word.{bytesOf}
 use Rattle.word.specs.WordLaws.{length-bytesOf}
 use Rattle.sheet.specs.Area.{areaOf, areaSize}
 use Rattle.head.specs.Head.{roomOf, countOf}
-use Rattle.writer.specs.declared.Written.the-variants.{To}
-use Rattle.writer.specs.Layout.{plainEnds, nul, lineFeed, fileBlock, startImage, startSize, Trace, traceSize, traceBytes}
-use Rattle.writer.specs.Answers.{startAnswer, startLeft, newLength, newBytes, addAnswer, grown, addLeft}
+use Rattle.start.specs.declared.Written.the-variants.{To}
+use Rattle.layout.specs.Layout.{plainEnds, nul, lineFeed, fileBlock, startImage, startSize, Trace, traceSize, traceBytes}
+use Rattle.start.specs.Start.{startAnswer, startLeft}
+use Rattle.append.specs.Grown.{newLength, newBytes, grown}
+use Rattle.writer.specs.Answers.{addAnswer, addLeft}
 use Rattle.afresh.specs.FileOf.{sizes, pointers, blocks, fileOf, fileSize, Good, AllGood}
-use Rattle.writer.specs.LayoutLaws.{frontOf, length-front, around-count, length-fileBlock, length-startImage, Fronted, length-traceBytes}
-use Rattle.writer.specs.Shown.{started, start-left, Added, added, add-left}
+use Rattle.layout.specs.LayoutLaws.{frontOf, length-front, around-count, length-fileBlock, length-startImage, Fronted, length-traceBytes}
+use Rattle.start.specs.StartShown.{started, start-left}
+use Rattle.writer.specs.Shown.{Added, added, add-left}
 use Rattle.afresh.specs.FileLaws.{file-whole, length-pointers, file-none, size-none, size-low, pointers-more, blocks-more, length-more, size-more, good-append, file-fronted}
 
 -- the first n bytes of a buffer are the file of a list: what a call is given that goes on with it

@@ -18,7 +18,7 @@ use Rattle.encode.specs.Unfit.{firstFrom, outside, unfitInteger, unfitIntegers}
 use Rattle.encode.specs.Write.{flat, residue, fixedBytes, filledUp, integersData}
 use Rattle.sheet.specs.Lines.{lineLen, keyLen, continues, judgedOf, stepOf, checkFrom, linesVerdict, linesFrom, linesOf}
 use Rattle.sheet.specs.Area.{joined, stringsOf, textSize, areaOf, areaSize, measuredOf}
-use Rattle.writer.specs.Layout.{nul, lineFeed, fileBlock, startSize, Trace, Samples.integers, count, fitting, unfit, samplesData, traceBlock, blockBytes, dataBytes, traceBytes}
+use Rattle.layout.specs.Layout.{nul, lineFeed, fileBlock, startSize, Trace, Samples.integers, count, fitting, unfit, samplesData, traceBlock, blockBytes, dataBytes, traceBytes}
 use Rattle.afresh.specs.FileOf.{sizes, pointers, blocks, fileOf, fileSize, Measures, AllGood}
 use Rattle.afresh.specs.Afresh.{Writable}
 

@@ -15,9 +15,11 @@ use Rattle.refusal.specs.declared.Verdict.the-variants.{Accepted, Refused}
 use Rattle.image.specs.Image.{checkOf}
 use Rattle.reader.specs.Questions.{asked, integersAnswer, bitsAnswer, integersLeft, patternsLeft, classesLeft}
 use Rattle.reader.specs.Answers.{integers-kept, bits-kept}
-use Rattle.writer.specs.declared.Written.the-variants as written
-use Rattle.writer.specs.Layout.{startSize, Trace}
-use Rattle.writer.specs.Answers.{startAnswer, startLeft, newLength, addAnswer, addLeft}
+use Rattle.start.specs.declared.Written.the-variants as written
+use Rattle.layout.specs.Layout.{startSize, Trace}
+use Rattle.start.specs.Start.{startAnswer, startLeft}
+use Rattle.append.specs.Grown.{newLength}
+use Rattle.writer.specs.Answers.{addAnswer, addLeft}
 use Rattle.writer.specs.Shown as shown
 use Rattle.demands.specs.FirstRow.{NoneMet, Met, firstOf, refused-by-the-first, accepted-where-none-is-met}
 use Rattle.demands.specs.FileRows.{checkRows, check-answers-first}

@@ -24,10 +24,12 @@ use Rattle.image.specs.Image.{checkOf}
 use Rattle.reader.specs.declared.FileAnswer.{FileAnswer}
 use Rattle.reader.specs.declared.FileAnswer.the-variants as file
 use Rattle.reader.specs.Questions.{fileFacts, fileAnswer}
-use Rattle.writer.specs.declared.Written.the-variants.{To}
-use Rattle.writer.specs.Layout.{nul, lineFeed, startSize, Trace, count, traceSize}
-use Rattle.writer.specs.LayoutLaws.{Stands}
-use Rattle.writer.specs.Answers.{startAnswer, startLeft, newLength, addAnswer, addLeft}
+use Rattle.start.specs.declared.Written.the-variants.{To}
+use Rattle.layout.specs.Layout.{nul, lineFeed, startSize, Trace, count, traceSize}
+use Rattle.layout.specs.LayoutLaws.{Stands}
+use Rattle.start.specs.Start.{startAnswer, startLeft}
+use Rattle.append.specs.Grown.{newLength}
+use Rattle.writer.specs.Answers.{addAnswer, addLeft}
 use Rattle.writer.specs.Shown.{added, add-left}
 use Rattle.growth.specs.Frame.{lies, grown-count}
 use Rattle.growth.specs.Grows.{grown-grows}

@@ -23,11 +23,14 @@ use Rattle.image.specs.Image.{checkOf}
 use Rattle.image.specs.Keeps.{stringsEnd}
 use Rattle.reader.specs.declared.FileAnswer.the-variants as file
 use Rattle.reader.specs.Questions.{fileAnswer, traceAnswer, countAnswer, nthAnswer, findAnswer, keywordAnswer, valueAnswer, numberAnswer, doubleAnswer, locationAnswer, integersAnswer, bitsAnswer, integersLeft, patternsLeft, classesLeft}
-use Rattle.writer.specs.declared.Written.{Written}
-use Rattle.writer.specs.declared.Written.the-variants.{To, Refused}
-use Rattle.writer.specs.Layout.{startSize, Trace}
-use Rattle.writer.specs.Answers.{startAnswer, startLeft, newBytes, addAnswer, addLeft}
-use Rattle.writer.specs.Shown.{started, added, add-left, start-left}
+use Rattle.start.specs.declared.Written.{Written}
+use Rattle.start.specs.declared.Written.the-variants.{To, Refused}
+use Rattle.layout.specs.Layout.{startSize, Trace}
+use Rattle.start.specs.Start.{startAnswer, startLeft}
+use Rattle.append.specs.Grown.{newBytes}
+use Rattle.writer.specs.Answers.{addAnswer, addLeft}
+use Rattle.start.specs.StartShown.{started, start-left}
+use Rattle.writer.specs.Shown.{added, add-left}
 use Rattle.growth.specs.Answered.{AnswersBy}
 use Rattle.growth.specs.Frame.{length-grown, grown-byte, grown-new, grown-count, grown-pointer}
 use Rattle.growth.specs.Grows.{grown-grows}

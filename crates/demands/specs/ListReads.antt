@@ -18,7 +18,7 @@ use Rattle.image.specs.Keeps.{traceAt}
 use Rattle.reader.specs.declared.FileAnswer.the-variants as file
 use Rattle.reader.specs.Questions.{fileAnswer}
 use Rattle.reader.specs.Listed.{file-area}
-use Rattle.writer.specs.Layout.{nul, lineFeed, Trace}
+use Rattle.layout.specs.Layout.{nul, lineFeed, Trace}
 use Rattle.growth.specs.Answered.{AnswersBy, answered}
 use Rattle.growth.specs.TraceReads.{Standing, ReadsAs, reads-as}
 use Rattle.afresh.specs.FileOf.{fileOf, fileSize, Measures, AllGood}

@@ -8,9 +8,10 @@ use mathlib.Core.List.{List}
 use lib.IntN.{ℤ}
 use lib.ListN.{length}
 use Rattle.refusal.specs.declared.Verdict.{Verdict}
-use Rattle.writer.specs.declared.Written.{Written}
-use Rattle.writer.specs.Layout.{Trace}
-use Rattle.writer.specs.Answers.{startAnswer, startLeft, addAnswer, addLeft}
+use Rattle.start.specs.declared.Written.{Written}
+use Rattle.layout.specs.Layout.{Trace}
+use Rattle.start.specs.Start.{startAnswer, startLeft}
+use Rattle.writer.specs.Answers.{addAnswer, addLeft}
 use Rattle.reader.specs.Questions.{integersAnswer, integersLeft, bitsAnswer, patternsLeft, classesLeft}
 
 -- an answer, a returned part, or a memory

@@ -55,10 +55,12 @@ use Rattle.reader.specs.declared.FileAnswer.the-variants as file
 use Rattle.reader.specs.Questions.{fileAnswer, codeAt, countAt, ofIntegers, ofBits, dataOf, samplesOf, patternsOf, classesOf, integersAnswer, bitsAnswer, integersLeft, patternsLeft, classesLeft, numberAnswer, doubleAnswer, locationAnswer}
 use Rattle.reader.specs.Listed.{Lists, file-lists, trace-lists, lists-once}
 use Rattle.reader.specs.Answers.{integers-read, bits-read}
-use Rattle.writer.specs.declared.Written.the-variants.{To}
-use Rattle.writer.specs.Layout.{nul, lineFeed, Trace}
-use Rattle.writer.specs.Answers.{startAnswer, startLeft, addAnswer, addLeft}
-use Rattle.writer.specs.Shown.{started, added, add-left}
+use Rattle.start.specs.declared.Written.the-variants.{To}
+use Rattle.layout.specs.Layout.{nul, lineFeed, Trace}
+use Rattle.start.specs.Start.{startAnswer, startLeft}
+use Rattle.writer.specs.Answers.{addAnswer, addLeft}
+use Rattle.start.specs.StartShown.{started}
+use Rattle.writer.specs.Shown.{added, add-left}
 use Rattle.growth.specs.Answered.{AnswersBy, answered}
 use Rattle.growth.specs.TraceReads.{readBack, ReadsAs}
 use Rattle.growth.specs.ReadsLast.{reads-last}

@@ -20,7 +20,7 @@ use Rattle.decimal.specs.declared.NumberAnswer.{NumberAnswer}
 use Rattle.decimal.specs.declared.NumberAnswer.the-variants.{Is, Refused}
 use Rattle.decimal.specs.Run.{run}
 use Rattle.decimal.specs.Number.{has, past, worth, value, powerOf, decimalOf, judged, partsOf, numberOf}
-use Rattle.writer.specs.Layout.{Samples.integers, fitting, unfit}
+use Rattle.layout.specs.Layout.{Samples.integers, fitting, unfit}
 use Rattle.writer.specs.Answers.{samplesOf}
 
 -- what a worked value says

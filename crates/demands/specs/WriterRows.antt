@@ -25,10 +25,12 @@ use Rattle.sheet.specs.Area as area
 use Rattle.sheet.specs.Area.{areaSize, measuredOf}
 use Rattle.head.specs.Head.{roomOf, countOf, stringEnd, lineEnd}
 use Rattle.reader.specs.Questions.{asked}
-use Rattle.writer.specs.declared.Written.{Written}
-use Rattle.writer.specs.declared.Written.the-variants as written
-use Rattle.writer.specs.Layout.{nul, lineFeed, startSize, Trace, Samples, Samples.integers, Samples.patterns, fitting, unfit}
-use Rattle.writer.specs.Answers.{onMeasured, badStart, startAnswer, onVerdict, noSlot, openedOf, onFit, samplesOf, onSamples, newLength, addAnswer}
+use Rattle.start.specs.declared.Written.{Written}
+use Rattle.start.specs.declared.Written.the-variants as written
+use Rattle.layout.specs.Layout.{nul, lineFeed, startSize, Trace, Samples, Samples.integers, Samples.patterns, fitting, unfit}
+use Rattle.start.specs.Start.{onMeasured, badStart, startAnswer}
+use Rattle.append.specs.Grown.{newLength}
+use Rattle.writer.specs.Answers.{onVerdict, noSlot, openedOf, onFit, samplesOf, onSamples, addAnswer}
 use Rattle.demands.specs.FirstRow.{row, firstOf, first-nothing, first-row, asked-more, asked-row, asked-none}
 use Rattle.demands.specs.FileRows.{checkRows, check-answers-first}
 

@@ -26,8 +26,8 @@ use Rattle.reader.specs.declared.StringAnswer.{StringAnswer}
 use Rattle.reader.specs.declared.StringAnswer.the-variants as string
 use Rattle.reader.specs.declared.KeywordAnswer.{KeywordAnswer}
 use Rattle.reader.specs.declared.KeywordAnswer.the-variants as keyword
-use Rattle.writer.specs.declared.Written.{Written}
-use Rattle.writer.specs.declared.Written.the-variants as written
+use Rattle.start.specs.declared.Written.{Written}
+use Rattle.start.specs.declared.Written.the-variants as written
 use Rattle.face.specs.declared.Seg2Verdict.{Seg2Verdict}
 use Rattle.face.specs.declared.Seg2File.{Seg2File}
 use Rattle.face.specs.declared.Seg2Trace.{Seg2Trace}

@@ -9,7 +9,7 @@ use reader::KeywordAnswer;
 use reader::StringAnswer;
 use reader::TraceAnswer;
 use refusal::Verdict;
-use writer::Written;
+use start::Written;
 ghost use mathlib.Core.Path.{_≡_};
 ghost use Prim.Native.Nat.{_-_};
 ghost use Rattle.face.specs.Face.{flag, verdictOf, fileOf, traceOf, countOf, stringOf, keywordOf, valueOf, decimalOf, doubleOf, locationOf, lengthOf};

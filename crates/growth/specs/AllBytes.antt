@@ -17,7 +17,7 @@ use Rattle.word.specs.Round.{round4}
 use Rattle.word.specs.Word.{bytesOf}
 use Rattle.word.specs.WordLaws.{bytesOf-bytes}
 use Rattle.refusal.specs.Rows.{pick}
-use Rattle.text.specs.Chars.{blank, keyChar, valueChar, note, blank-value}
+use Rattle.text.specs.Chars.{blank, keyChar, valueChar, note, blank-value, control}
 use Rattle.text.specs.Runs.{all, same, both}
 use Rattle.text.specs.Note.{lines, valueOk, Lines, Lines.done, Lines.char, Lines.line, lines-spelled}
 use Rattle.strings.specs.Spelled.{Str, Good, Rising, textOf, sizeOf, written, Spells, Spells.empty, Spells.full}
@@ -25,14 +25,14 @@ use Rattle.encode.specs.Write.{flat, residue, fixedBytes, exponentsOf, mantissa
 use Rattle.sheet.specs.declared.Measured.the-variants.{Size}
 use Rattle.sheet.specs.Area.{areaOf, areaSize, padding, stringsOf, textSize, measuredOf}
 use Rattle.area.specs.Spelling.{among, Terminators, terminators-end, area-spells}
-use Rattle.text.specs.Chars.{control}
 use Rattle.head.specs.Head.{highFirst, stringEnd, lineEnd}
-use Rattle.writer.specs.Layout.{Trace, Samples, Samples.integers, Samples.patterns, count, fitting, samplesData, orderMark, plainEnds, nul, lineFeed, fileBlock, startImage, traceBlock, blockBytes, dataBytes, traceBytes}
-use Rattle.writer.specs.Answers.{newBytes, grown}
-use Rattle.writer.specs.Shown.{Added, Started}
+use Rattle.layout.specs.Layout.{Trace, Samples, Samples.integers, Samples.patterns, count, fitting, samplesData, orderMark, plainEnds, nul, lineFeed, fileBlock, startImage, traceBlock, blockBytes, dataBytes, traceBytes}
+use Rattle.append.specs.Grown.{newBytes, grown}
+use Rattle.start.specs.StartShown.{Started}
+use Rattle.writer.specs.Shown.{Added}
 use Rattle.growth.specs.Frame.{put-bytes, grown-bytes}
 use Rattle.growth.specs.Grows.{Grows, grown-grows}
-use Rattle.writer.specs.LayoutLaws.{never, kinded}
+use Rattle.layout.specs.LayoutLaws.{never, kinded}
 use Rattle.growth.specs.Ends.{keeps-terminators}
 
 -- ---- characters

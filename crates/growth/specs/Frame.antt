@@ -16,10 +16,10 @@ use Rattle.word.specs.Round.{round4}
 use Rattle.word.specs.Word.{wordAt, bytesOf}
 use Rattle.word.specs.WordLaws.{length-bytesOf, bytesOf-bytes, word-put, word-put-after}
 use Rattle.head.specs.Head.{highFirst, roomOf, countOf}
-use Rattle.writer.specs.Layout.{Trace}
-use Rattle.writer.specs.Answers.{newBytes, grown}
+use Rattle.layout.specs.Layout.{Trace}
+use Rattle.append.specs.Grown.{newBytes, grown}
 use Rattle.writer.specs.Shown.{room-small, placed, Added}
-use Rattle.writer.specs.LayoutLaws.{length-newBytes}
+use Rattle.append.specs.GrownLaws.{length-newBytes}
 
 -- ---- one store, byte by byte
 

@@ -20,8 +20,8 @@ use Rattle.sheet.specs.Area.{areaSize, measuredOf}
 use Rattle.head.specs.Head.{highFirst, roomOf, countOf, stringEnd, lineEnd}
 use Rattle.image.specs.Keeps.{Keeps}
 use Rattle.image.specs.Accepted.{accepted-keeps}
-use Rattle.writer.specs.Layout.{Trace, fitting, unfit, traceSize, traceBytes}
-use Rattle.writer.specs.Answers.{newBytes, newLength, grown}
+use Rattle.layout.specs.Layout.{Trace, fitting, unfit, traceSize, traceBytes}
+use Rattle.append.specs.Grown.{newBytes, newLength, grown}
 use Rattle.writer.specs.Shown.{Added}
 use Rattle.growth.specs.Frame.{lies, length-grown, grown-front, grown-middle, grown-rest, grown-new, grown-count, grown-pointer}
 

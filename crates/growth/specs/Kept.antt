@@ -15,7 +15,7 @@ use Rattle.word.specs.Word.{valueOf, wordAt}
 use Rattle.head.specs.Head.{highFirst, revisionOf, roomOf, countOf, terminatorAt, stringEnd, lineEnd}
 use Rattle.block.specs.Block.{pointerOf, markAt, blockSize, dataSize, sampleCount, formatCode, dataAt, endAt}
 use Rattle.image.specs.Keeps.{traceAt, endBefore, KeepsTerminator, Keeps}
-use Rattle.writer.specs.Layout.{Trace}
+use Rattle.layout.specs.Layout.{Trace}
 use Rattle.growth.specs.Grows.{Grows}
 
 -- ---- a byte and a word are told by the part that they stand in

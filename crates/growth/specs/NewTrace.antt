@@ -13,8 +13,8 @@ use Rattle.sheet.specs.Area.{areaOf, areaSize}
 use Rattle.head.specs.Head.{highFirst, countOf, stringEnd, lineEnd}
 use Rattle.block.specs.Block.{markAt, blockSize, dataSize, sampleCount, formatCode, dataAt, endAt}
 use Rattle.image.specs.Keeps.{traceAt}
-use Rattle.writer.specs.Layout.{Trace, count, samplesData, blockBytes, dataBytes, traceSize, traceBytes}
-use Rattle.writer.specs.LayoutLaws.{Stands, stands}
+use Rattle.layout.specs.Layout.{Trace, count, samplesData, blockBytes, dataBytes, traceSize, traceBytes}
+use Rattle.layout.specs.LayoutLaws.{Stands, stands}
 use Rattle.growth.specs.Grows.{Grows}
 use Rattle.growth.specs.Kept.{high-kept, trace-at-new}
 
@@ -25,7 +25,7 @@ pub record HasNew (f g : List ℕ) (x : Trace) : Type 0 where
   pub mark : markAt (highFirst g) g (traceAt g (countOf f)) ≡ 17442
   pub block : blockSize (highFirst g) g (traceAt g (countOf f)) ≡ blockBytes (stringEnd f) (lineEnd f) x
   pub size : dataSize (highFirst g) g (traceAt g (countOf f)) ≡ dataBytes x
-  pub count : sampleCount (highFirst g) g (traceAt g (countOf f)) ≡ Rattle.writer.specs.Layout.count (x .samples)
+  pub count : sampleCount (highFirst g) g (traceAt g (countOf f)) ≡ Rattle.layout.specs.Layout.count (x .samples)
   pub code : formatCode g (traceAt g (countOf f)) ≡ x .code
   pub begins : dataAt (highFirst g) g (traceAt g (countOf f)) ≡ round4 (length f) + blockBytes (stringEnd f) (lineEnd f) x
   pub ends : endAt (highFirst g) g (traceAt g (countOf f)) ≡ length g

@@ -11,8 +11,8 @@ use Rattle.word.specs.Bytes.{Bytes}
 use Rattle.word.specs.Round.{round4}
 use Rattle.sheet.specs.Area.{areaSize}
 use Rattle.head.specs.Head.{countOf, stringEnd, lineEnd}
-use Rattle.writer.specs.Layout.{Trace}
-use Rattle.writer.specs.Answers.{grown}
+use Rattle.layout.specs.Layout.{Trace}
+use Rattle.append.specs.Grown.{grown}
 use Rattle.writer.specs.Shown.{Added}
 use Rattle.growth.specs.Frame.{lies}
 use Rattle.growth.specs.Grows.{Grows, grown-grows}

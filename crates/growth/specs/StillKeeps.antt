@@ -25,13 +25,13 @@ use Rattle.block.specs.Block.{dataSize, dataAt, endAt}
 use Rattle.image.specs.Image.{checkOf}
 use Rattle.image.specs.Keeps.{traceAt, endBefore, stringsEnd, KeepsTrace, Keeps}
 use Rattle.image.specs.Accepted.{keeps-accepted}
-use Rattle.writer.specs.Layout.{Trace, count}
-use Rattle.writer.specs.Answers.{grown}
+use Rattle.layout.specs.Layout.{Trace, count}
+use Rattle.append.specs.Grown.{grown}
 use Rattle.writer.specs.Shown.{Added}
 use Rattle.growth.specs.Frame.{length-grown}
 use Rattle.growth.specs.Grows.{Grows, grown-grows}
 use Rattle.growth.specs.Kept.{longer, low-kept, second-kept, high-kept, revision-kept, room-kept, count-grown, size-kept, string-end-kept, line-end-kept, trace-at-kept, trace-at-new, part-kept, trace-kept}
-use Rattle.writer.specs.LayoutLaws.{kinded, room-enough}
+use Rattle.layout.specs.LayoutLaws.{kinded, room-enough}
 use Rattle.growth.specs.NewTrace.{has-new}
 use Rattle.growth.specs.Ends.{keeps-line-end}
 

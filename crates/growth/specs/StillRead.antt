@@ -29,8 +29,8 @@ use Rattle.reader.specs.declared.StringAnswer.{StringAnswer}
 use Rattle.reader.specs.declared.StringAnswer.the-variants as string
 use Rattle.reader.specs.declared.FileAnswer.the-variants as file
 use Rattle.reader.specs.Questions.{noTrace, whoseOf, areaOf, areaAsked, onArea, onTrace, fileAnswer, traceAnswer, placesIn, countAnswer, there, nthAnswer, findAnswer, keywordAnswer, valueThere, valueAnswer, numberAnswer, doubleAnswer, locationAnswer, dataOf, integersRows, bitsRows, integersAnswer, bitsAnswer, samplesOf, patternsOf, classesOf, traceNumber, integersLeft, patternsLeft, classesLeft}
-use Rattle.writer.specs.Layout.{Trace}
-use Rattle.writer.specs.Answers.{grown}
+use Rattle.layout.specs.Layout.{Trace}
+use Rattle.append.specs.Grown.{grown}
 use Rattle.writer.specs.Shown.{placed, Added}
 use Rattle.growth.specs.Grows.{Grows, grown-grows}
 use Rattle.growth.specs.Kept.{behind-room, longer, high-kept, room-kept, count-grown, size-kept, string-end-kept, trace-at-kept, part-kept, trace-kept}

@@ -32,9 +32,9 @@ use Rattle.reader.specs.declared.TraceAnswer.the-variants as trace
 use Rattle.reader.specs.Questions.{traceAnswer, dataOf, codeAt, countAt, ofIntegers, integersAnswer, bitsAnswer, samplesOf, patternsOf, classesOf, integersLeft, patternsLeft, classesLeft}
 use Rattle.reader.specs.Listed.{whose-one, trace-area}
 use Rattle.reader.specs.Answers.{integers-read, bits-read}
-use Rattle.writer.specs.Layout.{Trace, Samples.integers, Samples.patterns, fitting, unfit, samplesData, blockBytes, dataBytes, traceSize}
-use Rattle.writer.specs.Layout as layout
-use Rattle.writer.specs.LayoutLaws.{never, Stands}
+use Rattle.layout.specs.Layout.{Trace, Samples.integers, Samples.patterns, fitting, unfit, samplesData, blockBytes, dataBytes, traceSize}
+use Rattle.layout.specs.Layout as layout
+use Rattle.layout.specs.LayoutLaws.{never, Stands}
 use Rattle.growth.specs.Answered.{AnswersBy, answered}
 
 -- ---- what was given, as it reads back

@@ -2,8 +2,10 @@
 -- Assumes nothing.
 use mathlib.Core.Path.{_≡_, refl}
 use mathlib.Core.Bool.{Bool, true, false, _&&_, _||_}
-use Prim.Native.Nat.{ℕ}
+use Prim.Native.Nat.{ℕ, _≤_}
 use native.Mathlib.Omega.{arith}
+use lib.Dec.{ltb}
+use borrow.Author.Tests.{ltb-false}
 use Rattle.refusal.specs.declared.Refusal.{Refusal}
 use Rattle.refusal.specs.declared.Verdict.{Verdict}
 use Rattle.refusal.specs.declared.Verdict.the-variants.{Accepted, Refused}
@@ -27,3 +29,7 @@ isAccepted (Refused r) = false
 
 pub refused-not : (r : Refusal) → Refused r ≡ Accepted → ⊥
 refused-not r e = let z : _≡_ {A = ℕ} 0 1 = cc in omega arith
+
+-- neither below nor above
+pub at-most : (n low most : ℕ) → (ltb n low || ltb most n) ≡ false → n ≤ most
+at-most n low most h = ltb-false most n (neither (ltb n low) (ltb most n) h .1)

@@ -16,8 +16,9 @@ ghost use mathlib.Core.Bool.{false};
 ghost use lib.ListN.{length};
 ghost use Rattle.image.specs.Image.{checkOf};
 ghost use Rattle.reader.specs.Questions.{fileAnswer, traceAnswer, countAnswer, nthAnswer, findAnswer, keywordAnswer, numberAnswer, doubleAnswer, locationAnswer, integersAnswer, integersLeft, bitsAnswer, patternsLeft, classesLeft};
-ghost use Rattle.writer.specs.Layout.{ofIntegers, ofPatterns};
-ghost use Rattle.writer.specs.Answers.{startAnswer, startLeft, addAnswer, addLeft};
+ghost use Rattle.layout.specs.Layout.{ofIntegers, ofPatterns};
+ghost use Rattle.start.specs.Start.{startAnswer, startLeft};
+ghost use Rattle.writer.specs.Answers.{addAnswer, addLeft};
 ghost use Rattle.face.specs.Face.{verdictOf, fileOf, traceOf, countOf, stringOf, keywordOf, valueOf, decimalOf, doubleOf, locationOf, lengthOf};
 
 // ---- questions
@@ -140,7 +141,7 @@ pub extern "C" fn seg2_start(buffer: &mut [u8], order: u32, slots: u32, sheet: &
     ensures answer { λ r. ⌜ r ≡ lengthOf (startAnswer (now (buffer .entry)) order slots (now (sheet .entry))) ⌝ }
     ensures left { λ _. ⌜ now (buffer .exit) ≡ startLeft (now (buffer .entry)) order slots (now (sheet .entry)) ⌝ }
 {
-    face::length_told(writer::start(buffer, order as usize, slots as usize, sheet))
+    face::length_told(start::start(buffer, order as usize, slots as usize, sheet))
 }
 
 // A trace of integers (codes 1 to 3) behind the image that the buffer's first `length` bytes are.

@@ -1,19 +1,17 @@
--- When a file is started and when a trace is added: exactly where none of the rows of document 01 ("Starting: 31, 25, 26, 27, 30", "Adding: 1 to 17, then
--- 24 .. 30") is met. So neither refuses what it could take, and the length that is answered is the layout's.
+-- When a trace is added: exactly where none of the rows of document 01 ("Adding: 1 to 17, then 24 .. 30") is met. So no addition is refused that could
+-- be made, and the length that is answered is the layout's.
 -- Assumes nothing.
-use mathlib.Core.Path.{_≡_, refl, sym, ap, _∙_}
-use mathlib.Core.Bool.{Bool, true, false, not, _||_}
+use mathlib.Core.Path.{_≡_, refl}
+use mathlib.Core.Bool.{Bool, true, false, not}
 use mathlib.Core.List.{List}
 use Prim.Native.Nat.{ℕ, _+_, _*_, _≤_, _<_}
 use native.Mathlib.Omega.{arith}
 use lib.ListN.{length, take}
-use lib.Dec.{ltb, eqb}
 use borrow.Author.Tests.{le-ltb, ltb-false, not-false}
 use Rattle.word.specs.Bytes.{Bytes}
-use Rattle.word.specs.Put.{put}
 use Rattle.word.specs.WordLaws.{word-small}
 use Rattle.refusal.specs.declared.Refusal.{Refusal}
-use Rattle.refusal.specs.declared.Rule.the-variants.{Length, NoSlot, EntryCode, NoRoom, StartValues}
+use Rattle.refusal.specs.declared.Rule.the-variants.{Length, NoSlot, EntryCode}
 use Rattle.refusal.specs.declared.Part.the-variants.{File}
 use Rattle.refusal.specs.declared.Verdict.{Verdict}
 use Rattle.refusal.specs.declared.Verdict.the-variants as verdict
@@ -24,29 +22,24 @@ use Rattle.encode.specs.declared.Fit.the-variants.{All, At}
 use Rattle.sheet.specs.declared.Measured.{Measured}
 use Rattle.sheet.specs.declared.Measured.the-variants as measured
 use Rattle.sheet.specs.Area.{areaSize, measuredOf}
-use Rattle.area.specs.Spelling.{measured-size}
 use Rattle.head.specs.Head.{highFirst, roomOf, countOf, stringEnd, lineEnd, refused}
-use Rattle.refusal.specs.Tests.{neither, join-neither, refused-not}
+use Rattle.refusal.specs.Tests.{refused-not}
 use Rattle.head.specs.HeadLaws.{Headed}
 use Rattle.image.specs.Image.{imageOf, badLength, checkOf}
 use Rattle.image.specs.ImageLaws.{long-enough}
 use Rattle.image.specs.Accepted.{image-headed}
-use Rattle.writer.specs.declared.Written.{Written}
-use Rattle.writer.specs.declared.Written.the-variants.{To, Refused}
-use Rattle.writer.specs.Layout.{nul, lineFeed, startImage, startSize, Trace, Samples, fitting, unfit}
-use Rattle.writer.specs.Answers.{within, onMeasured, badStart, startAnswer, startLeft, onVerdict, noSlot, openedOf, onFit, samplesOf, onSamples, newLength, addAnswer, grown, addLeft}
+use Rattle.start.specs.declared.Written.{Written}
+use Rattle.start.specs.declared.Written.the-variants.{To, Refused}
+use Rattle.layout.specs.Layout.{Trace, Samples, fitting, unfit}
+use Rattle.start.specs.Start.{within}
+use Rattle.append.specs.Grown.{newLength, grown}
+use Rattle.writer.specs.Answers.{onVerdict, noSlot, openedOf, onFit, samplesOf, onSamples, addAnswer, addLeft}
+use Rattle.start.specs.StartShown.{not-refused, from-measured, from-within, to-within, as-area}
 
 -- ---- from an answer back through the rows
 
-pub not-refused : (r : Refusal) (end : ℕ) → Refused r ≡ To end → ⊥
-not-refused r end e = let z : _≡_ {A = ℕ} 0 1 = cc in omega arith
-
 not-size : (r : Refusal) (b : ℕ) → measured.Refused r ≡ measured.Size b → ⊥
 not-size r b e = let z : _≡_ {A = ℕ} 0 1 = cc in omega arith
-
-from-measured : (m : Measured) (more : Written) (end : ℕ) → onMeasured m more ≡ To end → (b : ℕ) × (m ≡ measured.Size b) × (more ≡ To end)
-from-measured (measured.Size b) more end e = (b, refl, e)
-from-measured (measured.Refused r) more end e = absurd (not-refused r end e)
 
 from-samples : (v : Verdict) (more : Written) (end : ℕ) → onSamples v more ≡ To end → (v ≡ verdict.Accepted) × (more ≡ To end)
 from-samples verdict.Accepted more end e = (refl, e)
@@ -60,10 +53,6 @@ from-slot : (w : Bool) (r : Refusal) (m : Measured) (b : ℕ) → pick w (measur
 from-slot true r m b e = absurd (not-size r b e)
 from-slot false r m b e = (refl, e)
 
-from-row : (w : Bool) (r : Refusal) (more : Written) (end : ℕ) → pick w (Refused r) more ≡ To end → (w ≡ false) × (more ≡ To end)
-from-row true r more end e = absurd (not-refused r end e)
-from-row false r more end e = (refl, e)
-
 from-kind : (w : Bool) (r : Refusal) (v : Verdict) → pick w (verdict.Refused r) v ≡ verdict.Accepted → (w ≡ false) × (v ≡ verdict.Accepted)
 from-kind true r v e = absurd (refused-not r e)
 from-kind false r v e = (refl, e)
@@ -71,24 +60,6 @@ from-kind false r v e = (refl, e)
 from-fit : (x : Fit) → onFit x ≡ verdict.Accepted → x ≡ All
 from-fit All e = refl
 from-fit (At i) e = absurd (refused-not _ e)
-
--- 30: the new length is the answer, and within the buffer and the maximum
-from-within : (size new end : ℕ) → within size new ≡ To end → (new ≡ end) × (end ≤ size) × (end ≤ 67108864)
-from-within size new end e =
-    let a = from-row (ltb size new || ltb 67108864 new) (refusal NoRoom File 0) (To new) end e in
-    let b = neither (ltb size new) (ltb 67108864 new) (a .0) in
-    let c = ltb-false size new (b .0) in
-    let d = ltb-false 67108864 new (b .1) in
-    let q = a .1 in
-    let s : new ≡ end = cc in
-    (s, omega arith, omega arith)
-
-to-within : (size new end : ℕ) → new ≡ end → end ≤ size → end ≤ 67108864 → within size new ≡ To end
-to-within size new end e l m = rw (e, join-neither (ltb size end) (ltb 67108864 end) (le-ltb size end l) (le-ltb 67108864 end m))
-
--- a size that is answered is the area's
-pub as-area : (t u s : List ℕ) (b : ℕ) → measuredOf t u s ≡ measured.Size b → measuredOf t u s ≡ measured.Size (areaSize t u s)
-as-area t u s b e = e ∙ ap measured.Size (sym (measured-size t u s b e .1))
 
 -- ---- what each step has shown
 
@@ -178,48 +149,3 @@ add-left xs n x end e = rw e
 pub add-refused : (xs : List ℕ) (n : ℕ) (x : Trace) (r : Refusal) → addAnswer xs n x ≡ Refused r → addLeft xs n x ≡ xs
 unfolding addLeft
 add-refused xs n x r e = rw e
-
--- ---- starting
-
-pub record Started (xs : List ℕ) (order slots : ℕ) (sheet : List ℕ) (end : ℕ) : Type 0 where
-  pub either : order ≤ 1
-  pub some : 1 ≤ slots
-  pub few : slots ≤ 16383
-  pub sized : measuredOf nul lineFeed sheet ≡ measured.Size (areaSize nul lineFeed sheet)
-  pub new : startSize slots sheet ≡ end
-  pub in-buffer : end ≤ length xs
-  pub in-maximum : end ≤ 67108864
-
-pub started : (xs : List ℕ) (order slots : ℕ) (sheet : List ℕ) (end : ℕ) → startAnswer xs order slots sheet ≡ To end → Started xs order slots sheet end
-unfolding startAnswer
-started xs order slots sheet end e =
-    let a = from-row (badStart order slots) (refusal StartValues File 0) _ end e in
-    let b = from-measured (measuredOf nul lineFeed sheet) (within (length xs) (startSize slots sheet)) end (a .1) in
-    let c = from-within (length xs) (startSize slots sheet) end (b .2) in
-    let d = neither (ltb 1 order) (ltb slots 1 || ltb 16383 slots) (a .0) in
-    let g = neither (ltb slots 1) (ltb 16383 slots) (d .1) in
-    record {
-      either = ltb-false 1 order (d .0);
-      some = ltb-false slots 1 (g .0);
-      few = ltb-false 16383 slots (g .1);
-      sized = as-area nul lineFeed sheet (b .0) (b .1);
-      new = c .0;
-      in-buffer = c .1;
-      in-maximum = c .2;
-    }
-
-pub starts : (xs : List ℕ) (order slots : ℕ) (sheet : List ℕ) (end : ℕ) → Started xs order slots sheet end → startAnswer xs order slots sheet ≡ To end
-unfolding startAnswer
-starts xs order slots sheet end h =
-    rw (le-ltb 1 order (h .either), le-ltb slots 1 (h .some), le-ltb 16383 slots (h .few), h .sized)
-    (to-within (length xs) (startSize slots sheet) end (h .new) (h .in-buffer) (h .in-maximum))
-
-pub start-left : (xs : List ℕ) (order slots : ℕ) (sheet : List ℕ) (end : ℕ) → startAnswer xs order slots sheet ≡ To end
-    → startLeft xs order slots sheet ≡ put xs 0 (startImage (eqb order 1) slots sheet)
-unfolding startLeft
-start-left xs order slots sheet end e = rw e
-
-pub start-refused : (xs : List ℕ) (order slots : ℕ) (sheet : List ℕ) (r : Refusal) → startAnswer xs order slots sheet ≡ Refused r
-    → startLeft xs order slots sheet ≡ xs
-unfolding startLeft
-start-refused xs order slots sheet r e = rw e

@@ -1,6 +1,6 @@
 -- `writer::add_bits` meets its contract. What is refused before the samples leaves all as it was. Assumes nothing.
 use mathlib.Core.Path.{sym, _∙_}
-use Rattle.writer.specs.Layout.{ofPatterns}
+use Rattle.layout.specs.Layout.{ofPatterns}
 use Rattle.writer.specs.Writes.{add-shut}
 use borrow.Author.Needs.{needs}
 use Rattle.writer.proofs.add_bits.Statement.{statement}

@@ -1,6 +1,6 @@
 -- `writer::add_integers` meets its contract. What is refused before the samples leaves all as it was. Assumes nothing.
 use mathlib.Core.Path.{sym, _∙_}
-use Rattle.writer.specs.Layout.{ofIntegers}
+use Rattle.layout.specs.Layout.{ofIntegers}
 use Rattle.writer.specs.Writes.{add-shut}
 use borrow.Author.Needs.{needs}
 use Rattle.writer.proofs.add_integers.Statement.{statement}

@@ -1,8 +1,8 @@
 -- `writer::bits_behind` meets its contract. Each return is one row; the last is the new length. Assumes nothing.
 use mathlib.Core.Path.{sym, _∙_}
 use lib.ListN.{length}
-use Rattle.writer.specs.Layout.{ofPatterns, count}
-use Rattle.writer.specs.LayoutLaws.{kinded}
+use Rattle.layout.specs.Layout.{ofPatterns, count}
+use Rattle.layout.specs.LayoutLaws.{kinded}
 use Rattle.writer.specs.Shown.{opened, samples-fit}
 use Rattle.writer.specs.Writes.{add-unfit, add-long, add-full, add-fits, new-end, growing}
 use Rattle.refusal.specs.Tests.{neither}

@@ -1,6 +1,7 @@
 -- `writer::bits_fit` meets its contract. The tests are those of row 28. Assumes nothing.
 use mathlib.Core.Path.{_∙_}
-use Rattle.writer.specs.Writes.{bits-code, bits-judged, code-most}
+use Rattle.writer.specs.Writes.{bits-code, bits-judged}
+use Rattle.refusal.specs.Tests.{at-most}
 use borrow.Author.Needs.{needs}
 use native.Mathlib.Omega.{arith}
 use Rattle.writer.proofs.bits_fit.Statement.{statement}
@@ -12,7 +13,7 @@ bits-fit-spec =
     (tie.spec
     (λ c κs. search needs)
     (λ c. c .wrong .ensures ∙ bits-code _ _ (c .before .if1 .taken))
-    (λ c. omega (arith, code-most (c .before .before .args .code) 4 5 (c .if1 .left)))
+    (λ c. omega (arith, at-most (c .before .before .args .code) 4 5 (c .if1 .left)))
     (λ c κs. search needs)
     (λ c κs. search needs)
     (λ c. c .fitted .ensures ∙ rw (c .before .unfit-bits .ensures) (bits-judged _ _ (c .before .before .if1 .left))))
