@@ -6,8 +6,6 @@ use lib.ListN.{take, replicate}
 use Rattle.word.specs.Put.{put}
 use Rattle.word.specs.Round.{round4}
 use Rattle.word.specs.Word.{bytesOf}
-use Rattle.refusal.specs.declared.Verdict.the-variants as verdict
-use Rattle.sheet.specs.declared.Measured.the-variants as measured
 use Rattle.head.specs.Head.{highFirst, countOf, stringEnd, lineEnd}
 use Rattle.layout.specs.Layout.{Trace, traceSize, traceBytes}
 

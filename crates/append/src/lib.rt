@@ -54,7 +54,14 @@ fn register(buffer: &mut [u8], high: bool, n: u16, at: usize)
 }
 
 // The terminators are taken out of the file first: the end of the buffer is then lent, and they stand at its start.
-pub fn grow_integers(buffer: &mut [u8], length: usize, sheet: &[u8], size: usize, code: u8, row: &[i32])
+pub fn grow_integers(
+    buffer: &mut [u8],
+    length: usize,
+    sheet: &[u8],
+    size: usize,
+    code: u8,
+    row: &[i32],
+)
     requires { ⌜ Growing (now buffer) length (now sheet) size (ofIntegers (now sheet) code (now row)) ⌝ }
     ensures { λ _. ⌜ now (buffer .exit) ≡ grown (now (buffer .entry)) length (ofIntegers (now (sheet .entry)) code (now (row .entry))) ⌝ }
 {

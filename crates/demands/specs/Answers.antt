@@ -20,7 +20,8 @@ use Rattle.layout.specs.Layout.{startSize, Trace}
 use Rattle.start.specs.Start.{startAnswer, startLeft}
 use Rattle.append.specs.Grown.{newLength}
 use Rattle.writer.specs.Answers.{addAnswer, addLeft}
-use Rattle.writer.specs.Shown as shown
+use Rattle.start.specs.StartShown.{not-refused, start-refused}
+use Rattle.writer.specs.Shown.{add-refused}
 use Rattle.demands.specs.FirstRow.{NoneMet, Met, firstOf, refused-by-the-first, accepted-where-none-is-met}
 use Rattle.demands.specs.FileRows.{checkRows, check-answers-first}
 use Rattle.demands.specs.QuestionRows.{integersRows, bitsRows, integers-answer-first, bits-answer-first}
@@ -38,10 +39,10 @@ check-accepts-where-none grow xs n = rw (check-answers-first grow xs n) (accepte
 -- a length is answered, or a refusal
 to-passed : (v : Verdict) (end to : ℕ) → asked written.Refused v (written.To end) ≡ written.To to → v ≡ Accepted
 to-passed Accepted end to e = refl
-to-passed (Refused r) end to e = absurd (shown.not-refused r to e)
+to-passed (Refused r) end to e = absurd (not-refused r to e)
 
 refused-met : (v : Verdict) (end : ℕ) (r : Refusal) → asked written.Refused v (written.To end) ≡ written.Refused r → v ≡ Refused r
-refused-met Accepted end r e = absurd (shown.not-refused r end (sym e))
+refused-met Accepted end r e = absurd (not-refused r end (sym e))
 refused-met (Refused q) end r e = let s : q ≡ r = cc in ap Refused s
 
 writes : (vs : List Verdict) (end : ℕ) (a : written.the-data) → a ≡ asked written.Refused (firstOf vs) (written.To end)
@@ -93,10 +94,10 @@ bits-accepted-where-none xs n z s c = rw (bits-answer-first xs n z s c) (accepte
 
 pub refused-start-changes-nothing : (xs : List ℕ) (order slots : ℕ) (sheet : List ℕ) (r : Refusal) → startAnswer xs order slots sheet ≡ written.Refused r
     → startLeft xs order slots sheet ≡ xs
-refused-start-changes-nothing = shown.start-refused
+refused-start-changes-nothing = start-refused
 
 pub refused-addition-changes-nothing : (xs : List ℕ) (n : ℕ) (x : Trace) (r : Refusal) → addAnswer xs n x ≡ written.Refused r → addLeft xs n x ≡ xs
-refused-addition-changes-nothing = shown.add-refused
+refused-addition-changes-nothing = add-refused
 
 pub refused-integers-change-nothing : (xs : List ℕ) (n : ℕ) (z : ℤ) (row : List ℤ) (r : Refusal) → integersAnswer xs n z (length row) ≡ Refused r
     → integersLeft xs n z row ≡ row

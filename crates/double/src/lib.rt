@@ -1,11 +1,11 @@
 // A number as a double, rounded once, and locations of one or three doubles (document 01, "As a double" and "Numbers in values", rows 22 and 23).
 // Double, Values and Location have the definitions, Rounded the proof that a double is the decimal value rounded once. Stands on `decimal`, `refusal`.
+use decimal::Decimal;
+use decimal::Kind;
+use decimal::NumberAnswer;
 use refusal::Part;
 use refusal::Refusal;
 use refusal::Rule;
-use decimal::Decimal;
-use decimal::NumberAnswer;
-use decimal::Kind;
 ghost use mathlib.Core.Path.{_≡_};
 ghost use Prim.Native.Nat.{_^_, _<_, _≤_};
 ghost use lib.IntN.{pos, natAbs};

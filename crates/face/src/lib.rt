@@ -1,8 +1,8 @@
 // The answers as they cross to another language: C structs of numbers, each beginning with the refusal's number in document 01's table (0: none), its
 // part (-1 for the file, else the trace) and its place. Face has the definitions; include/seg2.h declares the structs. Stands on `reader`, `writer`.
+use decimal::NumberAnswer;
 use double::DoubleAnswer;
 use double::LocationAnswer;
-use decimal::NumberAnswer;
 use reader::CountAnswer;
 use reader::FileAnswer;
 use reader::KeywordAnswer;

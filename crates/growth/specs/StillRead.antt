@@ -12,9 +12,8 @@ use borrow.Author.Tests.{lt-ltb, ne-eqb}
 use Rattle.word.specs.Part.{part}
 use Rattle.word.specs.Bytes.{Bytes}
 use Rattle.refusal.specs.declared.Refusal.{Refusal}
-use Rattle.refusal.specs.declared.Verdict.the-variants.{Accepted, Refused}
+use Rattle.refusal.specs.declared.Verdict.the-variants.{Accepted}
 use Rattle.strings.specs.declared.Place.{Place}
-use Rattle.strings.specs.declared.Found.the-variants.{Is}
 use Rattle.text.specs.Runs.{same}
 use Rattle.strings.specs.Strings.{placesOf, findOf, keyIn, valueFound}
 use Rattle.strings.specs.Spelled.{Str, Spells, nthStr, strsIn}

@@ -91,7 +91,6 @@ pub record Headed (grow : Bool) (f : List ℕ) : Type 0 where
   pub apart : apart (stringEnd f) (lineEnd f) ≡ true
   pub fits : 32 + roomOf f ≤ length f
 
-
 never-zero : (a g : Bool) → (a && not g) ≡ false → a ≡ true → g ≡ true
 never-zero true true h e = refl
 never-zero true false h e = let z : _≡_ {A = ℕ} 0 1 = cc in absurd (omega arith)

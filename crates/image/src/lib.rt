@@ -92,7 +92,14 @@ fn image(f: &[u8], grow: bool) -> Verdict
     let high = head::is_high(f);
     let m = word::word2(f, high, 4);
     let n = word::word2(f, high, 6);
-    rest(f, high, head::terminator(f, 8), head::terminator(f, 11), m, n as u16)
+    rest(
+        f,
+        high,
+        head::terminator(f, 8),
+        head::terminator(f, 11),
+        m,
+        n as u16,
+    )
 }
 
 // The check of a file: the first row met, or accepted. `grow` says that an addition asks, which also takes an image with N=0.

@@ -11,7 +11,6 @@ use borrow.Author.Tests.{eqb-true}
 use Rattle.word.specs.Put.{put, put-append}
 use Rattle.word.specs.Word.{bytesOf}
 use Rattle.word.specs.WordLaws.{length-bytesOf}
-use Rattle.refusal.specs.declared.Verdict.the-variants as verdict
 use Rattle.encode.specs.declared.Fit.the-variants.{All}
 use Rattle.sample.specs.Needed.{room}
 use Rattle.decode.specs.Sample.{integersAsked, bitsAsked}

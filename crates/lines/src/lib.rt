@@ -8,7 +8,6 @@ ghost use mathlib.Core.Path.{_≡_};
 ghost use mathlib.Core.List.{[], _∷_};
 ghost use Prim.Native.Nat.{_+_, _≤_};
 ghost use lib.ListN.{length};
-ghost use Rattle.word.specs.Part as parts;
 ghost use Rattle.refusal.specs.Table.{numberOf};
 ghost use Rattle.lines.specs.Digits.{digits};
 ghost use Rattle.lines.specs.Lines.{ended, whose, order, headLine, traceLine, refusalLine, space, spaced, label, stringLine};

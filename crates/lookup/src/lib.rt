@@ -1,9 +1,9 @@
 // Questions on the list of strings that an area spells: how many, the i-th, the one with a keyword; keywords and values as parts of the lent file
 // (document 01, "Strings"). The definitions are those of `strings`; Lists has what a walk along the list needs. Stands on `strings`, `text`.
-use strings::Frame;
-use strings::Place;
 use strings::Entry;
 use strings::Found;
+use strings::Frame;
+use strings::Place;
 ghost use mathlib.Core.Path.{_≡_};
 ghost use Prim.Native.Nat.{_+_, _≤_, _<_};
 ghost use lib.ListN.{length};

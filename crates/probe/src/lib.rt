@@ -13,11 +13,11 @@ ghost use Rattle.listing.specs.Listing.{listAnswer, listLeft};
 ghost use Rattle.probe.specs.Told.{numberTold, doubleTold, locationTold};
 ghost use Rattle.probe.specs.Listed.{lengthTold};
 ghost use Rattle.probe.specs.Written.{isAll, integersTaken, integersLeft, bitsTaken, bitsLeft};
+use decimal::NumberAnswer;
 use double::DoubleAnswer;
 use double::LocationAnswer;
-use decimal::NumberAnswer;
-use listing::Listed;
 use encode::Fit;
+use listing::Listed;
 
 // ---- numbers in values (document 01, "Numbers in values", rows 20 to 23)
 

@@ -2,9 +2,9 @@
 // samples too; Listed, Answers, First, Same and Reach are the second view. Every question checks the whole file first; its answer is one of the image,
 // the first `length` bytes of the lent buffer. A part is -1 for the file, else the trace. Stands on `image`, `lookup`, `double` and what they stand on.
 use block::TraceBlock;
+use decimal::NumberAnswer;
 use double::DoubleAnswer;
 use double::LocationAnswer;
-use decimal::NumberAnswer;
 use refusal::Part;
 use refusal::Refusal;
 use refusal::Rule;

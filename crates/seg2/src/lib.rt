@@ -1,16 +1,16 @@
 // The face for other languages: thin functions on numbers and byte slices, each with a whole promise and no `requires`. include/seg2.h declares them.
 // The answers are those of `reader`, `traces` and `writer`, as `face` hands them over.
-use face::Seg2Verdict;
-use face::Seg2File;
-use face::Seg2Trace;
 use face::Seg2Count;
-use face::Seg2String;
-use face::Seg2Keyword;
-use face::Seg2Value;
-use face::Seg2Number;
 use face::Seg2Double;
-use face::Seg2Location;
+use face::Seg2File;
+use face::Seg2Keyword;
 use face::Seg2Length;
+use face::Seg2Location;
+use face::Seg2Number;
+use face::Seg2String;
+use face::Seg2Trace;
+use face::Seg2Value;
+use face::Seg2Verdict;
 ghost use mathlib.Core.Path.{_≡_};
 ghost use mathlib.Core.Bool.{false};
 ghost use lib.ListN.{length};

@@ -9,7 +9,6 @@ use Rattle.word.specs.Put.{put}
 use Rattle.refusal.specs.declared.Rule.{Rule}
 use Rattle.refusal.specs.declared.Rule.the-variants.{NoRoom, StartValues}
 use Rattle.refusal.specs.declared.Part.the-variants.{File}
-use Rattle.refusal.specs.declared.Verdict.the-variants as verdict
 use Rattle.refusal.specs.Table.{refusal}
 use Rattle.refusal.specs.Rows.{pick}
 use Rattle.sheet.specs.declared.Measured.{Measured}

@@ -1,10 +1,10 @@
 // The worked values of document 01 and the examples of the paper (document 001), run against the proved functions. Each group writes one line.
+use decimal::NumberAnswer;
 use double::DoubleAnswer;
 use double::LocationAnswer;
-use decimal::NumberAnswer;
+use encode::Fit;
 use refusal::Part;
 use refusal::Verdict;
-use encode::Fit;
 
 // ---- comparisons
 

@@ -1,7 +1,6 @@
 -- `append::grow_integers` meets its contract. The gap, the trace, the slot and N are what a grown buffer has. Assumes nothing.
 use mathlib.Core.Path.{sym}
 use lib.Seq.{length-take-le}
-use lib.ListN.{length}
 use Rattle.word.specs.Put.{length-put}
 use Rattle.layout.specs.Layout.{ofIntegers}
 use Rattle.append.specs.GrownLaws.{ready, grown-put, block-count, block-high}

@@ -1,6 +1,5 @@
 -- `writer::integers_behind` meets its contract. Each return is one row; the last is the new length. Assumes nothing.
 use mathlib.Core.Path.{sym, _∙_}
-use lib.ListN.{length}
 use Rattle.layout.specs.Layout.{ofIntegers, count}
 use Rattle.layout.specs.LayoutLaws.{kinded}
 use Rattle.writer.specs.Shown.{opened, samples-fit}
