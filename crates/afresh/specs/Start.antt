@@ -9,13 +9,13 @@ use native.Mathlib.Omega.{arith}
 use lib.ListN.{length, getD}
 use lib.Dec.{ltb, eqb}
 use borrow.Author.Tests.{le-ltb, eq-eqb}
+use Rattle.word.specs.Tests.{join-neither}
 use Rattle.refusal.specs.declared.Rule.the-variants.{TraceCount}
 use Rattle.refusal.specs.declared.Part.the-variants.{File}
 use Rattle.refusal.specs.declared.Verdict.the-variants.{Accepted, Refused}
 use Rattle.refusal.specs.Table.{refusal}
 use Rattle.sheet.specs.Area.{areaSize}
 use Rattle.head.specs.Head.{known, revisionOf, roomOf, countOf, headOf, badRoom}
-use Rattle.refusal.specs.Tests.{join-neither}
 use Rattle.image.specs.Image.{andThen, imageOf, checkOf}
 use Rattle.image.specs.ImageLaws.{length-accepts}
 use Rattle.start.specs.declared.Written.the-variants.{To}

@@ -10,19 +10,16 @@ use lib.ListN.{length, take, drop, length-append}
 use lib.Seq.{take-append-seam, drop-append-add, drop-append-seam}
 use lib.Dec.{leb, eqb}
 use borrow.Author.Tests.{le-leb, lt-leb, ne-eqb}
-use Rattle.word.specs.Put.{put, take-put-end, drop-put-after}
-use Rattle.word.specs.Word.{lowBytes, bytesOf}
+use Rattle.word.specs.Tests.{both}
 use Rattle.text.specs.Chars.{valueChar, note}
-use Rattle.text.specs.Runs.{run, all, same, same-eq, same-refl, both}
-use Rattle.text.specs.Order.{less, rises}
+use Rattle.text.specs.Runs.{all, same, same-eq, same-refl}
 use Rattle.text.specs.Note as Note
 use Rattle.text.specs.Note.{starts, starts-front, withEnds}
-use Rattle.strings.specs.Spelled.{Str, written}
-use Rattle.sheet.specs.declared.Measured.the-variants.{Size}
-use Rattle.sheet.specs.Lines.{Line, plain, lineLen, keyLen, continues, judgedOf, stepOf, checkFrom, linesVerdict, linesFrom, linesOf}
-use Rattle.sheet.specs.Area.{strOf, values, noteOf, joined, stringsOf, textSize, areaOf, areaSize, measuredOf}
+use Rattle.strings.specs.Spelled.{Str}
+use Rattle.sheet.specs.Lines.{Line, plain}
+use Rattle.sheet.specs.Area.{strOf, values, noteOf, joined}
 use Rattle.sheet.specs.Paper.{GoodLines}
-use Rattle.area.specs.Spelling.{LineEnd, Plains, plains-of, plain-value, note-next, area-bounds}
+use Rattle.area.specs.Spelling.{LineEnd, Plains, plains-of, plain-value, note-next}
 
 -- ---- before the first NOTE, and from it on
 
@@ -135,42 +132,3 @@ note-lines-back [] prev l ls e g = absurd (omega (arith, e .0))
 note-lines-back (x ∷ u) prev l ls e g =
     let p = plains-of (l .key) ls (g .1) in
     lines-again x u (l .value) (values ls) (length (withEnds (x ∷ u) (values (l ∷ ls)))) (e .1) (g .0 .plains) p (omega arith)
-
--- ---- the area in its place: it is there whole, and what is past it is left
-
-pub area-in-place : (high : Bool) (t u s : List ℕ) (n : ℕ) (buf : List ℕ) → measuredOf t u s ≡ Size n → n ≤ length buf
-    → (take n (put buf 0 (areaOf high t u s)) ≡ areaOf high t u s) × (drop n (put buf 0 (areaOf high t u s)) ≡ drop n buf)
-area-in-place high t u s n buf e h =
-    let b = area-bounds high t u s n e in
-    let l : length (areaOf high t u s) ≡ n = b .0 in
-    let z : 0 + length (areaOf high t u s) ≡ n = omega arith in
-    let w = take-put-end (areaOf high t u s) buf 0 (omega arith) in
-    (rw z at w, drop-put-after n (areaOf high t u s) buf 0 (omega arith))
-
--- ---- document 01's own sheets: "UNITS METERS" and "STACK 1", low byte first, with the terminators of a start
-
-abbrev unitsSheet : List ℕ
-unitsSheet = 85 ∷ 78 ∷ 73 ∷ 84 ∷ 83 ∷ 9 ∷ 77 ∷ 69 ∷ 84 ∷ 69 ∷ 82 ∷ 83 ∷ 10 ∷ []
-
-abbrev stackSheet : List ℕ
-stackSheet = 83 ∷ 84 ∷ 65 ∷ 67 ∷ 75 ∷ 9 ∷ 49 ∷ 10 ∷ []
-
--- 36 and 20 bytes make pointer 56; 32 and 12 make B 44
-pub units-size : measuredOf (0 ∷ []) (10 ∷ []) unitsSheet ≡ Size 20
-unfolding measuredOf linesVerdict areaSize stringsOf joined textSize linesOf linesFrom checkFrom stepOf judgedOf lineLen keyLen continues run all same rises less
-units-size = refl
-
-pub stack-size : measuredOf (0 ∷ []) (10 ∷ []) stackSheet ≡ Size 12
-unfolding measuredOf linesVerdict areaSize stringsOf joined textSize linesOf linesFrom checkFrom stepOf judgedOf lineLen keyLen continues run all same rises less
-stack-size = refl
-
-pub units-area : areaOf false (0 ∷ []) (10 ∷ []) unitsSheet
-    ≡ 15 ∷ 0 ∷ 85 ∷ 78 ∷ 73 ∷ 84 ∷ 83 ∷ 32 ∷ 77 ∷ 69 ∷ 84 ∷ 69 ∷ 82 ∷ 83 ∷ 0 ∷ 0 ∷ 0 ∷ 0 ∷ 0 ∷ 0 ∷ []
-unfolding areaOf written bytesOf lowBytes stringsOf joined textSize linesOf linesFrom lineLen keyLen run all same
-units-area = refl
-
--- two lines of a NOTE, high byte first, in a file whose line terminator is 0D 0A: the second starts with a space
-pub note-area : areaOf true (0 ∷ []) (13 ∷ 10 ∷ []) (78 ∷ 79 ∷ 84 ∷ 69 ∷ 9 ∷ 65 ∷ 10 ∷ 78 ∷ 79 ∷ 84 ∷ 69 ∷ 9 ∷ 32 ∷ 66 ∷ 10 ∷ [])
-    ≡ 0 ∷ 13 ∷ 78 ∷ 79 ∷ 84 ∷ 69 ∷ 32 ∷ 65 ∷ 13 ∷ 10 ∷ 32 ∷ 66 ∷ 0 ∷ 0 ∷ 0 ∷ 0 ∷ []
-unfolding areaOf written bytesOf lowBytes withEnds stringsOf joined textSize linesOf linesFrom lineLen keyLen run all same
-note-area = refl

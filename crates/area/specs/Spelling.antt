@@ -8,7 +8,8 @@ use Prim.Native.Nat.{ℕ, _%_, _≤_, _<_}
 use native.Mathlib.Omega.{arith}
 use lib.ListN.{length, getD}
 use lib.Dec.{leb, ltb, eqb}
-use borrow.Author.Tests.{leb-true, ne-eqb, lt-leb, le-ltb, ltb-false}
+use borrow.Author.Tests.{leb-true, ne-eqb, lt-leb, le-ltb, ltb-false, not-true}
+use Rattle.word.specs.Tests.{both}
 use Rattle.word.specs.Round.{round4}
 use Rattle.refusal.specs.Rows.{pick}
 use Rattle.refusal.specs.Table.{refusal}
@@ -18,7 +19,7 @@ use Rattle.refusal.specs.declared.Part.the-variants.{File}
 use Rattle.refusal.specs.declared.Verdict.{Verdict}
 use Rattle.refusal.specs.declared.Verdict.the-variants.{Accepted, Refused}
 use Rattle.text.specs.Chars.{blank, valueChar, control, note, blank-value}
-use Rattle.text.specs.Runs.{all, same, same-eq, both, Stops, all-weaker}
+use Rattle.text.specs.Runs.{all, same, same-eq, Stops, all-weaker}
 use Rattle.text.specs.Order.{rises}
 use Rattle.text.specs.Note.{withEnds, valueOk, Lines, Lines.done, Lines.char, Lines.line, lines-accept}
 use Rattle.strings.specs.Strings as Strings
@@ -55,12 +56,8 @@ control-no-value : (b : ℕ) → control b ≡ true → valueChar b ≡ false
 control-no-value b h =
     let k = both (leb b 31) (not (eqb b 9)) h in
     let l = leb-true b 31 (k .0) in
-    let n : eqb b 9 ≡ false = not-back (eqb b 9) (k .1) in
+    let n : eqb b 9 ≡ false = not-true (eqb b 9) (k .1) in
     rw (lt-leb 32 b (omega arith), n)
-  where
-    not-back : (w : Bool) → not w ≡ true → w ≡ false
-    not-back true e = let z : _≡_ {A = ℕ} 0 1 = cc in absurd (omega arith)
-    not-back false e = refl
 
 pub terminators-end : (t u : List ℕ) → Terminators t u → LineEnd u
 unfolding all

@@ -7,12 +7,13 @@ use Prim.Native.Nat.{ℕ, _+_, _-_, _*_, _%_, _≤_}
 use lib.ListN.{length}
 use lib.Dec.{ltb, eqb}
 use borrow.Author.Tests.{le-ltb, eq-eqb, ltb-false, eqb-true, not-false}
+use Rattle.refusal.specs.Verdicts.{isAccepted, refused-not}
+use Rattle.word.specs.Tests.{neither, join-neither, not-both}
 use Rattle.word.specs.Word.{wordAt}
 use Rattle.refusal.specs.Rows.{pick, clear, through}
 use Rattle.refusal.specs.declared.Rule.the-variants.{Pointer}
 use Rattle.refusal.specs.declared.Verdict.the-variants.{Accepted}
 use Rattle.sample.specs.Needed.{needed}
-use Rattle.refusal.specs.Tests.{neither, join-neither, not-both, isAccepted, refused-not}
 use Rattle.block.specs.Block.{pointerOf, markAt, blockSize, dataSize, sampleCount, formatCode, dataAt, badPointer, wrong, pointerRow, blockRows, blockOf}
 
 -- ---- what row 8 has shown, and what passes it

@@ -10,12 +10,14 @@ use native.Mathlib.Omega.{arith}
 use lib.ListN.{length}
 use lib.Dec.{ltb, eqb}
 use borrow.Author.Tests.{ltb-true, ltb-false, eqb-true, eqb-false, lt-ltb, ne-eqb, not-false}
+use Rattle.word.specs.Tests.{and-false}
 use Rattle.refusal.specs.Table.{numberOf as codeOf}
 use Rattle.refusal.specs.Rows.{Rows, pick, first, Clear, through}
 use Rattle.decimal.specs.declared.Decimal.{Decimal}
 use Rattle.decimal.specs.declared.NumberAnswer.{NumberAnswer}
 use Rattle.decimal.specs.declared.NumberAnswer.the-variants.{Is, Refused}
-use Rattle.decimal.specs.Run.{digit, run, front, behind, Stops, run-none, parts, front-all, behind-stops, front-length, run-length, front-is, behind-is, run-all, behind-all, front-of-all}
+use Rattle.text.specs.Runs.{run, Stops, run-stops}
+use Rattle.decimal.specs.Run.{digit, front, behind, run-none, parts, front-all, front-length, run-length, front-is, behind-is, run-all, behind-all, front-of-all}
 use Rattle.decimal.specs.Grammar.{Parts, Sign, Sign.dash, Sign.nothing, Digits, Fraction, Fraction.no-point, Fraction.point, Power, Power.no-power, Power.power, Writes, Short}
 use Rattle.decimal.specs.Number.{has, past, has-same, past-same, past-has, past-not, decimalOf, noNumber, tooLong, judged, tailRows, shapeRows, partsOf, numberOf}
 
@@ -57,10 +59,6 @@ fraction-read {e = e} no-point p =
 fraction-read {ds} {e = e} (point k) p =
     rw (past-same 46 (ds ++ e), has-same 46 (ds ++ e))
     (some-digits ds e k (tail-stops p), front-is digit ds e (k .each) (tail-stops p), behind-is digit ds e (k .each) (tail-stops p))
-
-and-false : (b : Bool) → b && false ≡ false
-and-false true = refl
-and-false false = refl
 
 no-tail : Clear (tailRows []) × (has 45 (past 69 []) ≡ false) × (front digit (past 45 (past 69 [])) ≡ [])
 unfolding has past run
@@ -187,7 +185,7 @@ shape-write t h =
     let u = behind digit s in
     let v = past 46 u in
     let a = sign-write t in
-    let b = fraction-write u (behind-stops digit s) (h .1 .0) in
+    let b = fraction-write u (run-stops digit s) (h .1 .0) in
     record {
       s = a .0;
       f = b .0;

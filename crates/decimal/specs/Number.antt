@@ -21,7 +21,8 @@ use Rattle.refusal.specs.declared.Part.the-variants.{File}
 use Rattle.decimal.specs.declared.Decimal.{Decimal}
 use Rattle.decimal.specs.declared.NumberAnswer.{NumberAnswer}
 use Rattle.decimal.specs.declared.NumberAnswer.the-variants.{Is, Refused}
-use Rattle.decimal.specs.Run.{digit, run, front, behind}
+use Rattle.text.specs.Runs.{run}
+use Rattle.decimal.specs.Run.{digit, front, behind}
 use Rattle.decimal.specs.Grammar.{Parts}
 
 -- ---- one byte at the front

@@ -1,15 +1,16 @@
--- Runs: how many bytes of a kind stand at the front of a text, those bytes, and what is behind them. The laws hold for any kind.
+-- Runs of digits, blanks and what is no blank: the bytes of a kind at the front of a text, and what is behind them. The laws hold for any kind.
 -- Assumes nothing.
 use mathlib.Core.Path.{_≡_, refl, ap, _∙_}
-use mathlib.Core.Bool.{Bool, true, false, not, _&&_, _||_}
+use mathlib.Core.Bool.{Bool, true, false, _&&_}
 use mathlib.Core.List.{List, [], _∷_, _++_}
-use Prim.Native.Nat.{ℕ, suc, _+_, _-_, _≤_, _<_}
-use native.Mathlib.Numerals.{add-one}
+use Prim.Native.Nat.{ℕ, suc, _+_, _-_}
 use native.Mathlib.Omega.{arith}
-use lib.ListN.{length, getD, take, drop, take-append-drop, length-drop, drop-of-length-le}
-use lib.Seq.{length-take-le, take-length, take-all, drop-length, drop-cons, take-at, drop-at}
-use lib.Dec.{leb, eqb}
+use lib.ListN.{length, take, drop, take-append-drop, length-drop}
+use lib.Seq.{length-take-le, take-length, take-all, drop-length, take-at, drop-at}
+use lib.Dec.{leb}
 use Rattle.refusal.specs.Rows.{pick}
+use Rattle.text.specs.Chars.{blank, solid}
+use Rattle.text.specs.Runs.{run, Stops, run-le}
 use Rattle.decimal.specs.declared.Kind.{Kind}
 use Rattle.decimal.specs.declared.Kind.the-variants.{Digit, Blank, Solid}
 
@@ -17,22 +18,10 @@ use Rattle.decimal.specs.declared.Kind.the-variants.{Digit, Blank, Solid
 abbrev pub digit : ℕ → Bool
 digit b = leb 48 b && leb b 57
 
--- a space or a tab
-abbrev pub blank : ℕ → Bool
-blank b = eqb b 32 || eqb b 9
-
-abbrev pub solid : ℕ → Bool
-solid b = not (blank b)
-
 abbrev pub isOf : Kind → ℕ → Bool
 isOf Digit = digit
 isOf Blank = blank
 isOf Solid = solid
-
--- how many bytes at the front pass the test
-unfoldable pub run : (ℕ → Bool) → List ℕ → ℕ
-run p [] = 0
-run p (b ∷ bs) = pick (p b) (suc (run p bs)) 0
 
 -- those bytes, and what is behind them
 abbrev pub front : (ℕ → Bool) → List ℕ → List ℕ
@@ -41,14 +30,10 @@ front p t = take (run p t) t
 abbrev pub behind : (ℕ → Bool) → List ℕ → List ℕ
 behind p t = drop (run p t) t
 
--- every byte passes the test; the first does not, or there is none
+-- every byte passes the test
 abbrev pub All : (ℕ → Bool) → List ℕ → Type 0
 All p [] = Unit {0}
 All p (b ∷ bs) = (p b ≡ true) × All p bs
-
-abbrev pub Stops : (ℕ → Bool) → List ℕ → Type 0
-Stops p [] = Unit {0}
-Stops p (b ∷ bs) = p b ≡ false
 
 -- what `&s[n..]` is
 pub rest : (n : ℕ) (s : List ℕ) → take (length s - n) (drop n s) ≡ drop n s
@@ -64,27 +49,8 @@ module _ (p : ℕ → Bool) where
   run-none [] h = refl
   run-none (b ∷ bs) h = rw h
 
-  -- the turns of a loop that counts: i bytes passed, and the run of what is left
-  pub run-more : (s : List ℕ) (i : ℕ) → i < length s → p (getD s i 0) ≡ true → i + 1 + run p (drop (i + 1) s) ≡ i + run p (drop i s)
-  run-more s i h e = rw (add-one i, drop-cons s i 0 h, run-yes (getD s i 0) (drop (suc i) s) e) (omega arith)
-
-  pub run-stop : (s : List ℕ) (i : ℕ) → i < length s → p (getD s i 0) ≡ false → i + run p (drop i s) ≡ i
-  run-stop s i h e = rw (drop-cons s i 0 h) (let z = run-none (getD s i 0 ∷ drop (suc i) s) e in omega arith)
-
-  pub run-over : (s : List ℕ) (i : ℕ) → length s ≤ i → i + run p (drop i s) ≡ i
-  run-over s i h = rw (drop-of-length-le s h) (let z = run-none [] tt in omega arith)
-
-  pub run-le : (t : List ℕ) → run p t ≤ length t
-  unfolding run
-  run-le [] = omega arith
-  run-le (b ∷ bs) = go (p b) (run-le bs)
-    where
-      go : (q : Bool) → run p bs ≤ length bs → pick q (suc (run p bs)) 0 ≤ suc (length bs)
-      go true h = omega arith
-      go false h = omega arith
-
   pub front-length : (t : List ℕ) → length (front p t) ≡ run p t
-  front-length t = length-take-le (run p t) t (run-le t)
+  front-length t = length-take-le (run p t) t (run-le p t)
 
   -- the two parts make the text; the first is all of the kind, and the second starts with nothing of it
   pub parts : (t : List ℕ) → front p t ++ behind p t ≡ t
@@ -98,15 +64,6 @@ module _ (p : ℕ → Bool) where
       go : (q : Bool) → p b ≡ q → All p (take (run p bs) bs) → All p (take (pick q (suc (run p bs)) 0) (b ∷ bs))
       go true e h = (e, h)
       go false e h = tt
-
-  pub behind-stops : (t : List ℕ) → Stops p (behind p t)
-  unfolding run
-  behind-stops [] = tt
-  behind-stops (b ∷ bs) = go (p b) refl (behind-stops bs)
-    where
-      go : (q : Bool) → p b ≡ q → Stops p (drop (run p bs) bs) → Stops p (drop (pick q (suc (run p bs)) 0) (b ∷ bs))
-      go true e h = h
-      go false e h = e
 
   -- and they are the only such two
   pub run-length : (xs r : List ℕ) → All p xs → Stops p r → run p (xs ++ r) ≡ length xs

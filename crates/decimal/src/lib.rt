@@ -1,12 +1,13 @@
 // Numbers in values: a text as sign, coefficient and power of ten (document 01, "Numbers in values", rows 20 and 21).
-// Number has the walk and Grammar the rule, proved equal in Agreed; Meaning says what the answer is worth, Marks what is never a number. Stands on `refusal`.
+// Number has the walk and Grammar the rule, proved equal in Agreed; Meaning says what the answer is worth, Marks what is never a number. Stands on `text`, `word`, `refusal`.
 use refusal::Part;
 use refusal::Refusal;
 use refusal::Rule;
 ghost use mathlib.Core.Path.{_≡_};
 ghost use Prim.Native.Nat.{_+_, _<_, _≤_};
 ghost use lib.ListN.{length, take, drop};
-ghost use Rattle.decimal.specs.Run.{isOf, run};
+ghost use Rattle.text.specs.Runs.{run};
+ghost use Rattle.decimal.specs.Run.{isOf};
 ghost use Rattle.decimal.specs.Number.{has, past, worth, value, Room, signed, powerOf, partsAre, decimalOf, noNumber, tooLong, judged, tailOf, numberOf};
 
 // The answer to the number question: sign, coefficient as written and power of ten; zero has sign plus. (It is no `Number`: a struct and a function

@@ -10,6 +10,7 @@ use lib.IntN.{ℤ, pos, negsuc, negℤ, _-ℤ_, _*ℤ_, pos-*ℤ-pos, negsuc-*�
 use lib.ListN.{length, take, length-take}
 use lib.Dec.{leb, eqb}
 use borrow.Author.Tests.{lt-ltb, le-ltb, le-leb, lt-leb, leb-true, leb-false, eq-eqb, ne-eqb, eqb-true}
+use Rattle.word.specs.Tests.{and-false}
 use Rattle.word.specs.WordLaws.{word-take}
 use Rattle.sample.specs.Needed.{needed, width}
 use Rattle.sample.specs.Run.{run, run-same, run-map}
@@ -71,17 +72,6 @@ sample-needed (suc (suc (suc (suc zero)))) high block n s i a h k = refl
 sample-needed (suc (suc (suc (suc (suc zero))))) high block n s i a h k = refl
 sample-needed (suc (suc (suc (suc (suc (suc code)))))) high block n s i a h k = refl
 
-pub pattern-needed : (code : ℕ) (high : Bool) (block : List ℕ) (n s i : ℕ) → i < s → needed code s ≤ n
-    → patternOf code high (take n block) i ≡ patternOf code high block i
-unfolding patternOf width needed
-pattern-needed zero high block n s i h k = word-take 0 high n block (0 * i) (omega arith)
-pattern-needed (suc zero) high block n s i h k = word-take 2 high n block (2 * i) (omega arith)
-pattern-needed (suc (suc zero)) high block n s i h k = word-take 4 high n block (4 * i) (omega arith)
-pattern-needed (suc (suc (suc zero))) high block n s i h k = word-take 0 high n block (0 * i) (omega arith)
-pattern-needed (suc (suc (suc (suc zero)))) high block n s i h k = word-take 4 high n block (4 * i) (omega arith)
-pattern-needed (suc (suc (suc (suc (suc zero))))) high block n s i h k = word-take 8 high n block (8 * i) (omega arith)
-pattern-needed (suc (suc (suc (suc (suc (suc code)))))) high block n s i h k = word-take 0 high n block (0 * i) (omega arith)
-
 -- so a whole row is read the same out of the needed bytes and out of more
 leb-cut : (m n l : ℕ) → m ≤ n → leb m (min n l) ≡ leb m l
 leb-cut m n l h = go (leb m l) refl
@@ -109,10 +99,6 @@ read-needed code high block n row h = rw (length-take n block, leb-cut (needed c
     go false e = refl
 
 -- ---- all or nothing
-
-and-false : (a : Bool) → (a && false) ≡ false
-and-false true = refl
-and-false false = refl
 
 pub too-short : (code s : ℕ) (block : List ℕ) → length block < needed code s → integersThere code s block ≡ false
 unfolding integersThere

@@ -5,6 +5,7 @@ use mathlib.Core.Bool.{Bool, true, false}
 use mathlib.Core.List.{List, [], _∷_, _++_}
 use mathlib.Core.Logic.{_↔_}
 use Prim.Native.Nat.{ℕ}
+use Rattle.refusal.specs.Verdicts.{refused-not}
 use Rattle.refusal.specs.declared.Refusal.{Refusal}
 use Rattle.refusal.specs.declared.Rule.{Rule}
 use Rattle.refusal.specs.declared.Part.{Part}
@@ -13,7 +14,6 @@ use Rattle.refusal.specs.declared.Verdict.the-variants.{Accepted, Refused}
 use Rattle.refusal.specs.Table.{refusal}
 use Rattle.refusal.specs.Rows.{Rows, pick, first}
 use Rattle.image.specs.Image.{andThen}
-use Rattle.refusal.specs.Tests.{refused-not}
 use Rattle.reader.specs.Questions.{asked}
 
 abbrev pub row : Bool → Rule → Part → ℕ → Verdict

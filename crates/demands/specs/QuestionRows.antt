@@ -44,7 +44,7 @@ use Rattle.reader.specs.declared.StringAnswer.the-variants as string
 use Rattle.reader.specs.declared.KeywordAnswer.the-variants as keyword
 use Rattle.reader.specs.Questions as questions
 use Rattle.reader.specs.Questions.{asked, noTrace, whoseOf, areaOf, areaAsked, onArea, onTrace, fileFacts, fileAnswer, traceAnswer, placesIn, countAnswer, there, nthAnswer, findAnswer, yesOrNo, keywordAnswer, valueThere, valueAnswer, onString, numberAnswer, doubleAnswer, locationAnswer, codeAt, countAt, ofIntegers, ofBits, integersAnswer, bitsAnswer, traceNumber}
-use Rattle.growth.specs.Answered.{value-there}
+use Rattle.reader.specs.Listed.{found-value}
 use Rattle.demands.specs.FirstRow.{row, firstOf, first-nothing, first-row, first-more, asked-more, asked-row, asked-none}
 use Rattle.demands.specs.FileRows.{checkRows, check-answers-first}
 
@@ -169,7 +169,7 @@ value-answers-first xs n z key =
   where
     go : (v : Verdict) (y : Found) → valueThere (take n xs) (asked string.Refused v (there y)) ≡ asked (λ r. []) v (valueFound (take n xs) y)
     go (Refused r) y = refl
-    go Accepted y = value-there (take n xs) y
+    go Accepted y = found-value (take n xs) y
 
 -- a number in a value: the file's rows, then the number's own
 made-first : {A : Type 0} (bad : Refusal → A) (g : List ℕ → A) (xs : List ℕ) (n : ℕ) (z : ℤ) (key : List ℕ)

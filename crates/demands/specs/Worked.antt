@@ -18,7 +18,7 @@ use Rattle.encode.specs.Unfit.{firstFrom, unfitInteger, unfitIntegers}
 use Rattle.encode.specs.Write.{smallest, exponentOf, mantissaOf, onesBits, exponentsOf, wordsOf, groupBytes, groups, filledUp, integersData}
 use Rattle.decimal.specs.declared.NumberAnswer.{NumberAnswer}
 use Rattle.decimal.specs.declared.NumberAnswer.the-variants.{Is, Refused}
-use Rattle.decimal.specs.Run.{run}
+use Rattle.text.specs.Runs.{run}
 use Rattle.decimal.specs.Number.{has, past, worth, value, powerOf, decimalOf, judged, partsOf, numberOf}
 use Rattle.layout.specs.Layout.{Samples.integers, fitting, unfit}
 use Rattle.writer.specs.Answers.{samplesOf}

@@ -16,7 +16,9 @@ use Rattle.double.specs.declared.DoubleAnswer.{DoubleAnswer}
 use Rattle.double.specs.declared.DoubleAnswer.the-variants as double
 use Rattle.double.specs.declared.LocationAnswer.{LocationAnswer}
 use Rattle.double.specs.declared.LocationAnswer.the-variants.{Is, Refused}
-use Rattle.decimal.specs.Run.{blank, solid, run, front, behind, Stops, behind-stops}
+use Rattle.text.specs.Chars.{blank, solid}
+use Rattle.text.specs.Runs.{run, Stops, run-stops}
+use Rattle.decimal.specs.Run.{front, behind}
 use Rattle.double.specs.Double.{doubleOf}
 use Rattle.double.specs.Values.{Value, valuesFrom, valuesOf, blanks-passed, value-first, values-none}
 
@@ -80,7 +82,7 @@ module _ (t : List ℕ) where
       let k : q - p ≡ n = omega arith in
       let l : 0 < length (drop p t) = simp length-drop (omega arith) in
       let d : behind blank (drop i t) ≡ drop p t = drop-drop (run blank (drop i t)) i t ∙ ap (λ (j : ℕ). drop j t) (sym e) in
-      let s : Stops blank (drop p t) = subst (λ (r : List ℕ). Stops blank r) d (behind-stops blank (drop i t)) in
+      let s : Stops blank (drop p t) = subst (λ (r : List ℕ). Stops blank r) d (run-stops blank (drop i t)) in
       to-next i p e ∙ value-at p (drop p t) l s ∙ rw (k, f, drop-drop n p t)
 
 -- ---- a law for each answer, with what the code found and tested

@@ -13,7 +13,8 @@ use Rattle.double.specs.declared.DoubleAnswer.the-variants as double
 use Rattle.double.specs.declared.Coordinates.{Coordinates}
 use Rattle.double.specs.declared.LocationAnswer.{LocationAnswer}
 use Rattle.double.specs.declared.LocationAnswer.the-variants.{Is}
-use Rattle.decimal.specs.Run.{blank, All, all-append, all-among, all-weaker}
+use Rattle.text.specs.Chars.{blank}
+use Rattle.decimal.specs.Run.{All, all-append, all-among, all-weaker}
 use Rattle.decimal.specs.Number.{numberOf}
 use Rattle.decimal.specs.Agreed.{is-number}
 use Rattle.decimal.specs.Marks.{mark, written-marks, comma}

@@ -11,7 +11,9 @@ use lib.ListN.{length, take, drop, length-drop}
 use lib.Seq.{take-at, drop-at}
 use borrow.Author.Tests.{not-true}
 use Rattle.refusal.specs.Rows.{pick}
-use Rattle.decimal.specs.Run.{blank, solid, run, front, behind, All, Stops, run-yes, parts, front-length, front-all, behind-stops, run-length, behind-all}
+use Rattle.text.specs.Chars.{blank, solid}
+use Rattle.text.specs.Runs.{run, Stops, run-stops}
+use Rattle.decimal.specs.Run.{front, behind, All, run-yes, parts, front-length, front-all, run-length, behind-all}
 
 -- a value: where it starts, and its bytes
 abbrev pub Value : Type 0
@@ -106,7 +108,7 @@ split (suc n) at t (b ∷ bs) e h =
     let w = b ∷ bs in
     let v = front solid w in
     let r = behind solid w in
-    let stop : blank b ≡ false = subst (λ (x : List ℕ). Stops blank x) e (behind-stops blank t) in
+    let stop : blank b ≡ false = subst (λ (x : List ℕ). Stops blank x) e (run-stops blank t) in
     let lg : length g ≡ run blank t = front-length blank t in
     let lv : length v ≡ run solid w = front-length solid w in
     let ly : run solid w ≡ suc (run solid bs) = run-yes solid b bs (rw stop) in
@@ -119,7 +121,7 @@ split (suc n) at t (b ∷ bs) e h =
     let q : (at + length g, v) ∷ valuesFrom (at + length g + length v) r ≡ valuesFrom at t =
     ap₂ (λ (i j : ℕ). (i, v) ∷ valuesFrom j r) (ap (λ (k : ℕ). at + k) lg) p ∙ sym z in
     subst₂ (λ (x : List ℕ) (vs : List Value). Parted at x vs) text q
-    (value g v r (front-all blank t) (record { some = omega arith; each = front-all solid w }) (behind-stops solid w)
+    (value g v r (front-all blank t) (record { some = omega arith; each = front-all solid w }) (run-stops solid w)
     (split n (at + length g + length v) r (behind blank r) refl (omega arith)))
 
 pub parted : (t : List ℕ) → Parted 0 t (valuesOf t)

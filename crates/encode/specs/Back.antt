@@ -12,6 +12,7 @@ use lib.ListN.{length, getD}
 use lib.Dec.{ltb}
 use lib.Seq.{drop-at, ext-getD}
 use borrow.Author.Tests.{eqb-true, ltb-false, leb-false}
+use Rattle.word.specs.Tests.{never}
 use Rattle.word.specs.Round.{round4, round4-up}
 use Rattle.word.specs.Word.{wordAt, bytesOf}
 use Rattle.word.specs.WordLaws.{word-among, word-drop, length-bytesOf}
@@ -26,13 +27,10 @@ use Rattle.encode.specs.declared.Fit.the-variants.{All}
 
 -- ---- how long the data block is
 
-absurd-test : {A : Type 0} → false ≡ true → A
-absurd-test e = absurd (let z : _≡_ {A = ℕ} 0 1 = cc in omega arith)
-
 -- the data block of a row is as long as the room that its code and count ask for
 pub length-integersData : (code : ℕ) (high : Bool) (row : List ℤ) → integersAsked code (length row) ≡ true → length (integersData code high row) ≡ room code (length row)
 unfolding integersData room needed fixedBytes
-length-integersData zero high row a = absurd-test a
+length-integersData zero high row a = never a
 length-integersData (suc zero) high row a =
     length-filledUp (flat (fixedBytes 2 high) row) ∙ ap round4 (length-flat (fixedBytes 2 high) 2 (λ z. length-bytesOf 2 high (residue (256 ^ 2) z)) row)
 length-integersData (suc (suc zero)) high row a =
@@ -41,21 +39,21 @@ length-integersData (suc (suc (suc zero))) high row a =
     let w : length row % 4 ≡ 0 = eqb-true (length row % 4) 0 a in
     let m : 10 * (length row / 4) ≡ 10 * length row / 4 = omega arith in
     length-filledUp (groups high row) ∙ ap round4 (length-groups high row ∙ m)
-length-integersData (suc (suc (suc (suc zero)))) high row a = absurd-test a
-length-integersData (suc (suc (suc (suc (suc zero))))) high row a = absurd-test a
-length-integersData (suc (suc (suc (suc (suc (suc code)))))) high row a = absurd-test a
+length-integersData (suc (suc (suc (suc zero)))) high row a = never a
+length-integersData (suc (suc (suc (suc (suc zero))))) high row a = never a
+length-integersData (suc (suc (suc (suc (suc (suc code)))))) high row a = never a
 
 pub length-bitsData : (code : ℕ) (high : Bool) (row : List ℕ) → bitsAsked code ≡ true → length (bitsData code high row) ≡ room code (length row)
 unfolding bitsData room needed
-length-bitsData zero high row a = absurd-test a
-length-bitsData (suc zero) high row a = absurd-test a
-length-bitsData (suc (suc zero)) high row a = absurd-test a
-length-bitsData (suc (suc (suc zero))) high row a = absurd-test a
+length-bitsData zero high row a = never a
+length-bitsData (suc zero) high row a = never a
+length-bitsData (suc (suc zero)) high row a = never a
+length-bitsData (suc (suc (suc zero))) high row a = never a
 length-bitsData (suc (suc (suc (suc zero)))) high row a =
     length-filledUp (flat (bytesOf 4 high) row) ∙ ap round4 (length-flat (bytesOf 4 high) 4 (λ n. length-bytesOf 4 high n) row)
 length-bitsData (suc (suc (suc (suc (suc zero))))) high row a =
     length-filledUp (flat (bytesOf 8 high) row) ∙ ap round4 (length-flat (bytesOf 8 high) 8 (λ n. length-bytesOf 8 high n) row)
-length-bitsData (suc (suc (suc (suc (suc (suc code)))))) high row a = absurd-test a
+length-bitsData (suc (suc (suc (suc (suc (suc code)))))) high row a = never a
 
 -- so a row of that many samples can be read from it, and what is read are the samples of the block
 pub written-there : (code : ℕ) (high : Bool) (row old : List ℤ) → integersAsked code (length row) ≡ true → length old ≡ length row
@@ -176,13 +174,13 @@ fit-32 row h k l = leb-false 4294967296 (getD row k 0) (all-good (unfitPattern 4
 pub bits-back : (code : ℕ) (high : Bool) (row : List ℕ) → bitsAsked code ≡ true → ((k : ℕ) → k < length row → getD row k 0 < 256 ^ width code)
     → run (patternOf code high (bitsData code high row)) 0 (length row) ≡ row
 unfolding patternOf width bitsData filledUp
-bits-back zero high row a h = absurd-test a
-bits-back (suc zero) high row a h = absurd-test a
-bits-back (suc (suc zero)) high row a h = absurd-test a
-bits-back (suc (suc (suc zero))) high row a h = absurd-test a
+bits-back zero high row a h = never a
+bits-back (suc zero) high row a h = never a
+bits-back (suc (suc zero)) high row a h = never a
+bits-back (suc (suc (suc zero))) high row a h = never a
 bits-back (suc (suc (suc (suc zero)))) high row a h = row-run _ 0 row (λ i l. word-flat 4 high (λ n. n) 0 row _ i l (h i l))
 bits-back (suc (suc (suc (suc (suc zero))))) high row a h = row-run _ 0 row (λ i l. word-flat 8 high (λ n. n) 0 row _ i l (h i l))
-bits-back (suc (suc (suc (suc (suc (suc code)))))) high row a h = absurd-test a
+bits-back (suc (suc (suc (suc (suc (suc code)))))) high row a h = never a
 
 -- the same of the decoder: the patterns that were written, and beside them their classes
 pub bits-read-back : (code : ℕ) (high : Bool) (row old classes : List ℕ) → bitsAsked code ≡ true

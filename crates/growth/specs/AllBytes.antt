@@ -11,6 +11,7 @@ use lib.IntN.{ℤ}
 use lib.ListN.{length, replicate}
 use lib.Dec.{leb, eqb}
 use borrow.Author.Tests.{le-leb, lt-leb, ne-eqb, leb-true}
+use Rattle.word.specs.Tests.{both, never}
 use Rattle.word.specs.Bytes.{Bytes, bytes-append}
 use Rattle.word.specs.Put.{put}
 use Rattle.word.specs.Round.{round4}
@@ -18,7 +19,7 @@ use Rattle.word.specs.Word.{bytesOf}
 use Rattle.word.specs.WordLaws.{bytesOf-bytes}
 use Rattle.refusal.specs.Rows.{pick}
 use Rattle.text.specs.Chars.{blank, keyChar, valueChar, note, blank-value, control}
-use Rattle.text.specs.Runs.{all, same, both}
+use Rattle.text.specs.Runs.{all, same}
 use Rattle.text.specs.Note.{lines, valueOk, Lines, Lines.done, Lines.char, Lines.line, lines-spelled}
 use Rattle.strings.specs.Spelled.{Str, Good, Rising, textOf, sizeOf, written, Spells, Spells.empty, Spells.full}
 use Rattle.encode.specs.Write.{flat, residue, fixedBytes, exponentsOf, mantissaOf, onesBits, wordsOf, groupBytes, groups, filledUp, integersData, bitsData}
@@ -32,7 +33,7 @@ use Rattle.start.specs.StartShown.{Started}
 use Rattle.writer.specs.Shown.{Added}
 use Rattle.growth.specs.Frame.{put-bytes, grown-bytes}
 use Rattle.growth.specs.Grows.{Grows, grown-grows}
-use Rattle.layout.specs.LayoutLaws.{never, kinded}
+use Rattle.layout.specs.LayoutLaws.{kinded}
 use Rattle.growth.specs.Ends.{keeps-terminators}
 
 -- ---- characters

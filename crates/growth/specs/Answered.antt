@@ -1,7 +1,7 @@
 -- A part of an accepted file whose bytes spell a list of strings is answered by that list: how many they are, the i-th, whether a keyword is there, its
 -- value, and the value as a number, a double and a location (document 01, "Strings", "Numbers in values").
 -- Assumes nothing.
-use mathlib.Core.Path.{_≡_, refl}
+use mathlib.Core.Path.{_≡_}
 use mathlib.Core.Bool.{false}
 use mathlib.Core.List.{List}
 use Prim.Native.Nat.{ℕ, _≤_, _<_}
@@ -10,9 +10,6 @@ use lib.ListN.{length, take}
 use Rattle.refusal.specs.declared.Verdict.the-variants.{Accepted}
 use Rattle.refusal.specs.Rows.{pick}
 use Rattle.strings.specs.declared.Place.{Place}
-use Rattle.strings.specs.declared.Found.{Found}
-use Rattle.strings.specs.declared.Found.the-variants.{Nothing, Is}
-use Rattle.strings.specs.Strings.{valueFound}
 use Rattle.strings.specs.Spelled.{Str, nthStr, valueOfKey, hasKey}
 use Rattle.decimal.specs.Number.{numberOf}
 use Rattle.double.specs.Double.{doubleOf}
@@ -21,13 +18,8 @@ use Rattle.image.specs.Image.{checkOf}
 use Rattle.reader.specs.declared.CountAnswer.the-variants as count
 use Rattle.reader.specs.declared.StringAnswer.the-variants as string
 use Rattle.reader.specs.declared.KeywordAnswer.the-variants.{Yes, No}
-use Rattle.reader.specs.Questions.{countAnswer, there, nthAnswer, keywordAnswer, valueThere, valueAnswer, numberAnswer, doubleAnswer, locationAnswer}
+use Rattle.reader.specs.Questions.{countAnswer, nthAnswer, keywordAnswer, valueAnswer, numberAnswer, doubleAnswer, locationAnswer}
 use Rattle.reader.specs.Listed.{Lists, IsString, listed-count, listed-nth, listed-past, listed-keyword, listed-value, listed-number, listed-double, listed-location}
-
-pub value-there : (f : List ℕ) (y : Found) → valueThere f (there y) ≡ valueFound f y
-unfolding valueFound
-value-there f Nothing = refl
-value-there f (Is s) = refl
 
 -- the answers on part z of the file in the first n bytes of xs
 pub record AnswersBy (xs : List ℕ) (n : ℕ) (z : ℤ) (ss : List Str) : Type 0 where

@@ -9,8 +9,9 @@ use native.Mathlib.Omega.{arith}
 use lib.ListN.{length, getD}
 use lib.Dec.{eqb}
 use borrow.Author.Tests.{eqb-true}
+use Rattle.word.specs.Tests.{both}
 use Rattle.word.specs.Part.{length-part}
-use Rattle.text.specs.Runs.{all, both}
+use Rattle.text.specs.Runs.{all}
 use Rattle.area.specs.Spelling.{among, Terminators, LineEnd, terminators-end}
 use Rattle.head.specs.Head.{terminatorAt, stringEnd, lineEnd, lacks, apart}
 use Rattle.image.specs.Keeps.{KeepsTerminator, Keeps}

@@ -3,15 +3,15 @@
 -- Assumes nothing.
 use mathlib.Core.Path.{_≡_, sym, ap, _∙_}
 use mathlib.Core.Bool.{Bool, true}
-use mathlib.Core.List.{List, [], _∷_, _++_}
+use mathlib.Core.List.{List, [], _∷_}
 use mathlib.Core.Logic.{_⊎_, ⊎-elim}
 use Prim.Native.Nat.{ℕ, zero, suc, _+_, _*_, _≤_, _<_}
 use native.Mathlib.Omega.{arith}
 use lib.ListN.{length, getD, take, drop, set}
 use lib.Seq.{length-take-le, getD-take, getD-drop}
-use Rattle.word.specs.Part.{part, part-front}
+use Rattle.word.specs.Part.{part}
 use Rattle.word.specs.Bytes.{Bytes, bytes-take}
-use Rattle.word.specs.Put.{put, length-put, drop-put-after, take-put, take-put-before, take-put-end, part-put, part-put-before, part-put-after}
+use Rattle.word.specs.Put.{put, length-put, drop-put-after, take-put-before, part-put, part-put-before, part-put-after}
 use Rattle.word.specs.Round.{round4}
 use Rattle.word.specs.Word.{wordAt, bytesOf}
 use Rattle.word.specs.WordLaws.{length-bytesOf, bytesOf-bytes, word-put, word-put-after}
@@ -149,9 +149,6 @@ module _ {xs : List ℕ} {n : ℕ} {x : Trace} {end : ℕ} (h : Added xs n x end
   unfolding grown
   grown-front = let f = take n xs in stored-front (highFirst f) xs (newBytes f n x) n (countOf f) (round4 n) (countOf f + 1) (lies h .slot)
 
-  pub grown-start : take 6 (grown xs n x) ≡ take 6 xs
-  grown-start = sym (part-front 6 (grown xs n x)) ∙ grown-front 0 6 (omega arith) ∙ part-front 6 xs
-
   pub grown-middle : (a e : ℕ) → 8 ≤ a → e ≤ 32 + 4 * countOf (take n xs) → part a e (grown xs n x) ≡ part a e xs
   unfolding grown
   grown-middle = let f = take n xs in stored-middle (highFirst f) xs (newBytes f n x) n (countOf f) (round4 n) (countOf f + 1) (lies h .slot)
@@ -202,18 +199,3 @@ module _ {xs : List ℕ} {n : ℕ} {x : Trace} {end : ℕ} (h : Added xs n x end
   grown-bytes =
       let f = take n xs in
       stored-bytes (highFirst f) xs (newBytes f n x) n (countOf f) (round4 n) (countOf f + 1) (lies h .slot)
-
-  -- the image after it, from the image before it
-  pub grown-image : take end (grown xs n x)
-      ≡ put (put (take n xs ++ newBytes (take n xs) n x) (32 + 4 * countOf (take n xs)) (bytesOf 4 (highFirst (take n xs)) (round4 n))) 6
-      (bytesOf 2 (highFirst (take n xs)) (countOf (take n xs) + 1))
-  unfolding grown
-  grown-image =
-      let f : List ℕ = take n xs in
-      let l = lies h in
-      let new : List ℕ = newBytes f n x in
-      let p : List ℕ = bytesOf 4 (highFirst f) (round4 n) in
-      let c : List ℕ = bytesOf 2 (highFirst f) (countOf f + 1) in
-      let w : take end (put xs n new) ≡ f ++ new = rw (l .ends) at (take-put-end new xs n (omega (arith, l .ends, h .in-buffer))) in
-      take-put end c (put (put xs n new) (32 + 4 * countOf f) p) 6
-      ∙ ap (λ (r : List ℕ). put r 6 c) (take-put end p (put xs n new) (32 + 4 * countOf f) ∙ ap (λ (r : List ℕ). put r (32 + 4 * countOf f) p) w)

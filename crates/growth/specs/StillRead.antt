@@ -27,6 +27,7 @@ use Rattle.reader.specs.declared.Area.the-variants.{Outside, From}
 use Rattle.reader.specs.declared.StringAnswer.{StringAnswer}
 use Rattle.reader.specs.declared.StringAnswer.the-variants as string
 use Rattle.reader.specs.declared.FileAnswer.the-variants as file
+use Rattle.reader.specs.Listed.{found-value}
 use Rattle.reader.specs.Questions.{noTrace, whoseOf, areaOf, areaAsked, onArea, onTrace, fileAnswer, traceAnswer, placesIn, countAnswer, there, nthAnswer, findAnswer, keywordAnswer, valueThere, valueAnswer, numberAnswer, doubleAnswer, locationAnswer, dataOf, integersRows, bitsRows, integersAnswer, bitsAnswer, samplesOf, patternsOf, classesOf, traceNumber, integersLeft, patternsLeft, classesLeft}
 use Rattle.layout.specs.Layout.{Trace}
 use Rattle.append.specs.Grown.{grown}
@@ -34,7 +35,7 @@ use Rattle.writer.specs.Shown.{placed, Added}
 use Rattle.growth.specs.Grows.{Grows, grown-grows}
 use Rattle.growth.specs.Kept.{behind-room, longer, high-kept, room-kept, count-grown, size-kept, string-end-kept, trace-at-kept, part-kept, trace-kept}
 use Rattle.growth.specs.StillKeeps.{strings-end-grown, file-spelled-kept, grown-accepted}
-use Rattle.growth.specs.Answered.{value-there, AnswersBy, answered}
+use Rattle.growth.specs.Answered.{AnswersBy, answered}
 
 -- the number of a part names the file or a trace that was there, or nothing
 abbrev pub Old : ℤ → ℕ → Type 0
@@ -224,7 +225,7 @@ module _ {xs : List ℕ} {n : ℕ} {x : Trace} {end : ℕ} (by : Bytes xs) (h : 
       rw (still, taken)
       (value-on g (areaAsked g z) noTrace _
       ∙ on-area w (file-some xs n taken) [] _ _
-      (λ a e r. value-there g (findOf g (placesIn g a e) key) ∙ value-kept w r key ∙ sym (value-there f (findOf f (placesIn f a e) key))) z o
+      (λ a e r. found-value g (findOf g (placesIn g a e) key) ∙ value-kept w r key ∙ sym (found-value f (findOf f (placesIn f a e) key))) z o
       ∙ sym (value-on f (areaAsked f z) noTrace _))
 
   pub number-answer-kept : (z : ℤ) (key : List ℕ) → Old z (countOf (take n xs)) → numberAnswer (grown xs n x) end z key ≡ numberAnswer xs n z key

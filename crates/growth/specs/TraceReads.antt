@@ -10,6 +10,7 @@ use lib.IntN.{ℤ, pos}
 use lib.Signed.{mag}
 use lib.ListN.{length, getD, take}
 use borrow.Author.Tests.{eqb-true}
+use Rattle.word.specs.Tests.{never}
 use Rattle.word.specs.Part.{part}
 use Rattle.refusal.specs.declared.Verdict.the-variants.{Accepted}
 use Rattle.strings.specs.Spelled.{Spells}
@@ -34,7 +35,7 @@ use Rattle.reader.specs.Listed.{whose-one, trace-area}
 use Rattle.reader.specs.Answers.{integers-read, bits-read}
 use Rattle.layout.specs.Layout.{Trace, Samples.integers, Samples.patterns, fitting, unfit, samplesData, blockBytes, dataBytes, traceSize}
 use Rattle.layout.specs.Layout as layout
-use Rattle.layout.specs.LayoutLaws.{never, Stands}
+use Rattle.layout.specs.LayoutLaws.{Stands}
 use Rattle.growth.specs.Answered.{AnswersBy, answered}
 
 -- ---- what was given, as it reads back

@@ -9,12 +9,13 @@ use native.Mathlib.Omega.{arith}
 use lib.ListN.{length, getD, drop}
 use lib.Dec.{ltb, eqb}
 use borrow.Author.Tests.{le-ltb, eq-eqb, ne-eqb, ltb-false, eqb-true, not-false}
+use Rattle.refusal.specs.Verdicts.{isAccepted}
+use Rattle.word.specs.Tests.{neither, join-neither, both}
 use Rattle.word.specs.Part.{part, part-first, part-none, length-part}
 use Rattle.word.specs.Word.{wordAt}
-use Rattle.refusal.specs.Tests.{neither, join-neither, isAccepted}
 use Rattle.refusal.specs.Rows.{first, clear, through}
 use Rattle.refusal.specs.declared.Verdict.the-variants.{Accepted}
-use Rattle.text.specs.Runs.{all, both, more, none}
+use Rattle.text.specs.Runs.{all, more, none}
 use Rattle.text.specs.Chars.{control}
 use Rattle.head.specs.Head.{known, highFirst, revisionOf, roomOf, countOf, terminatorAt, stringEnd, lineEnd, goodTerminator, lacks, apart, headRows, headOf}
 

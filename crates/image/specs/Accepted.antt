@@ -14,20 +14,20 @@ use lib.ListN.{length, getD, take}
 use lib.Seq.{length-take-le}
 use lib.Dec.{eqb}
 use borrow.Author.Tests.{ne-eqb, eqb-true, eqb-false}
+use Rattle.refusal.specs.Verdicts.{refused-not}
+use Rattle.word.specs.Tests.{both}
 use Rattle.word.specs.Part.{part}
 use Rattle.word.specs.Bytes.{Bytes, bytes-part, bytes-take}
-use Rattle.refusal.specs.Rows.{pick}
+use Rattle.refusal.specs.Rows.{pick, pick-second}
 use Rattle.refusal.specs.declared.Part.{Part}
 use Rattle.refusal.specs.declared.Part.the-variants.{File, Trace}
 use Rattle.refusal.specs.declared.Rule.the-variants.{Length}
 use Rattle.refusal.specs.declared.Verdict.the-variants.{Accepted}
-use Rattle.text.specs.Runs.{both}
 use Rattle.strings.specs.Paper.{spelled-accepted, accepted-spelled}
 use Rattle.head.specs.Head.{known, highFirst, roomOf, countOf, stringEnd, lineEnd, goodTerminator, headOf, refused}
 use Rattle.head.specs.HeadLaws.{Headed, headed, head-accepts, good-length, good-chars}
 use Rattle.block.specs.Block.{blockSize, dataSize, dataAt, endAt, pointerRow, blockOf}
 use Rattle.image.specs.Image.{areaOf, andThen, traceOf, tracesFrom, restOf, imageOf, badLength, checkOf}
-use Rattle.refusal.specs.Tests.{refused-not}
 use Rattle.block.specs.BlockLaws.{Pointed, pointed, pointer-accepts, Blocked, blocked, block-accepts}
 use Rattle.image.specs.ImageLaws.{and-then, then-and, long-enough, length-accepts}
 use Rattle.image.specs.Keeps.{traceAt, endBefore, stringsEnd, Strings, KeepsTerminator, KeepsTrace, Keeps}
@@ -131,9 +131,6 @@ terminator-good f at h = ⊎-elim (λ b. rw b (h .characters)) (λ b. rw b (h .c
 good-terminator : (f : List ℕ) (at : ℕ) → goodTerminator f at ≡ true → KeepsTerminator f at
 good-terminator f at h = record { size = good-length f at h; characters = good-chars f at h }
 
-no-file : {A : Type 0} (b : Bool) (x y : A) → b ≡ false → pick b x y ≡ y
-no-file b x y e = rw e
-
 -- ---- what an accepted image gives without checking again, for a file and for an image that grows
 pub image-headed : (grow : Bool) (f : List ℕ) → imageOf grow f ≡ Accepted → Headed grow f
 unfolding imageOf
@@ -144,7 +141,7 @@ unfolding imageOf restOf endBefore
 image-traced grow f e k l =
     let a = and-then (headOf grow f) _ e in
     let some : countOf f ≡ 0 → ⊥ = λ (z : countOf f ≡ 0). omega arith in
-    let r = sym (no-file (eqb (countOf f) 0) _ _ (ne-eqb _ _ some)) ∙ a .1 in
+    let r = sym (pick-second (eqb (countOf f) 0) _ _ (ne-eqb _ _ some)) ∙ a .1 in
     let b = and-then (pointerRow (highFirst f) f 0 (32 + roomOf f)) _ r in
     let c = and-then (areaOf (highFirst f) (stringEnd f) (lineEnd f) f File (32 + roomOf f) (traceAt f 0)) _ (b .1) in
     walk-each f (countOf f) 0 (c .1) k (omega arith) (omega arith)
@@ -203,7 +200,7 @@ rest-accepts grow f h some =
     let k = h .traces 0 some in
     let l : 32 ≤ blockSize (highFirst f) f (traceAt f 0) = k .least in
     let i : dataAt (highFirst f) f (traceAt f 0) + dataSize (highFirst f) f (traceAt f 0) ≤ length f = k .inside in
-    let z : stringsEnd f ≡ traceAt f 0 = no-file (eqb (countOf f) 0) (length f) (traceAt f 0) (ne-eqb (countOf f) 0 (omega arith)) in
+    let z : stringsEnd f ≡ traceAt f 0 = pick-second (eqb (countOf f) 0) (length f) (traceAt f 0) (ne-eqb (countOf f) 0 (omega arith)) in
     then-and _ _ (pointer-accepts (highFirst f) f 0 (32 + roomOf f) (record { whole = k .aligned; behind = k .behind; fits = omega arith }))
     (then-and _ _ (area-accepts f File (32 + roomOf f) (traceAt f 0) (rw z at (h .strings)))
     (each-walk f (countOf f) 0 (λ j low high. trace-accepts f j (h .traces j (omega arith)))))

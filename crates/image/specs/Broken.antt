@@ -9,6 +9,7 @@ use native.Mathlib.Nat.{lt-of-not-le}
 use native.Mathlib.Decide.{decLe}
 use native.Mathlib.Omega.{arith}
 use lib.ListN.{length, take}
+use Rattle.refusal.specs.Verdicts.{refused-not}
 use Rattle.refusal.specs.Rows.{Rows, first, pick, Clear, first-met}
 use Rattle.refusal.specs.declared.Refusal.{Refusal}
 use Rattle.refusal.specs.declared.Rule.the-variants.{Length}
@@ -17,7 +18,6 @@ use Rattle.refusal.specs.declared.Verdict.the-variants.{Accepted, Refused}
 use Rattle.head.specs.Head.{highFirst, stringEnd, lineEnd, headRows, headOf, refused}
 use Rattle.block.specs.Block.{blockRows, blockOf}
 use Rattle.image.specs.Image.{andThen, traceOf, tracesFrom, imageOf, badLength, checkOf}
-use Rattle.refusal.specs.Tests.{refused-not}
 use Rattle.image.specs.Keeps.{endBefore}
 use Rattle.image.specs.Accepted.{Traced, before-next}
 

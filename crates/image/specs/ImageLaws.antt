@@ -7,11 +7,12 @@ use Prim.Native.Nat.{ℕ, suc, _+_, _-_, _≤_, _<_}
 use native.Mathlib.Omega.{arith}
 use lib.Dec.{ltb}
 use borrow.Author.Tests.{le-ltb, ltb-false}
+use Rattle.refusal.specs.Verdicts.{refused-not}
+use Rattle.word.specs.Tests.{neither, join-neither}
 use Rattle.refusal.specs.declared.Refusal.{Refusal}
 use Rattle.refusal.specs.declared.Verdict.{Verdict}
 use Rattle.refusal.specs.declared.Verdict.the-variants.{Accepted, Refused}
 use Rattle.image.specs.declared.Walked.the-variants.{Past, Bad}
-use Rattle.refusal.specs.Tests.{neither, join-neither, refused-not}
 use Rattle.block.specs.Block.{pointerOf, endAt}
 use Rattle.image.specs.Image.{andThen, traceOf, onVerdict, walkedOf, tracesFrom, badLength}
 

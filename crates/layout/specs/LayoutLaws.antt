@@ -9,6 +9,7 @@ use native.Mathlib.Omega.{arith}
 use lib.ListN.{length, getD, replicate, length-append, length-replicate}
 use lib.Seq.{drop-at, getD-append-add}
 use borrow.Author.Tests.{eqb-true}
+use Rattle.word.specs.Tests.{never}
 use Rattle.word.specs.Part.{part, part-part, part-among, getD-part}
 use Rattle.word.specs.Word.{valueOf, lowFirst, wordAt, lowBytes, bytesOf}
 use Rattle.word.specs.WordLaws.{length-bytesOf, word-among, word-drop, word-part}
@@ -107,9 +108,6 @@ pub record Kinded (code s : ℕ) : Type 0 where
   pub most : code ≤ 5
   pub groups : code ≡ 3 → s % 4 ≡ 0
   pub each : s ≤ needed code s
-
-pub never : {A : Type 0} → false ≡ true → A
-never e = absurd (let z : _≡_ {A = ℕ} 0 1 = cc in omega arith)
 
 integers-kinded : (code s : ℕ) → integersAsked code s ≡ true → Kinded code s
 unfolding needed

@@ -9,6 +9,7 @@ use lib.ListN.{length, take, drop, length-drop}
 use lib.Seq.{drop-drop}
 use lib.Dec.{leb}
 use borrow.Author.Tests.{le-leb, lt-leb, leb-true}
+use Rattle.word.specs.Tests.{both}
 use Rattle.word.specs.Part.{part, length-part}
 use Rattle.refusal.specs.declared.Part.{Part}
 use Rattle.strings.specs.declared.Frame.{Frame}
@@ -16,7 +17,7 @@ use Rattle.strings.specs.declared.Frame.the-variants.{End, Text, Broken}
 use Rattle.strings.specs.declared.Place.{Place}
 use Rattle.strings.specs.declared.Found.the-variants.{Nothing, Is}
 use Rattle.strings.specs.declared.Entry.the-variants.{Stop, At}
-use Rattle.text.specs.Runs.{same, both}
+use Rattle.text.specs.Runs.{same}
 use Rattle.text.specs.Note.{starts, lineLen, linesOf, line-ends}
 use Rattle.strings.specs.Strings.{frameOf, placeOf, onText, entryOf, placesFrom, placesOf, nthOf, keyIn, valueIn}
 use Rattle.strings.specs.Walks.{in-frame, place-next, place-stop, place-bounds}

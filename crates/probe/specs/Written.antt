@@ -9,6 +9,7 @@ use lib.IntN.{ℤ}
 use lib.ListN.{length}
 use lib.Dec.{leb}
 use borrow.Author.Tests.{leb-true, leb-false}
+use Rattle.word.specs.Tests.{and-false}
 use Rattle.word.specs.Put.{put}
 use Rattle.sample.specs.Needed.{needed, room}
 use Rattle.decode.specs.Sample.{integersAsked, bitsAsked}
@@ -69,12 +70,8 @@ room-5 s n = same-leb s (n / 8) ((8 * s + 3) / 4 * 4) n (λ h. omega arith) (λ 
 
 -- ---- a law for each answer, with what the code found and tested
 
-and-none : (a : Bool) → a && false ≡ false
-and-none true = refl
-and-none false = refl
-
 and-none-2 : (a b : Bool) → a && (b && false) ≡ false
-and-none-2 true b = and-none b
+and-none-2 true b = and-false b
 and-none-2 false b = refl
 
 pub fits-all : (f : Fit) → isAll f ≡ true → f ≡ All
@@ -96,7 +93,7 @@ module _ (code : ℕ) (high : Bool) (row : List ℤ) (part : List ℕ) where
   unfolding integersTaken
   integers-unfit e g h =
       let z : isAll (unfitIntegers code row) ≡ false = ap isAll (sym e) ∙ sym g ∙ h in
-      integers-not (rw z (and-none (integersAsked code (length row))))
+      integers-not (rw z (and-false (integersAsked code (length row))))
 
   pub integers-no-room : {b : Bool} → b ≡ leb (room code (length row)) (length part) → b ≡ false
       → (false ≡ integersTaken code row (length part)) × (part ≡ integersLeft code high row part)
@@ -131,7 +128,7 @@ module _ (code : ℕ) (high : Bool) (row part : List ℕ) where
   unfolding bitsTaken
   bits-unfit e g h =
       let z : isAll (unfitPatterns code row) ≡ false = ap isAll (sym e) ∙ sym g ∙ h in
-      bits-not (rw z (and-none (bitsAsked code)))
+      bits-not (rw z (and-false (bitsAsked code)))
 
   pub bits-no-room : {b : Bool} → b ≡ leb (room code (length row)) (length part) → b ≡ false
       → (false ≡ bitsTaken code row (length part)) × (part ≡ bitsLeft code high row part)

@@ -10,6 +10,7 @@ use lib.IntN.{ℤ, pos}
 use lib.ListN.{length, take}
 use lib.Dec.{eqb}
 use borrow.Author.Tests.{eq-eqb, ne-eqb, eqb-true, not-false}
+use Rattle.refusal.specs.Verdicts.{isAccepted, refused-not}
 use Rattle.refusal.specs.Rows.{clear}
 use Rattle.refusal.specs.declared.Rule.the-variants.{RowLength, CodeKind}
 use Rattle.refusal.specs.declared.Refusal.{Refusal}
@@ -17,7 +18,6 @@ use Rattle.refusal.specs.declared.Verdict.{Verdict}
 use Rattle.refusal.specs.declared.Verdict.the-variants.{Accepted, Refused}
 use Rattle.sample.specs.Run.{length-run}
 use Rattle.head.specs.Head.{highFirst, countOf, refused}
-use Rattle.refusal.specs.Tests.{isAccepted, refused-not}
 use Rattle.block.specs.Block.{traceBlockOf}
 use Rattle.image.specs.Image.{checkOf}
 use Rattle.reader.specs.declared.Whose.{Whose}

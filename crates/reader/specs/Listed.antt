@@ -12,7 +12,7 @@ use lib.Dec.{eqb}
 use borrow.Author.Tests.{lt-ltb, le-ltb, ne-eqb}
 use Rattle.word.specs.Part.{part}
 use Rattle.word.specs.Bytes.{Bytes}
-use Rattle.refusal.specs.Rows.{pick}
+use Rattle.refusal.specs.Rows.{pick, pick-second}
 use Rattle.refusal.specs.declared.Refusal.{Refusal}
 use Rattle.refusal.specs.declared.Verdict.the-variants.{Accepted}
 use Rattle.strings.specs.declared.Place.{Place}
@@ -78,9 +78,6 @@ unfolding areaOf
 trace-area f k l = rw (whose-one k (countOf f) l)
 
 -- in an accepted file each part has a list
-pick-second : {A : Type 0} (b : Bool) (x y : A) → b ≡ false → pick b x y ≡ y
-pick-second b x y e = rw e
-
 pub file-lists : (xs : List ℕ) (n : ℕ) → Bytes xs → checkOf false xs n ≡ Accepted → (ss : List Str) × Lists (take n xs) (negsuc 0) ss
 file-lists xs n by ok =
     let f : List ℕ = take n xs in
@@ -126,7 +123,7 @@ found-yes : (x : Found) → yesOrNo (there x) ≡ pick (found x) keyword.Yes key
 found-yes Nothing = refl
 found-yes (Is s) = refl
 
-found-value : (f : List ℕ) (x : Found) → valueThere f (there x) ≡ valueFound f x
+pub found-value : (f : List ℕ) (x : Found) → valueThere f (there x) ≡ valueFound f x
 unfolding valueFound
 found-value f Nothing = refl
 found-value f (Is s) = refl

@@ -1,7 +1,7 @@
 -- The questions on a file (document 01, "Strings", "Numbers in values", "Samples", and rows 18, 32 and 33). xs is the lent buffer, n the length given
 -- beside it, f the image: the first n bytes. Every answer is the check's refusal, or else one of the image alone.
 -- Assumes nothing.
-use mathlib.Core.Bool.{Bool, true, false, not}
+use mathlib.Core.Bool.{Bool, false, not}
 use mathlib.Core.List.{List, [], _∷_}
 use Prim.Native.Nat.{ℕ, zero, suc, _+_}
 use lib.IntN.{ℤ, pos, negsuc}
@@ -19,9 +19,8 @@ use Rattle.strings.specs.declared.Place.{Place}
 use Rattle.strings.specs.declared.Found.{Found}
 use Rattle.strings.specs.declared.Found.the-variants.{Nothing, Is}
 use Rattle.strings.specs.Strings.{placesOf, nthOf, findOf, valueIn}
-use Rattle.sample.specs.Needed.{byCode}
+use Rattle.decode.specs.Sample.{integersAsked, bitsAsked, sampleOf, patternOf, classOf}
 use Rattle.sample.specs.Run.{run}
-use Rattle.decode.specs.Sample.{bitsAsked, sampleOf, patternOf, classOf}
 use Rattle.decimal.specs.declared.NumberAnswer.{NumberAnswer}
 use Rattle.decimal.specs.declared.NumberAnswer.the-variants as number
 use Rattle.double.specs.declared.DoubleAnswer.{DoubleAnswer}
@@ -172,8 +171,9 @@ countAt f k = sampleCount (highFirst f) f (traceAt f k)
 unfoldable pub dataOf : List ℕ → ℕ → List ℕ
 dataOf f k = part (dataAt (highFirst f) f (traceAt f k)) (endAt (highFirst f) f (traceAt f k)) f
 
+-- codes 1 to 3: those that no samples can be asked for as integers of; a trace's own count is whole groups already (row 13)
 abbrev pub ofIntegers : ℕ → Bool
-ofIntegers code = byCode true true true false false false code
+ofIntegers code = integersAsked code 0
 
 abbrev pub ofBits : ℕ → Bool
 ofBits code = bitsAsked code

@@ -10,6 +10,7 @@ use lib.ListN.{length, take}
 use lib.Seq.{length-take-le}
 use lib.Dec.{ltb}
 use borrow.Author.Tests.{ltb-true}
+use Rattle.refusal.specs.Verdicts.{refused-not}
 use Rattle.word.specs.Part.{part-take}
 use Rattle.refusal.specs.Rows.{pick}
 use Rattle.refusal.specs.declared.Rule.the-variants.{Length}
@@ -25,7 +26,6 @@ use Rattle.block.specs.declared.TraceBlock.{TraceBlock}
 use Rattle.head.specs.Head.{highFirst, roomOf, countOf, stringEnd, goodTerminator, refused}
 use Rattle.block.specs.Block.{dataAt, traceBlockOf}
 use Rattle.image.specs.Image.{imageOf, badLength, checkOf}
-use Rattle.refusal.specs.Tests.{refused-not}
 use Rattle.block.specs.BlockLaws.{Pointed, Blocked}
 use Rattle.image.specs.ImageLaws.{long-enough}
 use Rattle.image.specs.Keeps.{traceAt, endBefore}

@@ -1,3 +1,3 @@
 pub mod Table
 pub mod Rows
-pub mod Tests
+pub mod Verdicts

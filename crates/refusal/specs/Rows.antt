@@ -13,6 +13,9 @@ abbrev pub pick {ℓ} : {A : Type ℓ} → Bool → A → A → A
 pick true a b = a
 pick false a b = b
 
+pub pick-second : {A : Type 0} (b : Bool) (x y : A) → b ≡ false → pick b x y ≡ y
+pick-second b x y e = rw e
+
 abbrev pub Rows : Type 0 → Type 0
 Rows A = List (Bool × A)
 

@@ -9,6 +9,7 @@ use native.Mathlib.Omega.{arith}
 use lib.ListN.{length}
 use lib.Dec.{ltb, eqb}
 use borrow.Author.Tests.{le-ltb, ltb-false}
+use Rattle.word.specs.Tests.{neither, join-neither}
 use Rattle.word.specs.Put.{put}
 use Rattle.refusal.specs.declared.Refusal.{Refusal}
 use Rattle.refusal.specs.declared.Rule.the-variants.{NoRoom, StartValues}
@@ -19,7 +20,6 @@ use Rattle.sheet.specs.declared.Measured.{Measured}
 use Rattle.sheet.specs.declared.Measured.the-variants as measured
 use Rattle.sheet.specs.Area.{areaSize, measuredOf}
 use Rattle.area.specs.Spelling.{measured-size}
-use Rattle.refusal.specs.Tests.{neither, join-neither}
 use Rattle.start.specs.declared.Written.{Written}
 use Rattle.start.specs.declared.Written.the-variants.{To, Refused}
 use Rattle.layout.specs.Layout.{nul, lineFeed, startImage, startSize}

@@ -8,6 +8,7 @@ use native.Mathlib.Omega.{arith}
 use lib.ListN.{length}
 use lib.Dec.{ltb, eqb}
 use borrow.Author.Tests.{lt-ltb, le-ltb}
+use Rattle.word.specs.Tests.{neither, at-most}
 use Rattle.word.specs.Put.{put}
 use Rattle.refusal.specs.declared.Refusal.{Refusal}
 use Rattle.refusal.specs.declared.Rule.the-variants.{NoRoom, StartValues}
@@ -15,7 +16,6 @@ use Rattle.sample.specs.Needed.{room}
 use Rattle.sheet.specs.declared.Measured.the-variants as measured
 use Rattle.sheet.specs.Area.{areaSize, measuredOf}
 use Rattle.area.specs.Spelling.{measured-size}
-use Rattle.refusal.specs.Tests.{neither, at-most}
 use Rattle.start.specs.declared.Written.{Written}
 use Rattle.start.specs.declared.Written.the-variants.{To, Refused}
 use Rattle.layout.specs.Layout.{nul, lineFeed, startImage, startSize}

@@ -11,6 +11,7 @@ use lib.ListN.{length, take, drop, length-append, take-append-drop}
 use lib.Seq.{length-take-le, take-append-seam, drop-append-seam, take-take}
 use lib.Dec.{ltb, eqb}
 use borrow.Author.Tests.{ne-eqb, ltb-false, eqb-true, eqb-false, not-false}
+use Rattle.word.specs.Tests.{both}
 use Rattle.word.specs.Part.{part, length-part, part-rest, part-split, part-part, part-drop, part-among}
 use Rattle.word.specs.Bytes.{Bytes, bytes-take, bytes-drop}
 use Rattle.word.specs.Word.{wordAt, bytesOf}
@@ -29,7 +30,7 @@ use Rattle.strings.specs.declared.Place.{Place}
 use Rattle.strings.specs.declared.Found.{Found}
 use Rattle.strings.specs.declared.Found.the-variants.{Nothing, Is}
 use Rattle.text.specs.Chars.{blank, solid, keyChar, key-solid, solid-not-blank}
-use Rattle.text.specs.Runs.{run, all, same, same-eq, same-refl, both, Stops, all-weaker, run-all, run-stops, run-append}
+use Rattle.text.specs.Runs.{run, all, same, same-eq, same-refl, Stops, all-weaker, run-all, run-stops, run-append}
 use Rattle.text.specs.Order.{rises, rises-strict, rises-transitive}
 use Rattle.strings.specs.Strings.{offset, body, keyLen, keyOf, afterKey, gapLen, gapOf, valueOf, frameRows, frameOf, textRows, judgedOf, onFrame, onJudged, stepOf, onStep, stringsFrom, stringsOf, placeOf, onText, placesFrom, placesOf, keyIn, valueIn, nthOf, findOf, keyFound, valueFound}
 use Rattle.strings.specs.Frames.{frame-end, Framed, framed}

@@ -19,7 +19,6 @@ use Rattle.strings.specs.declared.Frame.{Frame}
 use Rattle.strings.specs.declared.Frame.the-variants.{End, Text, Broken}
 use Rattle.strings.specs.declared.Judged.{Judged}
 use Rattle.strings.specs.declared.Judged.the-variants.{Keyword, Wrong}
-use Rattle.strings.specs.declared.Step.{Step}
 use Rattle.strings.specs.declared.Step.the-variants.{Next, Done, Bad}
 use Rattle.strings.specs.declared.Place.{Place}
 use Rattle.strings.specs.declared.Entry.the-variants.{Stop, At}
@@ -62,11 +61,6 @@ unfolding body
 length-body t o l low fit = length-part 2 (o - length t) l (omega arith)
 
 -- ---- the check
-
-abbrev isNext : Step → Bool
-isNext (Next o n) = true
-isNext Done = false
-isNext (Bad r) = false
 
 -- a step past a string goes past its frame, and its keyword lies there
 pub next-fits : (high : Bool) (t u : List ℕ) (p : Part) (prev l : List ℕ) (at o n : ℕ) → stepOf high t u p prev l at ≡ Next o n

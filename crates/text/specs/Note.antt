@@ -9,9 +9,10 @@ use lib.ListN.{length, getD, take, drop, length-append, take-append-drop}
 use lib.Seq.{take-append-seam, drop-drop}
 use lib.Dec.{leb, eqb}
 use borrow.Author.Tests.{leb-false, le-leb, ne-eqb}
+use Rattle.word.specs.Tests.{both}
 use Rattle.refusal.specs.Rows.{pick}
 use Rattle.text.specs.Chars.{note, valueChar}
-use Rattle.text.specs.Runs.{same, same-eq, same-refl, all, more, none, both}
+use Rattle.text.specs.Runs.{same, same-eq, same-refl, all, more, none}
 
 -- the list begins with u
 unfoldable pub starts : List ℕ → List ℕ → Bool

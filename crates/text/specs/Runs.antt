@@ -10,12 +10,8 @@ use lib.ListN.{length, getD, take, drop, drop-of-length-le}
 use lib.Seq.{drop-cons}
 use lib.Dec.{eqb}
 use borrow.Author.Tests.{eqb-true, eq-eqb}
+use Rattle.word.specs.Tests.{both}
 use Rattle.refusal.specs.Rows.{pick}
-
--- both of two tests
-pub both : (b w : Bool) → (b && w) ≡ true → (b ≡ true) × (w ≡ true)
-both true w h = (refl, h)
-both false w h = let z : _≡_ {A = ℕ} 0 1 = cc in absurd (omega arith)
 
 -- what is left of a list that is walked by an index, one element at a time
 pub more : (s : List ℕ) (i : ℕ) → i < length s → drop i s ≡ getD s i 0 ∷ drop (i + 1) s
@@ -47,10 +43,6 @@ same (x ∷ xs) [] = false
 same (x ∷ xs) (y ∷ ys) = eqb x y && same xs ys
 
 module _ (p : ℕ → Bool) where
-  pub all-none : all p [] ≡ true
-  unfolding all
-  all-none = refl
-
   pub all-append : (xs ys : List ℕ) → all p xs ≡ true → all p ys ≡ true → all p (xs ++ ys) ≡ true
   unfolding all
   all-append [] ys h k = k

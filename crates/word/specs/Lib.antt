@@ -5,3 +5,4 @@ pub mod Word
 pub mod WordLaws
 pub mod Round
 pub mod Signed
+pub mod Tests

@@ -23,10 +23,6 @@ module _ {A : Type 0} where
   pub length-part : (a e : ℕ) (f : List A) → e ≤ length f → length (part a e f) ≡ e - a
   length-part a e f h = length-take-le (e - a) (drop a f) (simp length-drop (omega arith))
 
-  -- the whole, the front and the rest are parts
-  pub part-front : (e : ℕ) (f : List A) → part 0 e f ≡ take e f
-  part-front e f = let s : e - 0 ≡ e = omega arith in rw s
-
   pub part-rest : (a : ℕ) (f : List A) → part a (length f) f ≡ drop a f
   part-rest a f = take-all (length f - a) (drop a f) (simp length-drop (omega arith))
 

@@ -22,10 +22,6 @@ module _ {A : Type 0} where
   unfolding put
   put-none xs at = refl
 
-  pub put-more : (xs : List A) (at : ℕ) (b : A) (bs : List A) → put xs at (b ∷ bs) ≡ put (set xs at b) (at + 1) bs
-  unfolding put
-  put-more xs at b bs = refl
-
   pub length-put : (xs : List A) (at : ℕ) (bs : List A) → length (put xs at bs) ≡ length xs
   unfolding put
   length-put xs at [] = refl

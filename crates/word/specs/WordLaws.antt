@@ -10,7 +10,7 @@ use lib.ListN.{length, getD, take, drop, length-drop, length-take, length-revers
 use lib.Seq.{length-take-le, take-take, take-add, take-at, drop-at, drop-drop, drop-cons}
 use Rattle.word.specs.Part.{part, drop-take}
 use Rattle.word.specs.Bytes.{Bytes, bytes-take, bytes-drop, bytes-reverse}
-use Rattle.word.specs.Put.{put, put-append, part-put, part-put-before, part-put-after}
+use Rattle.word.specs.Put.{put, put-append, part-put, part-put-after}
 use Rattle.word.specs.Word.{lowFirst, valueOf, wordAt, lowBytes, bytesOf, joined}
 
 -- ---- low byte first: everything else follows from these
@@ -167,11 +167,6 @@ word-put w o n xs at h k =
     ap (valueOf o)
     (as-part w at (put xs at (bytesOf w o n)) ∙ part-put (bytesOf w o n) xs at (at + w) (ap (λ (l : ℕ). at + l) (sym (length-bytesOf w o n))) h)
     ∙ value-bytesOf w o n k
-
-pub word-put-before : (w : ℕ) (o : Bool) (bs xs : List ℕ) (at k : ℕ) → k + w ≤ at → wordAt w o (put xs at bs) k ≡ wordAt w o xs k
-unfolding wordAt
-word-put-before w o bs xs at k h =
-    ap (valueOf o) (as-part w k (put xs at bs) ∙ part-put-before k (k + w) bs xs at h ∙ sym (as-part w k xs))
 
 pub word-put-after : (w : ℕ) (o : Bool) (bs xs : List ℕ) (at k : ℕ) → at + length bs ≤ k → wordAt w o (put xs at bs) k ≡ wordAt w o xs k
 unfolding wordAt

@@ -8,6 +8,7 @@ use Prim.Native.Nat.{ℕ, _+_, _*_, _≤_, _<_}
 use native.Mathlib.Omega.{arith}
 use lib.ListN.{length, take}
 use borrow.Author.Tests.{le-ltb, ltb-false, not-false}
+use Rattle.refusal.specs.Verdicts.{refused-not}
 use Rattle.word.specs.Bytes.{Bytes}
 use Rattle.word.specs.WordLaws.{word-small}
 use Rattle.refusal.specs.declared.Refusal.{Refusal}
@@ -23,7 +24,6 @@ use Rattle.sheet.specs.declared.Measured.{Measured}
 use Rattle.sheet.specs.declared.Measured.the-variants as measured
 use Rattle.sheet.specs.Area.{areaSize, measuredOf}
 use Rattle.head.specs.Head.{highFirst, roomOf, countOf, stringEnd, lineEnd, refused}
-use Rattle.refusal.specs.Tests.{refused-not}
 use Rattle.head.specs.HeadLaws.{Headed}
 use Rattle.image.specs.Image.{imageOf, badLength, checkOf}
 use Rattle.image.specs.ImageLaws.{long-enough}

@@ -9,7 +9,7 @@ use lib.IntN.{ℤ}
 use lib.ListN.{length, getD, take, drop}
 use lib.Seq.{length-take-le, take-take, getD-take}
 use lib.Dec.{ltb, eqb}
-use borrow.Author.Tests.{lt-ltb, le-ltb}
+use borrow.Author.Tests.{lt-ltb, le-ltb, not-true, not-false}
 use Rattle.word.specs.Part.{part, part-first, part-none}
 use Rattle.word.specs.Round.{round4}
 use Rattle.word.specs.Bytes.{Bytes, bytes-take}
@@ -88,10 +88,6 @@ module _ (xs : List ℕ) (n : ℕ) (x : Trace) where
 
 -- ---- rows 28 and 29 as the code tests them
 
-not-zero : (w : Bool) → not w ≡ false → w ≡ true
-not-zero true h = refl
-not-zero false h = let z : _≡_ {A = ℕ} 0 1 = cc in absurd (omega arith)
-
 asked-out : (code s : ℕ) → (ltb code 1 || ltb 3 code) ≡ true → integersAsked code s ≡ false
 asked-out zero s h = refl
 asked-out (suc zero) s h = let z : _≡_ {A = ℕ} 0 1 = cc in absurd (omega arith)
@@ -105,11 +101,7 @@ asked-odd : (code s : ℕ) → (eqb code 3 && not (eqb (s % 4) 0)) ≡ true → 
 asked-odd zero s h = refl
 asked-odd (suc zero) s h = let z : _≡_ {A = ℕ} 0 1 = cc in absurd (omega arith)
 asked-odd (suc (suc zero)) s h = let z : _≡_ {A = ℕ} 0 1 = cc in absurd (omega arith)
-asked-odd (suc (suc (suc zero))) s h = not-one (eqb (s % 4) 0) h
-  where
-    not-one : (w : Bool) → not w ≡ true → w ≡ false
-    not-one true k = let z : _≡_ {A = ℕ} 0 1 = cc in absurd (omega arith)
-    not-one false k = refl
+asked-odd (suc (suc (suc zero))) s h = not-true (eqb (s % 4) 0) h
 asked-odd (suc (suc (suc (suc zero)))) s h = refl
 asked-odd (suc (suc (suc (suc (suc zero))))) s h = refl
 asked-odd (suc (suc (suc (suc (suc (suc c)))))) s h = refl
@@ -118,7 +110,7 @@ asked-in : (code s : ℕ) → (ltb code 1 || ltb 3 code) ≡ false → (eqb code
 asked-in zero s h k = let z : _≡_ {A = ℕ} 0 1 = cc in absurd (omega arith)
 asked-in (suc zero) s h k = refl
 asked-in (suc (suc zero)) s h k = refl
-asked-in (suc (suc (suc zero))) s h k = not-zero (eqb (s % 4) 0) k
+asked-in (suc (suc (suc zero))) s h k = not-false (eqb (s % 4) 0) k
 asked-in (suc (suc (suc (suc zero)))) s h k = let z : _≡_ {A = ℕ} 0 1 = cc in absurd (omega arith)
 asked-in (suc (suc (suc (suc (suc zero))))) s h k = let z : _≡_ {A = ℕ} 0 1 = cc in absurd (omega arith)
 asked-in (suc (suc (suc (suc (suc (suc c)))))) s h k =

@@ -5,7 +5,8 @@ use native.Mathlib.Nat.{zero-add}
 use borrow.Author.Needs.{needs}
 use borrow.Author.Tests.{not-true, not-false}
 use lib.ListN.{length, drop}
-use Rattle.decimal.specs.Run.{isOf, run, run-more, run-stop, run-over}
+use Rattle.text.specs.Runs.{run, run-more, run-end, run-none}
+use Rattle.decimal.specs.Run.{isOf}
 use Rattle.decimal.proofs.run.Statement.{statement}
 use Rattle.decimal.proofs.run.Tie as tie
 
@@ -26,10 +27,10 @@ run-spec =
     (λ c κs. search needs)
     (λ c.
     let t = c .before .before .before in
-    sym (run-stop _ _ (t .before .loop .i) (t .loop-test .taken) (sym (c .before .is .ensures) ∙ not-true _ (c .if1 .taken))) ∙ t .before .loop .inv)
+    run-end _ _ (t .before .loop .i) (t .loop-test .taken) (sym (c .before .is .ensures) ∙ not-true _ (c .if1 .taken)) ∙ t .before .loop .inv)
     (λ c. search needs)
     (λ c. search needs)
     (λ c.
     let t = c .before .before .before in
-    run-more _ _ (t .before .loop .i) (t .loop-test .taken) (sym (c .before .is .ensures) ∙ not-false _ (c .if1 .left)) ∙ t .before .loop .inv)
-    (λ c. sym (run-over _ _ (c .before .loop .i) (c .loop-test .left)) ∙ c .before .loop .inv))
+    sym (run-more _ _ (t .before .loop .i) (t .loop-test .taken) (sym (c .before .is .ensures) ∙ not-false _ (c .if1 .left))) ∙ t .before .loop .inv)
+    (λ c. run-none _ _ (c .before .loop .i) (c .loop-test .left) ∙ c .before .loop .inv))

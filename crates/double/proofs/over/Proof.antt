@@ -3,7 +3,8 @@ use mathlib.Core.Path.{_≡_, ap, _∙_}
 use native.Mathlib.Omega.{arith}
 use borrow.Author.Needs.{needs}
 use lib.ListN.{drop, length-drop}
-use Rattle.decimal.specs.Run.{isOf, run, run-le}
+use Rattle.text.specs.Runs.{run, run-le}
+use Rattle.decimal.specs.Run.{isOf}
 use Rattle.double.proofs.over.Statement.{statement}
 use Rattle.double.proofs.over.Tie as tie
 

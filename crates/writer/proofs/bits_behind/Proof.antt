@@ -1,10 +1,10 @@
 -- `writer::bits_behind` meets its contract. Each return is one row; the last is the new length. Assumes nothing.
 use mathlib.Core.Path.{sym, _∙_}
+use Rattle.word.specs.Tests.{neither}
 use Rattle.layout.specs.Layout.{ofPatterns, count}
 use Rattle.layout.specs.LayoutLaws.{kinded}
 use Rattle.writer.specs.Shown.{opened, samples-fit}
 use Rattle.writer.specs.Writes.{add-unfit, add-long, add-full, add-fits, new-end, growing}
-use Rattle.refusal.specs.Tests.{neither}
 use Rattle.word.specs.Bytes.{each-bytes}
 use borrow.Author.Tests.{ltb-false}
 use Rattle.area.specs.Spelling.{measured-size}

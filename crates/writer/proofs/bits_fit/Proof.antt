@@ -1,7 +1,7 @@
 -- `writer::bits_fit` meets its contract. The tests are those of row 28. Assumes nothing.
 use mathlib.Core.Path.{_∙_}
+use Rattle.word.specs.Tests.{at-most}
 use Rattle.writer.specs.Writes.{bits-code, bits-judged}
-use Rattle.refusal.specs.Tests.{at-most}
 use borrow.Author.Needs.{needs}
 use native.Mathlib.Omega.{arith}
 use Rattle.writer.proofs.bits_fit.Statement.{statement}

@@ -1,4 +1,4 @@
--- Tests that are put together, and what an answer tells: the laws that the rows of every check use.
+-- Tests that are put together: the laws that the rows of every check use.
 -- Assumes nothing.
 use mathlib.Core.Path.{_≡_, refl}
 use mathlib.Core.Bool.{Bool, true, false, _&&_, _||_}
@@ -6,9 +6,6 @@ use Prim.Native.Nat.{ℕ, _≤_}
 use native.Mathlib.Omega.{arith}
 use lib.Dec.{ltb}
 use borrow.Author.Tests.{ltb-false}
-use Rattle.refusal.specs.declared.Refusal.{Refusal}
-use Rattle.refusal.specs.declared.Verdict.{Verdict}
-use Rattle.refusal.specs.declared.Verdict.the-variants.{Accepted, Refused}
 
 -- neither of two tests
 pub neither : (a b : Bool) → (a || b) ≡ false → (a ≡ false) × (b ≡ false)
@@ -23,13 +20,19 @@ pub not-both : (a b : Bool) → (a && b) ≡ false → a ≡ true → b ≡ fals
 not-both true b h e = h
 not-both false b h e = let z : _≡_ {A = ℕ} 0 1 = cc in absurd (omega arith)
 
-abbrev pub isAccepted : Verdict → Bool
-isAccepted Accepted = true
-isAccepted (Refused r) = false
-
-pub refused-not : (r : Refusal) → Refused r ≡ Accepted → ⊥
-refused-not r e = let z : _≡_ {A = ℕ} 0 1 = cc in omega arith
-
 -- neither below nor above
 pub at-most : (n low most : ℕ) → (ltb n low || ltb most n) ≡ false → n ≤ most
 at-most n low most h = ltb-false most n (neither (ltb n low) (ltb most n) h .1)
+
+-- both of two tests
+pub both : (b w : Bool) → (b && w) ≡ true → (b ≡ true) × (w ≡ true)
+both true w h = (refl, h)
+both false w h = let z : _≡_ {A = ℕ} 0 1 = cc in absurd (omega arith)
+
+pub and-false : (b : Bool) → (b && false) ≡ false
+and-false true = refl
+and-false false = refl
+
+-- a test that holds and does not
+pub never : {A : Type 0} → false ≡ true → A
+never e = absurd (let z : _≡_ {A = ℕ} 0 1 = cc in omega arith)
