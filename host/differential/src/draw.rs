@@ -1,6 +1,6 @@
 //! Random cases. The same numbers give the same case on every machine.
 
-use crate::case::{Base, Case, Given, Kind};
+use crate::case::{Base, Case, Given, Kind, Start};
 use seg2_reference as reference;
 use seg2_reference::generate::model::{
     random_code_4, random_code_5, random_i32, AreaModel, End, Float20, SamplesModel, StringModel,
@@ -232,9 +232,11 @@ pub fn started(rng: &mut Rng) -> Case {
     let room = room_for(rng, length.unwrap_or(200));
     let kind = Kind::Started {
         buffer: rng.junk(room),
-        order,
-        slots,
-        sheet,
+        given: Start {
+            order,
+            slots,
+            sheet,
+        },
     };
     case(rng, kind)
 }
@@ -348,13 +350,13 @@ fn some_room(rng: &mut Rng) -> usize {
 
 /// A start and a list of additions, refused ones in between.
 pub fn grown(rng: &mut Rng) -> Case {
-    let base = Base::Start {
+    let start = Start {
         order: rng.between(0, 1) as u32,
         slots: rng.between(1, 7) as u32,
         sheet: good_sheet(rng).sheet,
     };
     let kind = Kind::Grown {
-        base,
+        base: Base::Start(start),
         room: some_room(rng),
         steps: steps(rng),
     };
