@@ -149,6 +149,6 @@ fn of_value(
 }
 
 /// The reference takes codes of 8 bits: a wider one is as little a code as 255 is.
-fn narrow(code: u32) -> u8 {
+pub(crate) fn narrow(code: u32) -> u8 {
     u8::try_from(code).unwrap_or(255)
 }

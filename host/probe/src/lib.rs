@@ -87,35 +87,30 @@ extern "C" {
 const _: () =
     assert!(size_of::<Number>() > 16 && size_of::<Double>() > 16 && size_of::<Location>() > 16);
 
-/// The number that a text is: document 01, "Numbers in values".
-pub fn number(text: &[u8]) -> Number {
+/// What a function that reads a text writes to the place it is given.
+fn answered<A>(call: unsafe extern "C" fn(*mut A, *const u8, usize) -> *mut A, text: &[u8]) -> A {
     let mut answer = MaybeUninit::uninit();
     // SAFETY: a pointer and a length are those of one slice, here and below, and a
     // slice that is written overlaps no other; the answer is written whole.
     unsafe {
-        probe_number(answer.as_mut_ptr(), text.as_ptr(), text.len());
+        call(answer.as_mut_ptr(), text.as_ptr(), text.len());
         answer.assume_init()
     }
+}
+
+/// The number that a text is: document 01, "Numbers in values".
+pub fn number(text: &[u8]) -> Number {
+    answered(probe_number, text)
 }
 
 /// The double that a text is: "As a double".
 pub fn double(text: &[u8]) -> Double {
-    let mut answer = MaybeUninit::uninit();
-    // SAFETY: as above.
-    unsafe {
-        probe_double(answer.as_mut_ptr(), text.as_ptr(), text.len());
-        answer.assume_init()
-    }
+    answered(probe_double, text)
 }
 
 /// The location that a text is.
 pub fn location(text: &[u8]) -> Location {
-    let mut answer = MaybeUninit::uninit();
-    // SAFETY: as above.
-    unsafe {
-        probe_location(answer.as_mut_ptr(), text.as_ptr(), text.len());
-        answer.assume_init()
-    }
+    answered(probe_location, text)
 }
 
 /// Fills the row with the integers of codes 1 to 3. False, and nothing written,

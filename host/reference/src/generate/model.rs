@@ -388,19 +388,22 @@ impl TraceModel {
         let gap = rng.pick(&[0, 0, 0, 4, 8, 40]);
         let slack = rng.pick(&[0, 0, 1, 4, 30]);
         let code = rng.between(1, 5);
+        let (gap, reserved) = (rng.junk(gap), rng.junk(19));
+        let area = AreaModel::random(rng);
+        let count = rng.pick(&[0, 1, 2, 3, 4, 8, 17]);
         TraceModel {
-            gap: rng.junk(gap),
-            reserved: rng.junk(19),
-            area: AreaModel::random(rng),
-            samples: SamplesModel::random(rng, code),
+            gap,
+            reserved,
+            area,
+            samples: SamplesModel::random(rng, code, count),
             slack: rng.junk(slack),
         }
     }
 }
 
 impl SamplesModel {
-    fn random(rng: &mut Rng, code: usize) -> SamplesModel {
-        let count = rng.pick(&[0, 1, 2, 3, 4, 8, 17]);
+    /// So many samples; under code 3 as many of them as make whole groups.
+    pub fn random(rng: &mut Rng, code: usize, count: usize) -> SamplesModel {
         match code {
             1 => SamplesModel::Code1((0..count).map(|_| random_i32(rng) as i16).collect()),
             2 => SamplesModel::Code2((0..count).map(|_| random_i32(rng)).collect()),
