@@ -46,23 +46,21 @@ fn near(rng: &mut Rng, code: u8, count: usize) -> usize {
     (needed + rng.pick(&[0, 0, 0, 1, 2, 3, 4, 9])).saturating_sub(rng.pick(&[0, 0, 0, 1, 2, 9]))
 }
 
-fn reads(blocks: &[Block]) {
-    for &(code, order, block, samples) in blocks {
-        let mut row = vec![77; samples.len()];
-        let high = order == Order::High;
-        assert!(proved::read_integers(code, block, high, &mut row));
-        assert_eq!(row, samples);
-    }
+fn is_read(&(code, order, block, samples): &Block) {
+    let mut row = vec![77; samples.len()];
+    let high = order == Order::High;
+    assert!(proved::read_integers(code, block, high, &mut row));
+    assert_eq!(row, samples);
 }
 
 #[test]
 fn codes_1_and_2() {
-    reads(CODES_1_AND_2);
+    CODES_1_AND_2.iter().for_each(is_read);
 }
 
 #[test]
 fn code_3_read() {
-    reads(CODE_3);
+    CODE_3.iter().for_each(is_read);
 }
 
 #[test]
