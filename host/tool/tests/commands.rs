@@ -577,7 +577,7 @@ fn add_is_refused_by_the_rules_and_leaves_the_file() {
     let none = folder.keep("none", "");
     let refused = |code: &str, samples: &str, sheet: &Path, says: &str| {
         let samples = folder.keep("samples", samples);
-        let (status, out, error) = add(&shot, &sheet, code, &samples);
+        let (status, out, error) = add(&shot, sheet, code, &samples);
         assert_eq!((status, out.as_str()), (1, ""), "{error}");
         assert!(error.contains(says), "{error}");
         assert_eq!(std::fs::read(&shot).expect("the file"), before);
