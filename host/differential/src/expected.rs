@@ -1,4 +1,4 @@
-//! The same calls answered by the reference.
+//! The calls as the reference answers them, in the form of the archive's answers.
 
 use crate::answer::{signed, Answer};
 use crate::call::Call;

@@ -1,4 +1,4 @@
-//! Generated numbers and locations against their parts.
+//! Generated numbers and locations: each is read as what it was made of.
 
 use seg2_reference::generate::*;
 use seg2_reference::*;
