@@ -3,12 +3,14 @@
 use crate::case::{Base, Case, Given, Kind, Start};
 use crate::expected::narrow;
 use seg2_reference as reference;
+use seg2_reference::generate::lay::two;
 use seg2_reference::generate::model::{AreaModel, End, SamplesModel, StringModel};
 use seg2_reference::generate::writing::row_for;
 use seg2_reference::generate::{
     damaged, good_sheet, location_case, mutated, number_case, several_damages, sheet_case, Model,
     Rng, Way, WAYS,
 };
+use seg2_reference::Order;
 
 /// What draws a case.
 pub type Draw = fn(&mut Rng) -> Case;
@@ -126,18 +128,13 @@ pub fn mutated_bytes(rng: &mut Rng) -> Case {
 pub fn random_bytes(rng: &mut Rng) -> Case {
     let size = rng.between(0, 300);
     let mut buffer = rng.junk(size);
-    let high = rng.one_in(2);
+    let order = rng.pick(&[Order::Low, Order::High]);
     if size >= 32 && !rng.one_in(5) {
-        let two = |value: u16| match high {
-            true => value.to_be_bytes(),
-            false => value.to_le_bytes(),
-        };
         let m = 4 * rng.between(1, 4) as u16;
         let n = rng.between(1, 2) as u16;
-        buffer[0..2].copy_from_slice(&two(0x3A55));
-        buffer[2..4].copy_from_slice(&two(1));
-        buffer[4..6].copy_from_slice(&two(m));
-        buffer[6..8].copy_from_slice(&two(n));
+        for (at, value) in [(0, 0x3A55), (2, 1), (4, m), (6, n)] {
+            buffer[at..at + 2].copy_from_slice(&two(value, order));
+        }
         buffer[8..14].copy_from_slice(&[1, 0, 0, 1, 10, 0]);
     }
     let near = rng.between(0, 400);
