@@ -30,11 +30,53 @@ _Static_assert(sizeof(struct seg2_double) == 24, "double");
 _Static_assert(sizeof(struct seg2_location) == 48 && offsetof(struct seg2_location, x) == 24, "location");
 _Static_assert(sizeof(seg2_length) == 24, "length");
 
-enum { STACK = 32768, ROOM = 1 << 20, FUNCTIONS = 16 };
+enum { STACK = 32768, ROOM = 1 << 20, FIELDS = 5 };
 
-static const char *const names[FUNCTIONS] = {
-    "", "seg2_check", "seg2_file_block", "seg2_trace_block", "seg2_string_count", "seg2_string", "seg2_keyword", "seg2_value",
-    "seg2_number", "seg2_double", "seg2_location", "seg2_integers", "seg2_bits", "seg2_start", "seg2_add_integers", "seg2_add_bits"};
+/* The functions by the numbers that vectors.rs gives them; NEW_BUFFER is none, but tells the buffer of the vectors behind it. */
+enum {
+    NEW_BUFFER,
+    CHECK,
+    FILE_BLOCK,
+    TRACE_BLOCK,
+    STRING_COUNT,
+    STRING,
+    KEYWORD,
+    VALUE,
+    NUMBER,
+    DOUBLE,
+    LOCATION,
+    INTEGERS,
+    BITS,
+    START,
+    ADD_INTEGERS,
+    ADD_BITS,
+    FUNCTIONS
+};
+
+static const struct {
+    const char *name;
+    size_t answer; /* the size of its answer */
+} functions[FUNCTIONS] = {
+    [CHECK] = {"seg2_check", sizeof(seg2_verdict)},
+    [FILE_BLOCK] = {"seg2_file_block", sizeof(seg2_file)},
+    [TRACE_BLOCK] = {"seg2_trace_block", sizeof(seg2_trace)},
+    [STRING_COUNT] = {"seg2_string_count", sizeof(seg2_count)},
+    [STRING] = {"seg2_string", sizeof(struct seg2_string)},
+    [KEYWORD] = {"seg2_keyword", sizeof(struct seg2_keyword)},
+    [VALUE] = {"seg2_value", sizeof(struct seg2_value)},
+    [NUMBER] = {"seg2_number", sizeof(struct seg2_number)},
+    [DOUBLE] = {"seg2_double", sizeof(struct seg2_double)},
+    [LOCATION] = {"seg2_location", sizeof(struct seg2_location)},
+    [INTEGERS] = {"seg2_integers", sizeof(seg2_verdict)},
+    [BITS] = {"seg2_bits", sizeof(seg2_verdict)},
+    [START] = {"seg2_start", sizeof(seg2_length)},
+    [ADD_INTEGERS] = {"seg2_add_integers", sizeof(seg2_length)},
+    [ADD_BITS] = {"seg2_add_bits", sizeof(seg2_length)},
+};
+
+static int is_writer(uint64_t function) {
+    return function >= START;
+}
 
 static void stop(const char *why) {
     fprintf(stderr, "replay: %s\n", why);
@@ -127,24 +169,24 @@ typedef struct call {
 
 __attribute__((noinline)) static void perform(call *c) {
     switch (c->function) {
-    case 1: *(seg2_verdict *)c->answer = seg2_check(c->buffer, c->size, c->length); break;
-    case 2: seg2_file_block(c->answer, c->buffer, c->size, c->length); break;
-    case 3: seg2_trace_block(c->answer, c->buffer, c->size, c->length, c->part); break;
-    case 4: seg2_string_count(c->answer, c->buffer, c->size, c->length, c->part); break;
-    case 5: seg2_string(c->answer, c->buffer, c->size, c->length, c->part, c->index); break;
-    case 6: seg2_keyword(c->answer, c->buffer, c->size, c->length, c->part, c->text, c->text_size); break;
-    case 7: seg2_value(c->answer, c->buffer, c->size, c->length, c->part, c->text, c->text_size); break;
-    case 8: seg2_number(c->answer, c->buffer, c->size, c->length, c->part, c->text, c->text_size); break;
-    case 9: seg2_double(c->answer, c->buffer, c->size, c->length, c->part, c->text, c->text_size); break;
-    case 10: seg2_location(c->answer, c->buffer, c->size, c->length, c->part, c->text, c->text_size); break;
-    case 11: *(seg2_verdict *)c->answer = seg2_integers(c->buffer, c->size, c->length, c->part, c->row, c->row_size); break;
-    case 12:
+    case CHECK: *(seg2_verdict *)c->answer = seg2_check(c->buffer, c->size, c->length); break;
+    case FILE_BLOCK: seg2_file_block(c->answer, c->buffer, c->size, c->length); break;
+    case TRACE_BLOCK: seg2_trace_block(c->answer, c->buffer, c->size, c->length, c->part); break;
+    case STRING_COUNT: seg2_string_count(c->answer, c->buffer, c->size, c->length, c->part); break;
+    case STRING: seg2_string(c->answer, c->buffer, c->size, c->length, c->part, c->index); break;
+    case KEYWORD: seg2_keyword(c->answer, c->buffer, c->size, c->length, c->part, c->text, c->text_size); break;
+    case VALUE: seg2_value(c->answer, c->buffer, c->size, c->length, c->part, c->text, c->text_size); break;
+    case NUMBER: seg2_number(c->answer, c->buffer, c->size, c->length, c->part, c->text, c->text_size); break;
+    case DOUBLE: seg2_double(c->answer, c->buffer, c->size, c->length, c->part, c->text, c->text_size); break;
+    case LOCATION: seg2_location(c->answer, c->buffer, c->size, c->length, c->part, c->text, c->text_size); break;
+    case INTEGERS: *(seg2_verdict *)c->answer = seg2_integers(c->buffer, c->size, c->length, c->part, c->row, c->row_size); break;
+    case BITS:
         *(seg2_verdict *)c->answer =
             seg2_bits(c->buffer, c->size, c->length, c->part, c->row, c->row_size, c->classes, c->classes_size);
         break;
-    case 13: seg2_start(c->answer, c->buffer, c->size, c->code, c->slots, c->text, c->text_size); break;
-    case 14: seg2_add_integers(c->answer, c->buffer, c->size, c->length, c->text, c->text_size, c->code, c->row, c->row_size); break;
-    case 15: seg2_add_bits(c->answer, c->buffer, c->size, c->length, c->text, c->text_size, c->code, c->row, c->row_size); break;
+    case START: seg2_start(c->answer, c->buffer, c->size, c->code, c->slots, c->text, c->text_size); break;
+    case ADD_INTEGERS: seg2_add_integers(c->answer, c->buffer, c->size, c->length, c->text, c->text_size, c->code, c->row, c->row_size); break;
+    case ADD_BITS: seg2_add_bits(c->answer, c->buffer, c->size, c->length, c->text, c->text_size, c->code, c->row, c->row_size); break;
     default: abort();
     }
 }
@@ -186,66 +228,158 @@ static size_t called(call *c) {
 /* An answer's fields behind the refusal, as the vectors have them. */
 static size_t fields_of(uint64_t function, const void *answer, uint64_t *f) {
     switch (function) {
-    case 2: {
+    case FILE_BLOCK: {
         const seg2_file *a = answer;
         f[0] = a->order, f[1] = a->pointer_room, f[2] = a->trace_count, f[3] = a->string_terminator_size, f[4] = a->line_terminator_size;
         return 5;
     }
-    case 3: {
+    case TRACE_BLOCK: {
         const seg2_trace *a = answer;
         f[0] = a->start, f[1] = a->block_size, f[2] = a->data_size, f[3] = a->sample_count, f[4] = a->format_code;
         return 5;
     }
-    case 4: f[0] = ((const seg2_count *)answer)->count; return 1;
-    case 5: {
+    case STRING_COUNT: f[0] = ((const seg2_count *)answer)->count; return 1;
+    case STRING: {
         const struct seg2_string *a = answer;
         f[0] = a->found, f[1] = a->key_start, f[2] = a->key_length, f[3] = a->value_start, f[4] = a->value_length;
         return 5;
     }
-    case 6: f[0] = ((const struct seg2_keyword *)answer)->found; return 1;
-    case 7: f[0] = ((const struct seg2_value *)answer)->value_start, f[1] = ((const struct seg2_value *)answer)->value_length; return 2;
-    case 8: {
+    case KEYWORD: f[0] = ((const struct seg2_keyword *)answer)->found; return 1;
+    case VALUE: f[0] = ((const struct seg2_value *)answer)->value_start, f[1] = ((const struct seg2_value *)answer)->value_length; return 2;
+    case NUMBER: {
         const struct seg2_number *a = answer;
         f[0] = a->minus, f[1] = (uint64_t)(int64_t)a->power, f[2] = a->coefficient;
         return 3;
     }
-    case 9: memcpy(f, &((const struct seg2_double *)answer)->value, 8); return 1;
-    case 10: {
+    case DOUBLE: memcpy(f, &((const struct seg2_double *)answer)->value, 8); return 1;
+    case LOCATION: {
         const struct seg2_location *a = answer;
         f[0] = a->count, memcpy(f + 1, &a->x, 8), memcpy(f + 2, &a->y, 8), memcpy(f + 3, &a->z, 8);
         return 4;
     }
-    case 13:
-    case 14:
-    case 15: f[0] = ((const seg2_length *)answer)->length; return 1;
+    case START:
+    case ADD_INTEGERS:
+    case ADD_BITS: f[0] = ((const seg2_length *)answer)->length; return 1;
     default: return 0;
     }
 }
 
-static size_t size_of(uint64_t function) {
-    static const uint8_t sizes[FUNCTIONS] = {0, 16, 56, 56, 24, 56, 24, 32, 32, 24, 48, 16, 16, 24, 24, 24};
-    return sizes[function];
-}
+/* ---- one vector */
 
-static int same_row(const call *c, const uint64_t *wanted) {
-    size_t i;
+/* The samples that an addition is given. They are only read. */
+static void lend_row(call *c) {
+    size_t width = c->function == ADD_INTEGERS ? 4 : 8, i;
+    c->row_size = number();
+    if (c->row_size > ROOM / 8) {
+        stop("a row is too large");
+    }
+    c->row = end_of(ROW, c->row_size * width);
     for (i = 0; i < c->row_size; i++) {
-        uint64_t is = c->function == 11 ? (uint64_t)(int64_t)((int32_t *)c->row)[i] : ((uint64_t *)c->row)[i];
-        uint64_t want = wanted[i];
-        /* integers are 32 bits wide, so of a painted row only these are there */
-        if (c->function == 11 ? (uint32_t)is != (uint32_t)want : is != want) {
-            return 0;
+        uint64_t value = number();
+        if (c->function == ADD_INTEGERS) {
+            ((int32_t *)c->row)[i] = (int32_t)(int64_t)value;
+        } else {
+            ((uint64_t *)c->row)[i] = value;
         }
     }
-    return 1;
+    locked(rooms[ROW], ROOM, PROT_READ);
 }
 
-int main(void) {
-    size_t page = (size_t)sysconf(_SC_PAGESIZE), depth[FUNCTIONS] = {0}, deepest = 0;
-    uint64_t asked[FUNCTIONS] = {0}, vectors = 0, wrong = 0, function;
-    bytes buffer = {NULL, 0};
-    uint8_t *lent = NULL;
-    size_t length = 0;
+/* The rows that samples are read into, painted. */
+static void lend_painted_rows(call *c) {
+    size_t width = c->function == INTEGERS ? 4 : 8;
+    c->row_size = number();
+    c->classes_size = c->function == BITS ? number() : 0;
+    if (c->row_size > ROOM / 8 || c->classes_size > ROOM) {
+        stop("a row is too large");
+    }
+    c->row = end_of(ROW, c->row_size * width);
+    memset(c->row, 0x5A, c->row_size * width);
+    c->classes = end_of(CLASSES, c->classes_size);
+    memset(c->classes, 0x5A, c->classes_size);
+}
+
+/* Reads the question of a vector and lends what it names. */
+static call question(uint64_t function, bytes buffer, size_t length) {
+    call c = {0};
+    bytes text;
+    c.function = function;
+    c.buffer = lend(BUFFER, buffer), c.size = buffer.size, c.length = length;
+    if (!is_writer(function)) {
+        locked(rooms[BUFFER], ROOM, PROT_READ);
+    }
+    c.part = (int32_t)(int64_t)number();
+    c.index = number();
+    text = some_bytes();
+    c.text = lend(TEXT, text), c.text_size = text.size;
+    locked(rooms[TEXT], ROOM, PROT_READ);
+    free(text.at);
+    switch (function) {
+    case START: c.code = (uint32_t)number(), c.slots = (uint32_t)number(); break;
+    case ADD_INTEGERS:
+    case ADD_BITS: c.code = (uint32_t)number(), lend_row(&c); break;
+    case INTEGERS:
+    case BITS: lend_painted_rows(&c); break;
+    default: break;
+    }
+    c.answer = end_of(ANSWER, functions[function].answer);
+    memset(c.answer, 0xEE, functions[function].answer);
+    return c;
+}
+
+/* Integers are 32 bits wide, so of a painted row only these are there. */
+static int same_row(const call *c) {
+    size_t i;
+    int same = 1;
+    if (number() != c->row_size) {
+        stop("another row");
+    }
+    for (i = 0; i < c->row_size; i++) {
+        uint64_t wanted = number();
+        same &= c->function == INTEGERS ? ((uint32_t *)c->row)[i] == (uint32_t)wanted : ((uint64_t *)c->row)[i] == wanted;
+    }
+    return same;
+}
+
+static int same_bytes(const uint8_t *at, size_t size) {
+    bytes wanted = some_bytes();
+    int same = wanted.size == size && memcmp(wanted.at, at, size) == 0;
+    free(wanted.at);
+    return same;
+}
+
+/* Reads the answer of a vector to its end, and says whether it is what came back. `refusal` gets the number, part and place that it has. */
+static int as_wanted(const call *c, uint64_t refusal[3]) {
+    const seg2_verdict *is = c->answer; /* every answer begins as a verdict does */
+    uint64_t fields[FIELDS], count, i;
+    int same;
+    for (i = 0; i < 3; i++) {
+        refusal[i] = number();
+    }
+    same = is->number == refusal[0] && (uint64_t)(int64_t)is->part == refusal[1] && is->place == refusal[2];
+    count = number();
+    if (count != fields_of(c->function, c->answer, fields)) {
+        stop("another number of fields");
+    }
+    for (i = 0; i < count; i++) {
+        same &= number() == fields[i];
+    }
+    if (c->function == INTEGERS || c->function == BITS) {
+        same &= same_row(c);
+    }
+    if (c->function == BITS) {
+        same &= same_bytes(c->classes, c->classes_size);
+    }
+    if (is_writer(c->function)) {
+        same &= same_bytes(c->buffer, c->size);
+    }
+    return same;
+}
+
+/* ---- all vectors */
+
+static void prepare(void) {
+    size_t page = (size_t)sysconf(_SC_PAGESIZE);
     int i;
     for (i = 0; i < ROOMS; i++) {
         rooms[i] = mapped(ROOM + page);
@@ -257,110 +391,32 @@ int main(void) {
     if (pthread_attr_init(&small) != 0 || pthread_attr_setstack(&small, stack, STACK + ABOVE) != 0) {
         stop("no small stack");
     }
+}
+
+int main(void) {
+    size_t depth[FUNCTIONS] = {0}, deepest = 0, length = 0;
+    uint64_t asked[FUNCTIONS] = {0}, vectors = 0, wrong = 0, function;
+    bytes buffer = {NULL, 0};
+    int i;
+    prepare();
     while ((function = number()) != UINT64_MAX) {
-        call c = {0};
-        uint64_t refusal[3], fields[8], wanted[8], n;
-        bytes text, after = {NULL, 0}, classes = {NULL, 0};
-        uint64_t *row = NULL;
-        int good = 1, writes;
+        call c;
+        uint64_t refusal[3];
         size_t used;
-        if (function == 0) {
+        if (function == NEW_BUFFER) {
             free(buffer.at);
             buffer = some_bytes();
             length = number();
-            lent = lend(BUFFER, buffer);
             continue;
         }
-        if (function >= FUNCTIONS || lent == NULL) {
+        if (function >= FUNCTIONS || buffer.at == NULL) {
             stop("no such function");
         }
-        writes = function >= 13;
-        c.function = function;
-        c.size = buffer.size, c.length = length;
-        c.part = (int32_t)(int64_t)number();
-        c.index = number();
-        text = some_bytes();
-        c.text = lend(TEXT, text), c.text_size = text.size;
-        /* memory for the questions is only read */
-        locked(rooms[BUFFER], ROOM, PROT_READ | PROT_WRITE);
-        memcpy(lent, buffer.at, buffer.size);
-        c.buffer = lent;
-        if (!writes) {
-            locked(rooms[BUFFER], ROOM, PROT_READ);
-        }
-        locked(rooms[TEXT], ROOM, PROT_READ);
-        if (function == 13) {
-            c.code = (uint32_t)number();
-            c.slots = (uint32_t)number();
-        } else if (function >= 14) {
-            size_t width = function == 14 ? 4 : 8, k;
-            c.code = (uint32_t)number();
-            c.row_size = number();
-            if (c.row_size > ROOM / 8) {
-                stop("a row is too large");
-            }
-            c.row = end_of(ROW, c.row_size * width);
-            for (k = 0; k < c.row_size; k++) {
-                uint64_t value = number();
-                if (function == 14) {
-                    ((int32_t *)c.row)[k] = (int32_t)(int64_t)value;
-                } else {
-                    ((uint64_t *)c.row)[k] = value;
-                }
-            }
-            locked(rooms[ROW], ROOM, PROT_READ);
-        } else if (function >= 11) {
-            size_t width = function == 11 ? 4 : 8;
-            c.row_size = number();
-            c.classes_size = function == 12 ? number() : 0;
-            if (c.row_size > ROOM / 8 || c.classes_size > ROOM) {
-                stop("a row is too large");
-            }
-            c.row = end_of(ROW, c.row_size * width);
-            memset(c.row, 0x5A, c.row_size * width);
-            c.classes = end_of(CLASSES, c.classes_size);
-            memset(c.classes, 0x5A, c.classes_size);
-        }
-        c.answer = end_of(ANSWER, size_of(function));
-        memset(c.answer, 0xEE, size_of(function));
-
+        c = question(function, buffer, length);
         used = called(&c);
-
-        for (n = 0; n < 3; n++) {
-            refusal[n] = number();
-        }
-        n = number();
-        if (n != fields_of(function, c.answer, fields) || n > 8) {
-            stop("another number of fields");
-        }
-        for (i = 0; (uint64_t)i < n; i++) {
-            wanted[i] = number();
-            good &= wanted[i] == fields[i];
-        }
-        good &= ((seg2_verdict *)c.answer)->number == refusal[0];
-        good &= (uint64_t)(int64_t)((seg2_verdict *)c.answer)->part == refusal[1];
-        good &= ((seg2_verdict *)c.answer)->place == refusal[2];
-        if (function == 11 || function == 12) {
-            uint64_t k, count = number();
-            if (count != c.row_size || (row = malloc(8 * count + 8)) == NULL) {
-                stop("another row");
-            }
-            for (k = 0; k < count; k++) {
-                row[k] = number();
-            }
-            good &= same_row(&c, row);
-            if (function == 12) {
-                classes = some_bytes();
-                good &= classes.size == c.classes_size && memcmp(classes.at, c.classes, classes.size) == 0;
-            }
-        }
-        if (writes) {
-            after = some_bytes();
-            good &= after.size == c.size && memcmp(after.at, c.buffer, after.size) == 0;
-        }
-        if (!good && ++wrong <= 10) {
-            seg2_verdict *is = c.answer;
-            printf("vector %llu: %s answers %u %d %zu, wanted %llu %lld %llu\n", (unsigned long long)vectors, names[function],
+        if (!as_wanted(&c, refusal) && ++wrong <= 10) {
+            const seg2_verdict *is = c.answer;
+            printf("vector %llu: %s answers %u %d %zu, wanted %llu %lld %llu\n", (unsigned long long)vectors, functions[function].name,
                    (unsigned)is->number, (int)is->part, is->place, (unsigned long long)refusal[0], (long long)refusal[1],
                    (unsigned long long)refusal[2]);
         }
@@ -368,13 +424,12 @@ int main(void) {
         asked[function]++;
         depth[function] = used > depth[function] ? used : depth[function];
         deepest = used > deepest ? used : deepest;
-        free(text.at), free(after.at), free(classes.at), free(row);
     }
     if (number() != vectors) {
         stop("vectors are missing");
     }
-    for (i = 1; i < FUNCTIONS; i++) {
-        printf("%-18s %6llu calls, %5zu bytes of stack\n", names[i], (unsigned long long)asked[i], depth[i]);
+    for (i = CHECK; i < FUNCTIONS; i++) {
+        printf("%-18s %6llu calls, %5zu bytes of stack\n", functions[i].name, (unsigned long long)asked[i], depth[i]);
         wrong += asked[i] == 0 || depth[i] == 0; /* every call uses some, or it was not measured */
     }
     printf("%llu vectors, %llu wrong, %zu of %d bytes of stack used\n", (unsigned long long)vectors, (unsigned long long)wrong, deepest, (int)STACK);

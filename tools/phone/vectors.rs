@@ -12,6 +12,26 @@ use reference::generate::{
 use reference::{Order, Refusal, Row, TraceGiven};
 use std::io::{BufWriter, Write};
 
+/// The exported functions by the numbers that replay.c knows them by. NEW_BUFFER is none, but tells the buffer of the
+/// vectors behind it; END is none either, and the number of vectors stands behind it.
+const NEW_BUFFER: u64 = 0;
+const CHECK: u64 = 1;
+const FILE_BLOCK: u64 = 2;
+const TRACE_BLOCK: u64 = 3;
+const STRING_COUNT: u64 = 4;
+const STRING: u64 = 5;
+const KEYWORD: u64 = 6;
+const VALUE: u64 = 7;
+const NUMBER: u64 = 8;
+const DOUBLE: u64 = 9;
+const LOCATION: u64 = 10;
+const INTEGERS: u64 = 11;
+const BITS: u64 = 12;
+const START: u64 = 13;
+const ADD_INTEGERS: u64 = 14;
+const ADD_BITS: u64 = 15;
+const END: u64 = u64::MAX;
+
 type Answer = Result<Vec<u64>, Refusal>;
 
 struct Out {
@@ -38,7 +58,7 @@ impl Out {
 
     /// The buffer of the questions that follow.
     fn buffer(&mut self, buffer: &[u8], length: usize) {
-        self.number(0);
+        self.number(NEW_BUFFER);
         self.bytes(buffer);
         self.number(length as u64);
     }
@@ -74,17 +94,17 @@ fn order_of(order: Order) -> u64 {
 }
 
 fn check(out: &mut Out, buffer: &[u8], length: usize) {
-    out.ask(1, 0, 0, b"");
+    out.ask(CHECK, 0, 0, b"");
     out.told(0, reference::check(buffer, length).map(|_| Vec::new()));
 }
 
 fn blocks(out: &mut Out, buffer: &[u8], length: usize, part: i32) {
-    out.ask(2, 0, 0, b"");
+    out.ask(FILE_BLOCK, 0, 0, b"");
     out.told(5, reference::file_block(buffer, length).map(|b| {
         let terminators = [b.string_terminator.len() as u64, b.line_terminator.len() as u64];
         vec![order_of(b.order), u64::from(b.m), u64::from(b.n), terminators[0], terminators[1]]
     }));
-    out.ask(3, part, 0, b"");
+    out.ask(TRACE_BLOCK, part, 0, b"");
     out.told(5, reference::trace_block(buffer, length, i64::from(part)).map(|t| {
         vec![u64::from(t.p), u64::from(t.b), u64::from(t.d), u64::from(t.s), u64::from(t.code)]
     }));
@@ -92,12 +112,12 @@ fn blocks(out: &mut Out, buffer: &[u8], length: usize, part: i32) {
 
 fn strings(out: &mut Out, buffer: &[u8], length: usize, part: i32) {
     let count = reference::string_count(buffer, length, i64::from(part));
-    out.ask(4, part, 0, b"");
+    out.ask(STRING_COUNT, part, 0, b"");
     out.told(1, count.map(|n| vec![n as u64]));
     let count = count.unwrap_or(0) as u64;
     for index in (0..count).chain([count, count + 1, u64::MAX]) {
         let string = reference::string(buffer, length, i64::from(part), index as usize);
-        out.ask(5, part, index, b"");
+        out.ask(STRING, part, index, b"");
         out.told(5, string.map(|found| match found {
             Some(s) => {
                 let size = |r: &std::ops::Range<usize>| (r.end - r.start) as u64;
@@ -113,17 +133,17 @@ fn keyword(out: &mut Out, buffer: &[u8], length: usize, part: i32, key: &[u8]) {
     let there = reference::keyword(buffer, length, i64::from(part), key);
     let range = reference::keyword_value(buffer, length, i64::from(part), key);
     let text = &buffer[range.clone()];
-    out.ask(6, part, 0, key);
+    out.ask(KEYWORD, part, 0, key);
     out.told(1, there.map(|yes| vec![u64::from(yes)]));
-    out.ask(7, part, 0, key);
+    out.ask(VALUE, part, 0, key);
     out.told(2, there.map(|_| vec![range.start as u64, range.len() as u64]));
-    out.ask(8, part, 0, key);
+    out.ask(NUMBER, part, 0, key);
     out.told(3, there.and_then(|_| reference::number(text)).map(|n| {
         vec![u64::from(n.minus), n.power as i64 as u64, n.coefficient]
     }));
-    out.ask(9, part, 0, key);
+    out.ask(DOUBLE, part, 0, key);
     out.told(1, there.and_then(|_| reference::double(text)).map(|d| vec![d.to_bits()]));
-    out.ask(10, part, 0, key);
+    out.ask(LOCATION, part, 0, key);
     out.told(4, there.and_then(|_| reference::location(text)).map(|l| {
         vec![u64::from(l.count), l.x.to_bits(), l.y.to_bits(), l.z.to_bits()]
     }));
@@ -154,7 +174,7 @@ fn all_questions(out: &mut Out, rng: &mut Rng, buffer: &[u8], length: usize) {
 const PAINT: u64 = 0x5A5A_5A5A_5A5A_5A5A;
 
 fn integers(out: &mut Out, part: i32, row: usize, expected: Result<Vec<i32>, Refusal>) {
-    out.ask(11, part, 0, b"");
+    out.ask(INTEGERS, part, 0, b"");
     out.number(row as u64);
     out.told(0, expected.clone().map(|_| Vec::new()));
     let left = expected.map_or(vec![PAINT; row], |row| row.iter().map(|&v| v as i64 as u64).collect());
@@ -162,7 +182,7 @@ fn integers(out: &mut Out, part: i32, row: usize, expected: Result<Vec<i32>, Ref
 }
 
 fn bits(out: &mut Out, part: i32, row: usize, classes: usize, expected: Result<(Vec<u64>, Vec<u8>), Refusal>) {
-    out.ask(12, part, 0, b"");
+    out.ask(BITS, part, 0, b"");
     out.number(row as u64);
     out.number(classes as u64);
     out.told(0, expected.clone().map(|_| Vec::new()));
@@ -176,49 +196,58 @@ fn is_value(text: &[u8]) -> bool {
     text.first() != Some(&b' ') && text.iter().all(|c| (32..=126).contains(c))
 }
 
-fn main() {
-    let mut out = Out { file: BufWriter::new(std::io::stdout()), vectors: 0 };
-    let mut rng = Rng::new(20_261_115);
-
+fn valid_files(out: &mut Out, rng: &mut Rng) {
     for _ in 0..60 {
-        let laid = Model::random(&mut rng).lay();
-        all_questions(&mut out, &mut rng, &laid.buffer, laid.length);
+        let laid = Model::random(rng).lay();
+        all_questions(out, rng, &laid.buffer, laid.length);
     }
+}
+
+fn damaged_files(out: &mut Out, rng: &mut Rng) {
     for way in WAYS {
         for _ in 0..4 {
-            let case = damaged(&mut rng, way);
+            let case = damaged(rng, way);
             out.buffer(&case.buffer, case.length);
-            check(&mut out, &case.buffer, case.length);
-            blocks(&mut out, &case.buffer, case.length, 0);
-            strings(&mut out, &case.buffer, case.length, -1);
-            keyword(&mut out, &case.buffer, case.length, 0, b"DELAY");
+            check(out, &case.buffer, case.length);
+            blocks(out, &case.buffer, case.length, 0);
+            strings(out, &case.buffer, case.length, -1);
+            keyword(out, &case.buffer, case.length, 0, b"DELAY");
         }
     }
+}
+
+fn broken_files(out: &mut Out, rng: &mut Rng) {
     for round in 0..6000 {
         let (buffer, length) = if round % 3 == 0 {
-            let case = several_damages(&mut rng);
+            let case = several_damages(rng);
             (case.buffer, case.length)
         } else {
-            mutated(&mut rng)
+            mutated(rng)
         };
         out.buffer(&buffer, length);
-        check(&mut out, &buffer, length);
+        check(out, &buffer, length);
         if round % 60 == 0 {
-            all_questions(&mut out, &mut rng, &buffer, length);
+            all_questions(out, rng, &buffer, length);
         }
     }
+}
+
+fn any_bytes(out: &mut Out, rng: &mut Rng) {
     for _ in 0..300 {
         let size = rng.between(0, 120);
         let buffer = rng.junk(size);
         for length in [0, 31, 32, size, size + 1, usize::MAX] {
             out.buffer(&buffer, length);
-            check(&mut out, &buffer, length);
+            check(out, &buffer, length);
         }
     }
-    // Numbers and locations as values; most files have no such values by chance.
+}
+
+/// Numbers and locations as values; most files have no such values by chance.
+fn numbers(out: &mut Out, rng: &mut Rng) {
     for _ in 0..1500 {
         let text = loop {
-            let text = if rng.one_in(2) { number_case(&mut rng).text } else { location_case(&mut rng).text };
+            let text = if rng.one_in(2) { number_case(rng).text } else { location_case(rng).text };
             if is_value(&text) {
                 break text;
             }
@@ -229,34 +258,43 @@ fn main() {
         let file = reference::file_of(order, 1, &sheet, &[trace]).expect("a list that defines a file");
         out.buffer(&file, file.len());
         for part in [-1, 0] {
-            keyword(&mut out, &file, file.len(), part, b"DELAY");
+            keyword(out, &file, file.len(), part, b"DELAY");
         }
     }
+}
+
+fn samples(out: &mut Out, rng: &mut Rng) {
     for _ in 0..2500 {
-        let case = sample_case(&mut rng);
+        let case = sample_case(rng);
         let Ok(part) = i32::try_from(case.trace) else { continue };
         out.buffer(&case.buffer, case.length);
         match case.question {
-            SampleQuestion::Integers { row, expected } => integers(&mut out, part, row, expected),
-            SampleQuestion::Bits { row, classes, expected } => bits(&mut out, part, row, classes, expected),
+            SampleQuestion::Integers { row, expected } => integers(out, part, row, expected),
+            SampleQuestion::Bits { row, classes, expected } => bits(out, part, row, classes, expected),
         }
     }
+}
+
+fn starts(out: &mut Out, rng: &mut Rng) {
     for _ in 0..600 {
-        let case = start_case(&mut rng);
+        let case = start_case(rng);
         let Ok(slots) = u32::try_from(case.slots) else { continue };
         out.buffer(&case.buffer, 0);
-        out.ask(13, 0, 0, &case.sheet);
+        out.ask(START, 0, 0, &case.sheet);
         out.number(u64::from(case.order));
         out.number(u64::from(slots));
         out.told(1, case.expected.map(|n| vec![n as u64]));
         out.bytes(&case.after);
     }
+}
+
+fn additions(out: &mut Out, rng: &mut Rng) {
     for _ in 0..2500 {
-        let case = addition_case(&mut rng);
+        let case = addition_case(rng);
         out.buffer(&case.buffer, case.length);
         let (function, row): (u64, Vec<u64>) = match &case.row {
-            Row::Integers(row) => (14, row.iter().map(|&v| v as i64 as u64).collect()),
-            Row::Bits(row) => (15, row.clone()),
+            Row::Integers(row) => (ADD_INTEGERS, row.iter().map(|&v| v as i64 as u64).collect()),
+            Row::Bits(row) => (ADD_BITS, row.clone()),
         };
         out.ask(function, 0, 0, &case.sheet);
         out.number(u64::from(case.code));
@@ -264,9 +302,15 @@ fn main() {
         out.told(1, case.expected.map(|n| vec![n as u64]));
         out.bytes(&case.after);
     }
+}
 
-    out.number(u64::MAX);
-    let vectors = out.vectors;
-    out.number(vectors);
+fn main() {
+    let mut out = Out { file: BufWriter::new(std::io::stdout()), vectors: 0 };
+    let mut rng = Rng::new(20_261_115);
+    for part in [valid_files, damaged_files, broken_files, any_bytes, numbers, samples, starts, additions] {
+        part(&mut out, &mut rng);
+    }
+    out.number(END);
+    out.number(out.vectors);
     out.file.flush().expect("standard output takes the vectors");
 }

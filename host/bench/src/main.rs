@@ -6,6 +6,9 @@ use seg2_bench::files::{file, file_with, trace_sheet};
 use seg2_bench::time::{least, Work};
 use seg2_bench::{plain, plain_file};
 use seg2_probe as proved;
+use seg2_reference::generate::Rng;
+use seg2_reference::samples::needed_bytes;
+use seg2_reference::Row;
 use std::hint::black_box;
 
 /// Enough for a long trace; a multiple of 4, as code 3 needs.
@@ -56,12 +59,6 @@ fn value(buffer: &[u8], part: i32, key: &[u8]) -> (u32, usize, usize) {
     // SAFETY: as above.
     unsafe { raw::seg2_value(&mut answer, at, size, size, part, key.as_ptr(), key.len()) }
     (answer.number, answer.start, answer.size)
-}
-
-/// Samples to add.
-enum Row {
-    Integers(Vec<i32>),
-    Bits(Vec<u64>),
 }
 
 fn add(buffer: &mut [u8], length: usize, sheet: &[u8], code: u32, row: &Row) -> (u32, usize) {
@@ -359,26 +356,17 @@ fn search_line(code: u8, times: [f64; 2]) {
     println!("| {code} | {early:.3} | {runs:.3} |");
 }
 
-/// A block of bytes without a pattern (splitmix64), and rows for its samples.
+/// A block of bytes without a pattern, and rows for its samples.
 fn filled(code: u8) -> Buffers {
-    let size = match code {
-        1 => 2 * SAMPLES,
-        3 => 10 * SAMPLES / 4,
-        5 => 8 * SAMPLES,
-        _ => 4 * SAMPLES,
-    };
-    let mut state = 7_u64;
-    let mut byte = || {
-        state = state.wrapping_add(0x9E37_79B9_7F4A_7C15);
-        let mixed = (state ^ (state >> 30)).wrapping_mul(0xBF58_476D_1CE4_E5B9);
-        (mixed >> 40) as u8
-    };
+    let needed = needed_bytes(code, SAMPLES as u64).expect("a code");
+    let size = (needed as usize).next_multiple_of(4);
+    let mut rng = Rng::new(7);
     Buffers {
-        block: (0..size.next_multiple_of(4)).map(|_| byte()).collect(),
+        block: (0..size).map(|_| rng.byte()).collect(),
         integers: vec![0; SAMPLES],
         patterns: vec![0; SAMPLES],
         classes: vec![0; SAMPLES],
-        beside: vec![0; size.next_multiple_of(4)],
+        beside: vec![0; size],
     }
 }
 

@@ -3,7 +3,7 @@
 
 use seg2_bench::{plain, plain_file};
 use seg2_reference as reference;
-use seg2_reference::generate::writing::{some_integer, some_pattern};
+use seg2_reference::generate::writing::{some_integers, some_patterns};
 use seg2_reference::generate::{
     addition_case, damaged, mutated, sample_case, several_damages, Model, Rng, SampleQuestion, WAYS,
 };
@@ -147,37 +147,34 @@ fn samples_written() {
         let wild = rng.one_in(4);
         for (order, high) in [(Order::Low, false), (Order::High, true)] {
             for code in 1..=3 {
-                let row: Vec<i32> = (0..count)
-                    .map(|_| some_integer(&mut rng, code, wild))
-                    .collect();
-                let expected = encode_integers(code, order, &row);
-                let outside = expected.as_ref().err().map(|r| r.place as usize);
-                assert_eq!(plain::first_outside(code, &row), outside);
+                let row = some_integers(&mut rng, code, count, wild);
                 let mut part = vec![7; 8 * count];
-                assert_eq!(
-                    plain::write_integers(code, &row, high, &mut part),
-                    expected.is_ok()
-                );
-                if let Ok(data) = expected {
-                    assert_eq!(part[..data.len()], data);
-                }
+                let outside = plain::first_outside(code, &row);
+                let taken = plain::write_integers(code, &row, high, &mut part);
+                written_alike(encode_integers(code, order, &row), outside, taken, &part);
             }
             for code in 4..=5 {
-                let row: Vec<u64> = (0..count)
-                    .map(|_| some_pattern(&mut rng, code, wild))
-                    .collect();
-                let expected = encode_bits(code, order, &row);
-                let wide = expected.as_ref().err().map(|r| r.place as usize);
-                assert_eq!(plain::first_wide(code, &row), wide);
+                let row = some_patterns(&mut rng, code, count, wild);
                 let mut part = vec![7; 8 * count];
-                assert_eq!(
-                    plain::write_bits(code, &row, high, &mut part),
-                    expected.is_ok()
-                );
-                if let Ok(data) = expected {
-                    assert_eq!(part[..data.len()], data);
-                }
+                let wide = plain::first_wide(code, &row);
+                let taken = plain::write_bits(code, &row, high, &mut part);
+                written_alike(encode_bits(code, order, &row), wide, taken, &part);
             }
         }
+    }
+}
+
+/// The sample that cannot be held, whether the row was taken, and the bytes written.
+fn written_alike(
+    expected: Result<Vec<u8>, Refusal>,
+    not_held: Option<usize>,
+    taken: bool,
+    part: &[u8],
+) {
+    let place = expected.as_ref().err().map(|refusal| refusal.place);
+    assert_eq!(not_held.map(|index| index as u64), place);
+    assert_eq!(taken, expected.is_ok());
+    if let Ok(data) = expected {
+        assert_eq!(part[..data.len()], data);
     }
 }

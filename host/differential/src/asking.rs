@@ -1,4 +1,4 @@
-//! Every question about a buffer.
+//! Every question about a buffer, asked of the archive and of the reference.
 
 use crate::call::Call;
 use crate::pair::{Difference, Pair};

@@ -1,14 +1,22 @@
-//! Cases: all that a run of calls depends on.
+//! Cases: all that a run of calls depends on, and how one is run.
 
 use crate::asking::{ask_all, ask_part};
 use crate::call::{Call, Library};
-use crate::growing::{add, grow};
+use crate::growing::{add, grow, start};
 use crate::pair::{Difference, Pair, Tally};
 use seg2_reference as reference;
 use seg2_reference::generate::Rng;
 use seg2_reference::Row;
 
-/// A trace as it is given to an addition.
+/// What a start is given.
+#[derive(Clone, Debug, PartialEq, Eq)]
+pub struct Start {
+    pub order: u32,
+    pub slots: u32,
+    pub sheet: Vec<u8>,
+}
+
+/// A trace as it is given to an addition. The code is as wide as the archive takes it.
 #[derive(Clone, Debug, PartialEq, Eq)]
 pub struct Given {
     pub sheet: Vec<u8>,
@@ -19,13 +27,11 @@ pub struct Given {
 /// Where a growing file begins.
 #[derive(Clone, Debug, PartialEq, Eq)]
 pub enum Base {
-    Start {
-        order: u32,
-        slots: u32,
-        sheet: Vec<u8>,
-    },
+    Start(Start),
     /// A file or an image without traces, of any maker.
-    Image { image: Vec<u8> },
+    Image {
+        image: Vec<u8>,
+    },
 }
 
 /// The seed chooses what stands around lent memory, what rows hold before a call, and
@@ -40,12 +46,9 @@ pub struct Case {
 pub enum Kind {
     /// Every question about a buffer.
     Asked { buffer: Vec<u8>, length: usize },
-    Started {
-        buffer: Vec<u8>,
-        order: u32,
-        slots: u32,
-        sheet: Vec<u8>,
-    },
+    /// A start in a buffer with something in it.
+    Started { buffer: Vec<u8>, given: Start },
+    /// One addition, and every question about what it has made.
     Added {
         buffer: Vec<u8>,
         length: usize,
@@ -70,17 +73,9 @@ impl Case {
                 pair = Pair::new(library, seed, buffer);
                 ask_all(&mut pair, *length, &mut rng)?;
             }
-            Kind::Started {
-                buffer,
-                order,
-                slots,
-                sheet,
-            } => {
+            Kind::Started { buffer, given } => {
                 pair = Pair::new(library, seed, buffer);
-                pair.lend_sheet(sheet);
-                let (order, slots) = (*order, *slots);
-                // A start is given no length.
-                let answer = pair.ask(0, Call::Start { order, slots })?;
+                let answer = start(&mut pair, given)?;
                 if answer.number == 0 {
                     pair.ask(answer.values[0] as usize, Call::Check)?;
                 }
@@ -98,7 +93,7 @@ impl Case {
             }
             Kind::Grown { base, room, steps } => {
                 let mut buffer = match base {
-                    Base::Start { .. } => Vec::new(),
+                    Base::Start(_) => Vec::new(),
                     Base::Image { image } => image.clone(),
                 };
                 buffer.extend(rng.junk(room.saturating_sub(buffer.len())));

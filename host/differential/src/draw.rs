@@ -1,16 +1,16 @@
 //! Random cases. The same numbers give the same case on every machine.
 
-use crate::case::{Base, Case, Given, Kind};
+use crate::case::{Base, Case, Given, Kind, Start};
+use crate::expected::narrow;
 use seg2_reference as reference;
-use seg2_reference::generate::model::{
-    random_code_4, random_code_5, random_i32, AreaModel, End, Float20, SamplesModel, StringModel,
-};
-use seg2_reference::generate::writing::{some_integer, some_pattern};
+use seg2_reference::generate::lay::two;
+use seg2_reference::generate::model::{AreaModel, End, SamplesModel, StringModel};
+use seg2_reference::generate::writing::row_for;
 use seg2_reference::generate::{
     damaged, good_sheet, location_case, mutated, number_case, several_damages, sheet_case, Model,
     Rng, Way, WAYS,
 };
-use seg2_reference::Row;
+use seg2_reference::Order;
 
 /// What draws a case.
 pub type Draw = fn(&mut Rng) -> Case;
@@ -95,24 +95,10 @@ pub fn long_rows(rng: &mut Rng) -> Case {
     model.traces.truncate(3);
     for trace in &mut model.traces {
         let count = rng.between(0, 150);
-        trace.samples = match rng.between(1, 5) {
-            1 => SamplesModel::Code1((0..count).map(|_| random_i32(rng) as i16).collect()),
-            2 => SamplesModel::Code2((0..count).map(|_| random_i32(rng)).collect()),
-            3 => SamplesModel::Code3((0..count / 4 * 4).map(|_| float20(rng)).collect()),
-            4 => SamplesModel::Code4((0..count).map(|_| random_code_4(rng)).collect()),
-            _ => SamplesModel::Code5((0..count).map(|_| random_code_5(rng)).collect()),
-        };
+        let code = rng.between(1, 5);
+        trace.samples = SamplesModel::random(rng, code, count);
     }
     asked_of(rng, model)
-}
-
-fn float20(rng: &mut Rng) -> Float20 {
-    let any = rng.between(0, 32_767) as u16;
-    Float20 {
-        exponent: rng.between(0, 15) as u16,
-        minus: rng.one_in(2),
-        magnitude: rng.pick(&[0, 1, 32_767, any]),
-    }
 }
 
 /// A file damaged in one named way.
@@ -142,18 +128,13 @@ pub fn mutated_bytes(rng: &mut Rng) -> Case {
 pub fn random_bytes(rng: &mut Rng) -> Case {
     let size = rng.between(0, 300);
     let mut buffer = rng.junk(size);
-    let high = rng.one_in(2);
+    let order = rng.pick(&[Order::Low, Order::High]);
     if size >= 32 && !rng.one_in(5) {
-        let two = |value: u16| match high {
-            true => value.to_be_bytes(),
-            false => value.to_le_bytes(),
-        };
         let m = 4 * rng.between(1, 4) as u16;
         let n = rng.between(1, 2) as u16;
-        buffer[0..2].copy_from_slice(&two(0x3A55));
-        buffer[2..4].copy_from_slice(&two(1));
-        buffer[4..6].copy_from_slice(&two(m));
-        buffer[6..8].copy_from_slice(&two(n));
+        for (at, value) in [(0, 0x3A55), (2, 1), (4, m), (6, n)] {
+            buffer[at..at + 2].copy_from_slice(&two(value, order));
+        }
         buffer[8..14].copy_from_slice(&[1, 0, 0, 1, 10, 0]);
     }
     let near = rng.between(0, 400);
@@ -232,9 +213,11 @@ pub fn started(rng: &mut Rng) -> Case {
     let room = room_for(rng, length.unwrap_or(200));
     let kind = Kind::Started {
         buffer: rng.junk(room),
-        order,
-        slots,
-        sheet,
+        given: Start {
+            order,
+            slots,
+            sheet,
+        },
     };
     case(rng, kind)
 }
@@ -252,18 +235,7 @@ fn given(rng: &mut Rng) -> Given {
         false => count,
     };
     let wild = rng.one_in(6);
-    let row = match good {
-        1..=3 => Row::Integers(
-            (0..count)
-                .map(|_| some_integer(rng, good as u8, wild))
-                .collect(),
-        ),
-        _ => Row::Bits(
-            (0..count)
-                .map(|_| some_pattern(rng, good as u8, wild))
-                .collect(),
-        ),
-    };
+    let row = row_for(rng, good as u8, count, wild);
     Given {
         sheet: sheet(rng),
         code: if rng.one_in(10) { wrong } else { good },
@@ -275,13 +247,8 @@ fn given(rng: &mut Rng) -> Given {
 fn length_with(buffer: &[u8], length: usize, given: &Given) -> Option<usize> {
     let mut trial = buffer.to_vec();
     trial.resize(buffer.len() + 2 * given.sheet.len() + 1000, 0);
-    let code = given.code.try_into().unwrap_or(255);
-    match &given.row {
-        Row::Integers(row) => {
-            reference::add_integers(&mut trial, length, &given.sheet, code, row).ok()
-        }
-        Row::Bits(row) => reference::add_bits(&mut trial, length, &given.sheet, code, row).ok(),
-    }
+    let code = narrow(given.code);
+    reference::add(&mut trial, length, &given.sheet, code, &given.row).ok()
 }
 
 /// An addition to a file or an image of any maker.
@@ -348,13 +315,13 @@ fn some_room(rng: &mut Rng) -> usize {
 
 /// A start and a list of additions, refused ones in between.
 pub fn grown(rng: &mut Rng) -> Case {
-    let base = Base::Start {
+    let start = Start {
         order: rng.between(0, 1) as u32,
         slots: rng.between(1, 7) as u32,
         sheet: good_sheet(rng).sheet,
     };
     let kind = Kind::Grown {
-        base,
+        base: Base::Start(start),
         room: some_room(rng),
         steps: steps(rng),
     };

@@ -1,4 +1,4 @@
-//! The same calls answered by the reference.
+//! The calls as the reference answers them, in the form of the archive's answers.
 
 use crate::answer::{signed, Answer};
 use crate::call::Call;
@@ -149,6 +149,6 @@ fn of_value(
 }
 
 /// The reference takes codes of 8 bits: a wider one is as little a code as 255 is.
-fn narrow(code: u32) -> u8 {
+pub(crate) fn narrow(code: u32) -> u8 {
     u8::try_from(code).unwrap_or(255)
 }

@@ -6,7 +6,7 @@
 use crate::answer::Answer;
 use crate::asking::lend_rows;
 use crate::call::Call;
-use crate::case::{Base, Given};
+use crate::case::{Base, Given, Start};
 use crate::pair::{Difference, Pair};
 use seg2_reference as reference;
 use seg2_reference::generate::Rng;
@@ -30,22 +30,14 @@ pub fn grow(
     rng: &mut Rng,
 ) -> Result<(), Difference> {
     let (mut length, mut told) = match base {
-        Base::Start {
-            order,
-            slots,
-            sheet,
-        } => {
-            pair.lend_sheet(sheet);
-            let (order, slots) = (*order, *slots);
-            let call = Call::Start { order, slots };
-            let answer = pair.ask(0, call)?;
+        Base::Start(given) => {
+            let answer = start(pair, given)?;
             if answer.number != 0 {
                 return Ok(());
             }
-            let length = answer.values[0] as usize;
-            let strings = strings_of(sheet, b"\n");
+            let strings = strings_of(&given.sheet, b"\n");
             let samples = None;
-            (length, vec![Told { strings, samples }])
+            (answer.values[0] as usize, vec![Told { strings, samples }])
         }
         Base::Image { image } => (image.len(), read_image(pair, image.len(), rng)?),
     };
@@ -68,21 +60,19 @@ pub fn grow(
                 samples: Some(kept(step)),
             });
         }
-        if let Base::Start {
-            order,
-            slots,
-            sheet,
-        } = base
-        {
-            let defined = reference::file_of(*order, u64::from(*slots), sheet, &list);
-            if defined.as_deref() != Ok(&pair.memory().buffer[..length]) {
-                let what = format!("not the file of the {} traces so far", list.len());
-                return Err(pair.differs(length, call, what));
-            }
+        if let Base::Start(given) = base {
+            is_defined(pair, length, given, &list, call)?;
         }
         read_back(pair, length, &told, rng)?;
     }
     Ok(())
+}
+
+/// One start on both sides. It is given no length.
+pub fn start(pair: &mut Pair, given: &Start) -> Result<Answer, Difference> {
+    pair.lend_sheet(&given.sheet);
+    let (order, slots) = (given.order, given.slots);
+    pair.ask(0, Call::Start { order, slots })
 }
 
 /// One addition on both sides.
@@ -100,6 +90,24 @@ pub fn add(pair: &mut Pair, length: usize, given: &Given) -> Result<(Answer, Cal
         }
     };
     Ok((pair.ask(length, call)?, call))
+}
+
+/// The image is the file that the start and the list of additions so far define.
+fn is_defined(
+    pair: &Pair,
+    length: usize,
+    start: &Start,
+    list: &[TraceGiven],
+    call: Call,
+) -> Result<(), Difference> {
+    let defined = reference::file_of(start.order, start.slots.into(), &start.sheet, list);
+    match defined.as_deref() == Ok(&pair.memory().buffer[..length]) {
+        true => Ok(()),
+        false => {
+            let what = format!("not the file of the {} traces so far", list.len());
+            Err(pair.differs(length, call, what))
+        }
+    }
 }
 
 /// An addition changes N's two bytes, the first free slot and what lies from the old

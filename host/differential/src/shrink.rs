@@ -1,7 +1,7 @@
 //! A smaller case that still shows a difference.
 
 use crate::call::Library;
-use crate::case::{Base, Case, Given, Kind};
+use crate::case::{Base, Case, Given, Kind, Start};
 use seg2_reference::Row;
 use std::time::{Duration, Instant};
 
@@ -30,75 +30,75 @@ fn candidates(case: &Case) -> Vec<Case> {
         Kind::Asked { buffer, length } => file_candidates(buffer, *length, |buffer, length| {
             Kind::Asked { buffer, length }
         }),
-        Kind::Started {
-            buffer,
-            order,
-            slots,
-            sheet,
-        } => {
-            let (order, slots) = (*order, *slots);
-            let start = |buffer: &[u8], sheet: &[u8]| Kind::Started {
-                buffer: buffer.to_vec(),
-                order,
-                slots,
-                sheet: sheet.to_vec(),
-            };
-            let sheets = simpler(sheet).into_iter();
-            let buffers = simpler(buffer).into_iter();
-            sheets
-                .map(|sheet| start(buffer, &sheet))
-                .chain(buffers.map(|buffer| start(&buffer, sheet)))
-                .collect()
-        }
+        Kind::Started { buffer, given } => started_candidates(buffer, given),
         Kind::Added {
             buffer,
             length,
             given,
-        } => {
-            let given_first = given_candidates(given)
-                .into_iter()
-                .map(|given| Kind::Added {
-                    buffer: buffer.clone(),
-                    length: *length,
-                    given,
-                });
-            let files = file_candidates(buffer, *length, |buffer, length| Kind::Added {
-                buffer,
-                length,
-                given: given.clone(),
-            });
-            given_first.chain(files).collect()
-        }
-        Kind::Grown { base, room, steps } => {
-            let with = |base: &Base, room: usize, steps: Vec<Given>| Kind::Grown {
-                base: base.clone(),
-                room,
-                steps,
-            };
-            let mut kinds: Vec<Kind> = parts_away(steps)
-                .into_iter()
-                .map(|steps| with(base, *room, steps))
-                .collect();
-            for (i, step) in steps.iter().enumerate() {
-                for smaller in given_candidates(step) {
-                    let mut steps = steps.clone();
-                    steps[i] = smaller;
-                    kinds.push(with(base, *room, steps));
-                }
-            }
-            for base in base_candidates(base) {
-                kinds.push(with(&base, *room, steps.clone()));
-            }
-            for less in [room / 2, room.saturating_sub(1)] {
-                if less < *room {
-                    kinds.push(with(base, less, steps.clone()));
-                }
-            }
-            kinds
-        }
+        } => added_candidates(buffer, *length, given),
+        Kind::Grown { base, room, steps } => grown_candidates(base, *room, steps),
     };
     let seed = case.seed;
     kinds.into_iter().map(|kind| Case { seed, kind }).collect()
+}
+
+fn started_candidates(buffer: &[u8], given: &Start) -> Vec<Kind> {
+    let starts = start_candidates(given)
+        .into_iter()
+        .map(|given| Kind::Started {
+            buffer: buffer.to_vec(),
+            given,
+        });
+    let buffers = simpler(buffer).into_iter().map(|buffer| Kind::Started {
+        buffer,
+        given: given.clone(),
+    });
+    starts.chain(buffers).collect()
+}
+
+fn added_candidates(buffer: &[u8], length: usize, given: &Given) -> Vec<Kind> {
+    let traces = given_candidates(given)
+        .into_iter()
+        .map(|given| Kind::Added {
+            buffer: buffer.to_vec(),
+            length,
+            given,
+        });
+    let files = file_candidates(buffer, length, |buffer, length| Kind::Added {
+        buffer,
+        length,
+        given: given.clone(),
+    });
+    traces.chain(files).collect()
+}
+
+/// Steps away, then each step simpler, then the base, then the room.
+fn grown_candidates(base: &Base, room: usize, steps: &[Given]) -> Vec<Kind> {
+    let with = |base: &Base, room: usize, steps: Vec<Given>| Kind::Grown {
+        base: base.clone(),
+        room,
+        steps,
+    };
+    let mut kinds: Vec<Kind> = parts_away(steps)
+        .into_iter()
+        .map(|steps| with(base, room, steps))
+        .collect();
+    for (i, step) in steps.iter().enumerate() {
+        for smaller in given_candidates(step) {
+            let mut steps = steps.to_vec();
+            steps[i] = smaller;
+            kinds.push(with(base, room, steps));
+        }
+    }
+    for base in base_candidates(base) {
+        kinds.push(with(&base, room, steps.to_vec()));
+    }
+    for less in [room / 2, room.saturating_sub(1)] {
+        if less < room {
+            kinds.push(with(base, less, steps.to_vec()));
+        }
+    }
+    kinds
 }
 
 /// One trace less, and then bytes away or zero; the length goes with the bytes.
@@ -135,23 +135,23 @@ fn one_trace_less(buffer: &[u8]) -> Option<Vec<u8>> {
 
 fn base_candidates(base: &Base) -> Vec<Base> {
     match base {
-        Base::Start {
-            order,
-            slots,
-            sheet,
-        } => simpler(sheet)
+        Base::Start(given) => start_candidates(given)
             .into_iter()
-            .map(|sheet| Base::Start {
-                order: *order,
-                slots: *slots,
-                sheet,
-            })
+            .map(Base::Start)
             .collect(),
         Base::Image { image } => simpler(image)
             .into_iter()
             .map(|image| Base::Image { image })
             .collect(),
     }
+}
+
+fn start_candidates(given: &Start) -> Vec<Start> {
+    let with = |sheet| Start {
+        sheet,
+        ..given.clone()
+    };
+    simpler(&given.sheet).into_iter().map(with).collect()
 }
 
 fn given_candidates(given: &Given) -> Vec<Given> {

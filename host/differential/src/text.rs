@@ -2,7 +2,7 @@
 //!
 //! Each line is a name, a space and a value; bytes are hexadecimal, rows are decimal.
 
-use crate::case::{Base, Case, Given, Kind};
+use crate::case::{Base, Case, Given, Kind, Start};
 use seg2_reference::Row;
 use std::fmt::{Display, Write};
 use std::iter::Peekable;
@@ -17,15 +17,10 @@ pub fn written(case: &Case) -> String {
             line(&mut text, "length", length);
             line(&mut text, "buffer", hex(buffer));
         }
-        Kind::Started {
-            buffer,
-            order,
-            slots,
-            sheet,
-        } => {
+        Kind::Started { buffer, given } => {
             line(&mut text, "kind", "started");
             line(&mut text, "buffer", hex(buffer));
-            write_start(&mut text, *order, *slots, sheet);
+            write_start(&mut text, given);
         }
         Kind::Added {
             buffer,
@@ -41,11 +36,7 @@ pub fn written(case: &Case) -> String {
             line(&mut text, "kind", "grown");
             line(&mut text, "room", room);
             match base {
-                Base::Start {
-                    order,
-                    slots,
-                    sheet,
-                } => write_start(&mut text, *order, *slots, sheet),
+                Base::Start(given) => write_start(&mut text, given),
                 Base::Image { image } => line(&mut text, "image", hex(image)),
             }
             for step in steps {
@@ -67,10 +58,10 @@ fn hex(bytes: &[u8]) -> String {
     })
 }
 
-fn write_start(text: &mut String, order: u32, slots: u32, sheet: &[u8]) {
-    line(text, "order", order);
-    line(text, "slots", slots);
-    line(text, "sheet", hex(sheet));
+fn write_start(text: &mut String, given: &Start) {
+    line(text, "order", given.order);
+    line(text, "slots", given.slots);
+    line(text, "sheet", hex(&given.sheet));
 }
 
 fn write_given(text: &mut String, given: &Given) {
@@ -100,9 +91,7 @@ pub fn read(text: &str) -> Result<Case, String> {
         },
         "started" => Kind::Started {
             buffer: fields.bytes("buffer")?,
-            order: fields.number("order")?,
-            slots: fields.number("slots")?,
-            sheet: fields.bytes("sheet")?,
+            given: fields.start()?,
         },
         "added" => Kind::Added {
             length: fields.number("length")?,
@@ -160,6 +149,14 @@ impl<'a> Fields<'a> {
         self.value(name)?.split_whitespace().map(number).collect()
     }
 
+    fn start(&mut self) -> Result<Start, String> {
+        Ok(Start {
+            order: self.number("order")?,
+            slots: self.number("slots")?,
+            sheet: self.bytes("sheet")?,
+        })
+    }
+
     fn given(&mut self) -> Result<Given, String> {
         Ok(Given {
             code: self.number("code")?,
@@ -176,11 +173,7 @@ impl<'a> Fields<'a> {
             let image = self.bytes("image")?;
             return Ok(Base::Image { image });
         }
-        Ok(Base::Start {
-            order: self.number("order")?,
-            slots: self.number("slots")?,
-            sheet: self.bytes("sheet")?,
-        })
+        Ok(Base::Start(self.start()?))
     }
 
     fn steps(&mut self) -> Result<Vec<Given>, String> {

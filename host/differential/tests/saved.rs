@@ -1,7 +1,7 @@
 //! Cases as text and back, and shrinking.
 
 use seg2_differential::case::{Base, Kind};
-use seg2_differential::draw::{rng_of, KINDS};
+use seg2_differential::draw::{grown, grown_from_image, rng_of, valid, KINDS};
 use seg2_differential::shrink::shrunk;
 use seg2_differential::spoiled::{Fault, Spoiled};
 use seg2_differential::text::{read, written};
@@ -37,8 +37,7 @@ fn shrinking() {
     let most = Duration::from_secs(20);
     let (function, fault) = ("check", Fault::Place);
     let spoiled = Spoiled { function, fault };
-    let (_, draw) = KINDS[0];
-    let case = shrunk(&draw(&mut rng_of(720, 1)), &spoiled, most);
+    let case = shrunk(&valid(&mut rng_of(720, 1)), &spoiled, most);
     assert!(case.compare(&spoiled).is_err());
     let Kind::Asked { buffer, .. } = &case.kind else {
         panic!("another kind");
@@ -48,10 +47,8 @@ fn shrinking() {
 
     let function = "add_bits";
     let spoiled = Spoiled { function, fault };
-    let (name, draw) = KINDS[11];
-    assert_eq!(name, "growing from a start");
     let case = (0..100)
-        .map(|number| draw(&mut rng_of(721, number)))
+        .map(|number| grown(&mut rng_of(721, number)))
         .find(|case| case.compare(&spoiled).is_err())
         .expect("a case with bits");
     let case = shrunk(&case, &spoiled, most);
@@ -65,9 +62,7 @@ fn shrinking() {
     // Another maker's file goes byte by byte, down to none.
     let (function, fault) = ("check", Fault::Number);
     let spoiled = Spoiled { function, fault };
-    let (name, draw) = KINDS[12];
-    assert_eq!(name, "growing from another maker's file");
-    let case = shrunk(&draw(&mut rng_of(722, 1)), &spoiled, most);
+    let case = shrunk(&grown_from_image(&mut rng_of(722, 1)), &spoiled, most);
     let Kind::Grown { base, steps, .. } = &case.kind else {
         panic!("another kind");
     };

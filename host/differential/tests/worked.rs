@@ -1,24 +1,30 @@
-//! Document 01's worked values, through the archive alone.
+//! Document 01's worked values, through the archive's exported functions.
 
+use seg2_differential::answer::signed;
 use seg2_differential::case::Given;
 use seg2_differential::growing::add;
 use seg2_differential::{Answer, Archive, Call, Pair};
+use seg2_reference::worked::{
+    example, CODE_3_KEPT, CODE_3_TOO_LARGE, EXAMPLE_SAMPLES, EXAMPLE_SHEET, EXAMPLE_TRACE_SHEET,
+    NO_DOUBLE, NO_LOCATION, NUMBERS,
+};
 use seg2_reference::Row;
 
 /// The listing program's example, as the two writers make it.
 #[test]
 fn the_file_of_108_bytes() {
     let mut pair = Pair::new(&Archive, 1, &[7; 120]);
-    pair.lend_sheet(b"UNITS\tMETERS\n");
+    pair.lend_sheet(EXAMPLE_SHEET);
     let start = Call::Start { order: 0, slots: 1 };
     assert_eq!(pair.ask(0, start), Ok(Answer::good([56])));
     let given = Given {
-        sheet: b"STACK\t1\n".to_vec(),
+        sheet: EXAMPLE_TRACE_SHEET.to_vec(),
         code: 1,
-        row: Row::Integers(vec![1, -1, 256]),
+        row: Row::Integers(EXAMPLE_SAMPLES.to_vec()),
     };
     let (answer, _) = add(&mut pair, 56, &given).expect("alike");
     assert_eq!(answer, Answer::good([108]));
+    assert_eq!(pair.memory().buffer[..108], example());
     let file_block = pair.ask(108, Call::FileBlock);
     assert_eq!(file_block, Ok(Answer::good([0, 4, 1, 1, 1])));
     let trace_block = pair.ask(108, Call::TraceBlock { trace: 0 });
@@ -26,7 +32,7 @@ fn the_file_of_108_bytes() {
     pair.lend_integers(&[7; 3]);
     let integers = pair.ask(108, Call::Integers { trace: 0 });
     assert_eq!(integers, Ok(Answer::good([])));
-    assert_eq!(pair.memory().integers, [1, -1, 256]);
+    assert_eq!(pair.memory().integers, EXAMPLE_SAMPLES);
     let value = |pair: &mut Pair, part, key: &[u8]| {
         pair.lend_key(key);
         let [start, size, ..] = pair.ask(108, Call::Value { part }).expect("alike").values;
@@ -67,16 +73,16 @@ fn numbers() {
         .map(|call| pair.ask(length, call).expect("alike"));
         (number, double, location)
     };
-    let power = |power: i64| power as u64;
-    assert_eq!(asked("0.020").0, Answer::good([0, power(-3), 20]));
-    assert_eq!(asked("-34.6").0, Answer::good([1, power(-1), 346]));
+    for &(text, number) in NUMBERS {
+        let expected = match number {
+            Ok(n) => Answer::good([u64::from(n.minus), signed(n.power), n.coefficient]),
+            Err(row) => Answer::refused(row.into(), -1, 0),
+        };
+        assert_eq!(asked(text).0, expected, "{text}");
+    }
     assert_eq!(asked("-34.6").1, Answer::good([(-34.6_f64).to_bits()]));
-    assert_eq!(asked("-2.3E6").0, Answer::good([1, 5, 23]));
-    assert_eq!(asked("0,020").0, Answer::refused(20, -1, 0));
-    assert_eq!(asked("12.").0, Answer::refused(20, -1, 0));
-    assert_eq!(asked("1.345E24").0, Answer::good([0, 21, 1345]));
-    assert_eq!(asked("1.345E24").1, Answer::refused(22, -1, 0));
-    assert_eq!(asked("1 2").2, Answer::refused(23, -1, 0));
+    assert_eq!(asked(NO_DOUBLE).1, Answer::refused(22, -1, 0));
+    assert_eq!(asked(NO_LOCATION).2, Answer::refused(23, -1, 0));
     assert_eq!(asked("1 2 x").2, Answer::refused(20, -1, 4));
     let [x, y, z] = [1.0_f64, -2.5, 3.0].map(f64::to_bits);
     assert_eq!(asked("1 -2.5  3").2, Answer::good([3, x, y, z]));
@@ -106,9 +112,10 @@ fn code_3() {
         assert_eq!(asked, Ok(Answer::good([])));
         Ok(pair.memory().integers.clone())
     };
-    let given = [100_000, -32_769, 1_073_741_823, 0];
-    let kept = vec![100_000, -32_768, 1_073_709_056, 0];
-    assert_eq!(read(given), Ok(kept));
-    let over = read([0, 0, 1_073_741_824, 0]);
-    assert_eq!(over, Err(Answer::refused(29, -1, 2)));
+    let [a, b, c] = CODE_3_KEPT;
+    assert_eq!(read([a.0, b.0, c.0, 0]), Ok(vec![a.1, b.1, c.1, 0]));
+    for sample in CODE_3_TOO_LARGE {
+        let over = read([0, 0, sample, 0]);
+        assert_eq!(over, Err(Answer::refused(29, -1, 2)));
+    }
 }

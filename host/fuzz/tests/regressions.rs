@@ -6,7 +6,7 @@ use std::path::Path;
 
 /// Runs every case of the folder and answers how many there are; a folder that is not
 /// there has none.
-fn all_alike(folder: &Path) -> usize {
+fn compared_in(folder: &Path) -> usize {
     let Ok(entries) = std::fs::read_dir(folder) else {
         return 0;
     };
@@ -29,10 +29,10 @@ fn all_alike(folder: &Path) -> usize {
 #[test]
 fn saved_cases() {
     let folder = Path::new(env!("CARGO_MANIFEST_DIR")).join("regressions");
-    println!("{} saved cases", all_alike(&folder));
+    println!("{} saved cases", compared_in(&folder));
 }
 
 #[test]
 fn no_folder_is_no_case() {
-    assert_eq!(all_alike(Path::new("no/such/folder")), 0);
+    assert_eq!(compared_in(Path::new("no/such/folder")), 0);
 }

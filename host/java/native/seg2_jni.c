@@ -87,18 +87,20 @@ static bool places(JNIEnv *env, jlongArray answer, jsize count) {
     return true;
 }
 
-static void tell(JNIEnv *env, jlongArray answer, const jlong *values, jsize count) {
-    (*env)->SetLongArrayRegion(env, answer, 0, count, values);
-}
+/* Number, part and place, with which every answer begins, and then the answer's own fields, into the caller's `answer`. */
+#define TELL(a, ...)                                                                                                                                 \
+    do {                                                                                                                                             \
+        const jlong values[] = {(a).number, (a).part, (jlong)(a).place, __VA_ARGS__};                                                                \
+        (*env)->SetLongArrayRegion(env, answer, 0, (jsize)(sizeof values / sizeof values[0]), values);                                               \
+    } while (0)
 
 static void tell_verdict(JNIEnv *env, jlongArray answer, seg2_verdict v) {
     const jlong values[] = {v.number, v.part, (jlong)v.place};
-    tell(env, answer, values, 3);
+    (*env)->SetLongArrayRegion(env, answer, 0, 3, values);
 }
 
 static void tell_length(JNIEnv *env, jlongArray answer, seg2_length a) {
-    const jlong values[] = {a.number, a.part, (jlong)a.place, (jlong)a.length};
-    tell(env, answer, values, 4);
+    TELL(a, (jlong)a.length);
 }
 
 static jlong bits_of(double value) {
@@ -124,9 +126,7 @@ NATIVE(void, nativeFileBlock)(JNIEnv *env, UNUSED jclass self, jobject buffer, j
     lent b;
     if (places(env, answer, 8) && direct(env, buffer, size, 1, &b)) {
         seg2_file a = seg2_file_block_of(b.at, b.size, (size_t)length);
-        const jlong values[] = {a.number, a.part, (jlong)a.place, a.order, (jlong)a.pointer_room, (jlong)a.trace_count,
-                                (jlong)a.string_terminator_size, (jlong)a.line_terminator_size};
-        tell(env, answer, values, 8);
+        TELL(a, a.order, (jlong)a.pointer_room, (jlong)a.trace_count, (jlong)a.string_terminator_size, (jlong)a.line_terminator_size);
     }
 }
 
@@ -134,9 +134,7 @@ NATIVE(void, nativeTraceBlock)(JNIEnv *env, UNUSED jclass self, jobject buffer, 
     lent b;
     if (places(env, answer, 8) && direct(env, buffer, size, 1, &b)) {
         seg2_trace a = seg2_trace_block_of(b.at, b.size, (size_t)length, trace);
-        const jlong values[] = {a.number, a.part, (jlong)a.place, (jlong)a.start, (jlong)a.block_size, (jlong)a.data_size,
-                                (jlong)a.sample_count, a.format_code};
-        tell(env, answer, values, 8);
+        TELL(a, (jlong)a.start, (jlong)a.block_size, (jlong)a.data_size, (jlong)a.sample_count, a.format_code);
     }
 }
 
@@ -144,8 +142,7 @@ NATIVE(void, nativeStringCount)(JNIEnv *env, UNUSED jclass self, jobject buffer,
     lent b;
     if (places(env, answer, 4) && direct(env, buffer, size, 1, &b)) {
         seg2_count a = seg2_string_count_of(b.at, b.size, (size_t)length, part);
-        const jlong values[] = {a.number, a.part, (jlong)a.place, (jlong)a.count};
-        tell(env, answer, values, 4);
+        TELL(a, (jlong)a.count);
     }
 }
 
@@ -153,61 +150,26 @@ NATIVE(void, nativeString)(JNIEnv *env, UNUSED jclass self, jobject buffer, jint
     lent b;
     if (places(env, answer, 8) && direct(env, buffer, size, 1, &b)) {
         struct seg2_string a = seg2_string_of(b.at, b.size, (size_t)length, part, (size_t)index);
-        const jlong values[] = {a.number, a.part, (jlong)a.place, a.found, (jlong)a.key_start, (jlong)a.key_length,
-                                (jlong)a.value_start, (jlong)a.value_length};
-        tell(env, answer, values, 8);
+        TELL(a, a.found, (jlong)a.key_start, (jlong)a.key_length, (jlong)a.value_start, (jlong)a.value_length);
     }
 }
 
-NATIVE(void, nativeKeyword)(JNIEnv *env, UNUSED jclass self, jobject buffer, jint size, jlong length, jint part, jbyteArray key, jlongArray answer) {
-    lent b, k;
-    if (places(env, answer, 4) && direct(env, buffer, size, 1, &b) && bytes(env, key, &k)) {
-        struct seg2_keyword a = seg2_keyword_of(b.at, b.size, (size_t)length, part, k.at, k.size);
-        const jlong values[] = {a.number, a.part, (jlong)a.place, a.found};
-        returned(env, key, k);
-        tell(env, answer, values, 4);
+/* The five questions about a keyword differ in their answer alone. */
+#define KEYWORD_QUESTION(name, function, count, ...)                                                                                                 \
+    NATIVE(void, name)(JNIEnv *env, UNUSED jclass self, jobject buffer, jint size, jlong length, jint part, jbyteArray key, jlongArray answer) {     \
+        lent b, k;                                                                                                                                   \
+        if (places(env, answer, count) && direct(env, buffer, size, 1, &b) && bytes(env, key, &k)) {                                                 \
+            struct function a = function##_of(b.at, b.size, (size_t)length, part, k.at, k.size);                                                     \
+            returned(env, key, k);                                                                                                                   \
+            TELL(a, __VA_ARGS__);                                                                                                                    \
+        }                                                                                                                                            \
     }
-}
 
-NATIVE(void, nativeValue)(JNIEnv *env, UNUSED jclass self, jobject buffer, jint size, jlong length, jint part, jbyteArray key, jlongArray answer) {
-    lent b, k;
-    if (places(env, answer, 5) && direct(env, buffer, size, 1, &b) && bytes(env, key, &k)) {
-        struct seg2_value a = seg2_value_of(b.at, b.size, (size_t)length, part, k.at, k.size);
-        const jlong values[] = {a.number, a.part, (jlong)a.place, (jlong)a.value_start, (jlong)a.value_length};
-        returned(env, key, k);
-        tell(env, answer, values, 5);
-    }
-}
-
-NATIVE(void, nativeNumber)(JNIEnv *env, UNUSED jclass self, jobject buffer, jint size, jlong length, jint part, jbyteArray key, jlongArray answer) {
-    lent b, k;
-    if (places(env, answer, 6) && direct(env, buffer, size, 1, &b) && bytes(env, key, &k)) {
-        struct seg2_number a = seg2_number_of(b.at, b.size, (size_t)length, part, k.at, k.size);
-        const jlong values[] = {a.number, a.part, (jlong)a.place, a.minus, a.power, (jlong)a.coefficient};
-        returned(env, key, k);
-        tell(env, answer, values, 6);
-    }
-}
-
-NATIVE(void, nativeDouble)(JNIEnv *env, UNUSED jclass self, jobject buffer, jint size, jlong length, jint part, jbyteArray key, jlongArray answer) {
-    lent b, k;
-    if (places(env, answer, 4) && direct(env, buffer, size, 1, &b) && bytes(env, key, &k)) {
-        struct seg2_double a = seg2_double_of(b.at, b.size, (size_t)length, part, k.at, k.size);
-        const jlong values[] = {a.number, a.part, (jlong)a.place, bits_of(a.value)};
-        returned(env, key, k);
-        tell(env, answer, values, 4);
-    }
-}
-
-NATIVE(void, nativeLocation)(JNIEnv *env, UNUSED jclass self, jobject buffer, jint size, jlong length, jint part, jbyteArray key, jlongArray answer) {
-    lent b, k;
-    if (places(env, answer, 7) && direct(env, buffer, size, 1, &b) && bytes(env, key, &k)) {
-        struct seg2_location a = seg2_location_of(b.at, b.size, (size_t)length, part, k.at, k.size);
-        const jlong values[] = {a.number, a.part, (jlong)a.place, a.count, bits_of(a.x), bits_of(a.y), bits_of(a.z)};
-        returned(env, key, k);
-        tell(env, answer, values, 7);
-    }
-}
+KEYWORD_QUESTION(nativeKeyword, seg2_keyword, 4, a.found)
+KEYWORD_QUESTION(nativeValue, seg2_value, 5, (jlong)a.value_start, (jlong)a.value_length)
+KEYWORD_QUESTION(nativeNumber, seg2_number, 6, a.minus, a.power, (jlong)a.coefficient)
+KEYWORD_QUESTION(nativeDouble, seg2_double, 4, bits_of(a.value))
+KEYWORD_QUESTION(nativeLocation, seg2_location, 7, a.count, bits_of(a.x), bits_of(a.y), bits_of(a.z))
 
 /* ---- samples. An array goes through a copy, which is handed back only where the library has accepted; a direct buffer's memory is written itself. */
 
@@ -272,24 +234,29 @@ NATIVE(void, nativeStart)(JNIEnv *env, UNUSED jclass self, jobject buffer, jint 
     }
 }
 
-NATIVE(void, nativeAddIntegersArray)(JNIEnv *env, UNUSED jclass self, jobject buffer, jint size, jlong length, jbyteArray sheet, jint code, jintArray row,
-                                     jlongArray answer) {
-    lent b, s;
-    if (row == NULL) {
-        misuse(env, "the row is null");
-    } else if (places(env, answer, 4) && direct(env, buffer, size, 1, &b) && bytes(env, sheet, &s)) {
-        size_t count = (size_t)(*env)->GetArrayLength(env, row);
-        jint *at = (*env)->GetIntArrayElements(env, row, NULL);
-        if (at == NULL) {
-            returned(env, sheet, s);
-        } else {
-            seg2_length a = seg2_add_integers_of(b.at, b.size, (size_t)length, s.at, s.size, (uint32_t)code, at, count);
-            (*env)->ReleaseIntArrayElements(env, row, at, JNI_ABORT);
-            returned(env, sheet, s);
-            tell_length(env, answer, a);
-        }
+/* The two additions from an array differ in their samples alone. */
+#define ADDITION_FROM_ARRAY(name, function, element, Element, sample)                                                                                \
+    NATIVE(void, name)(JNIEnv *env, UNUSED jclass self, jobject buffer, jint size, jlong length, jbyteArray sheet, jint code, element##Array row,    \
+                       jlongArray answer) {                                                                                                          \
+        lent b, s;                                                                                                                                   \
+        if (row == NULL) {                                                                                                                           \
+            misuse(env, "the row is null");                                                                                                          \
+        } else if (places(env, answer, 4) && direct(env, buffer, size, 1, &b) && bytes(env, sheet, &s)) {                                            \
+            size_t count = (size_t)(*env)->GetArrayLength(env, row);                                                                                 \
+            element *at = (*env)->Get##Element##ArrayElements(env, row, NULL);                                                                       \
+            if (at == NULL) {                                                                                                                        \
+                returned(env, sheet, s);                                                                                                             \
+            } else {                                                                                                                                 \
+                seg2_length a = function(b.at, b.size, (size_t)length, s.at, s.size, (uint32_t)code, (const sample *)at, count);                     \
+                (*env)->Release##Element##ArrayElements(env, row, at, JNI_ABORT);                                                                    \
+                returned(env, sheet, s);                                                                                                             \
+                tell_length(env, answer, a);                                                                                                         \
+            }                                                                                                                                        \
+        }                                                                                                                                            \
     }
-}
+
+ADDITION_FROM_ARRAY(nativeAddIntegersArray, seg2_add_integers_of, jint, Int, int32_t)
+ADDITION_FROM_ARRAY(nativeAddBits, seg2_add_bits_of, jlong, Long, uint64_t)
 
 NATIVE(void, nativeAddIntegersBuffer)(JNIEnv *env, UNUSED jclass self, jobject buffer, jint size, jlong length, jbyteArray sheet, jint code, jobject row,
                                       jint count, jlongArray answer) {
@@ -299,24 +266,5 @@ NATIVE(void, nativeAddIntegersBuffer)(JNIEnv *env, UNUSED jclass self, jobject b
         seg2_length a = seg2_add_integers_of(b.at, b.size, (size_t)length, s.at, s.size, (uint32_t)code, r.at, (size_t)count);
         returned(env, sheet, s);
         tell_length(env, answer, a);
-    }
-}
-
-NATIVE(void, nativeAddBits)(JNIEnv *env, UNUSED jclass self, jobject buffer, jint size, jlong length, jbyteArray sheet, jint code, jlongArray row,
-                            jlongArray answer) {
-    lent b, s;
-    if (row == NULL) {
-        misuse(env, "the row is null");
-    } else if (places(env, answer, 4) && direct(env, buffer, size, 1, &b) && bytes(env, sheet, &s)) {
-        size_t count = (size_t)(*env)->GetArrayLength(env, row);
-        jlong *at = (*env)->GetLongArrayElements(env, row, NULL);
-        if (at == NULL) {
-            returned(env, sheet, s);
-        } else {
-            seg2_length a = seg2_add_bits_of(b.at, b.size, (size_t)length, s.at, s.size, (uint32_t)code, (const uint64_t *)at, count);
-            (*env)->ReleaseLongArrayElements(env, row, at, JNI_ABORT);
-            returned(env, sheet, s);
-            tell_length(env, answer, a);
-        }
     }
 }

@@ -87,103 +87,66 @@ extern "C" {
 const _: () =
     assert!(size_of::<Number>() > 16 && size_of::<Double>() > 16 && size_of::<Location>() > 16);
 
-/// The number that a text is: document 01, "Numbers in values".
-pub fn number(text: &[u8]) -> Number {
+/// What a function that reads a text writes to the place it is given.
+fn answered<A>(call: unsafe extern "C" fn(*mut A, *const u8, usize) -> *mut A, text: &[u8]) -> A {
     let mut answer = MaybeUninit::uninit();
     // SAFETY: a pointer and a length are those of one slice, here and below, and a
     // slice that is written overlaps no other; the answer is written whole.
     unsafe {
-        probe_number(answer.as_mut_ptr(), text.as_ptr(), text.len());
+        call(answer.as_mut_ptr(), text.as_ptr(), text.len());
         answer.assume_init()
     }
+}
+
+/// The number that a text is: document 01, "Numbers in values".
+pub fn number(text: &[u8]) -> Number {
+    answered(probe_number, text)
 }
 
 /// The double that a text is: "As a double".
 pub fn double(text: &[u8]) -> Double {
-    let mut answer = MaybeUninit::uninit();
-    // SAFETY: as above.
-    unsafe {
-        probe_double(answer.as_mut_ptr(), text.as_ptr(), text.len());
-        answer.assume_init()
-    }
+    answered(probe_double, text)
 }
 
 /// The location that a text is.
 pub fn location(text: &[u8]) -> Location {
-    let mut answer = MaybeUninit::uninit();
-    // SAFETY: as above.
-    unsafe {
-        probe_location(answer.as_mut_ptr(), text.as_ptr(), text.len());
-        answer.assume_init()
-    }
+    answered(probe_location, text)
 }
 
 /// Fills the row with the integers of codes 1 to 3. False, and nothing written,
 /// for any other code, a block that is too short, or a row that is no number of
 /// whole groups under code 3.
 pub fn read_integers(code: u8, block: &[u8], high: bool, row: &mut [i32]) -> bool {
+    let (bytes, size) = (block.as_ptr(), block.len());
     // SAFETY: as above.
-    unsafe {
-        probe_read_integers(
-            code,
-            block.as_ptr(),
-            block.len(),
-            high,
-            row.as_mut_ptr(),
-            row.len(),
-        )
-    }
+    unsafe { probe_read_integers(code, bytes, size, high, row.as_mut_ptr(), row.len()) }
 }
 
 /// Fills the rows with the patterns of codes 4 and 5 and their classes. False, and
 /// nothing written, for any other code, a block that is too short, or rows that
 /// differ in length.
 pub fn read_bits(code: u8, block: &[u8], high: bool, row: &mut [u64], classes: &mut [u8]) -> bool {
+    let (bytes, size) = (block.as_ptr(), block.len());
+    let (to, count) = (row.as_mut_ptr(), row.len());
+    let (class, class_count) = (classes.as_mut_ptr(), classes.len());
     // SAFETY: as above.
-    unsafe {
-        probe_read_bits(
-            code,
-            block.as_ptr(),
-            block.len(),
-            high,
-            row.as_mut_ptr(),
-            row.len(),
-            classes.as_mut_ptr(),
-            classes.len(),
-        )
-    }
+    unsafe { probe_read_bits(code, bytes, size, high, to, count, class, class_count) }
 }
 
 /// Writes the data bytes of a row under codes 1 to 3 from the part's start on.
 /// False, and nothing written, for any other code, a sample that the code cannot
 /// hold, no number of whole groups under code 3, or a part that is too short.
 pub fn write_integers(code: u8, row: &[i32], high: bool, part: &mut [u8]) -> bool {
+    let (from, count) = (row.as_ptr(), row.len());
     // SAFETY: as above.
-    unsafe {
-        probe_write_integers(
-            code,
-            row.as_ptr(),
-            row.len(),
-            high,
-            part.as_mut_ptr(),
-            part.len(),
-        )
-    }
+    unsafe { probe_write_integers(code, from, count, high, part.as_mut_ptr(), part.len()) }
 }
 
 /// The same of patterns, under codes 4 and 5.
 pub fn write_bits(code: u8, row: &[u64], high: bool, part: &mut [u8]) -> bool {
+    let (from, count) = (row.as_ptr(), row.len());
     // SAFETY: as above.
-    unsafe {
-        probe_write_bits(
-            code,
-            row.as_ptr(),
-            row.len(),
-            high,
-            part.as_mut_ptr(),
-            part.len(),
-        )
-    }
+    unsafe { probe_write_bits(code, from, count, high, part.as_mut_ptr(), part.len()) }
 }
 
 /// Writes the listing of a file from the row's start on, and tells how long it is.

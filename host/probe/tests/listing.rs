@@ -5,6 +5,7 @@ use seg2_probe as proved;
 use seg2_reference::generate::lay::{four, two};
 use seg2_reference::generate::*;
 use seg2_reference::listing::listing;
+use seg2_reference::worked::{example, EXAMPLE_LISTED};
 use seg2_reference::Order;
 
 /// A byte that stands behind the listing, which must stay.
@@ -89,12 +90,12 @@ fn file(order: Order, strings: &[&[u8]], traces: &[&[&[u8]]]) -> Vec<u8> {
     [head, texts, blocks].concat()
 }
 
+/// Also as the listing program's own test has it.
 #[test]
 fn the_worked_file() {
-    is(
-        include_bytes!("../../../crates/seg2_list/stdin"),
-        "SEG2\tlow\t1\t4\nS\tF\tUNITS\tMETERS\nT\t0\t1\t3\nS\t0\tSTACK\t1\n",
-    );
+    is(&example(), EXAMPLE_LISTED);
+    let stored = include_bytes!("../../../crates/seg2_list/stdin");
+    assert_eq!(stored[..], example());
 }
 
 #[test]

@@ -3,7 +3,9 @@
 
 use seg2_probe as proved;
 use seg2_reference::generate::{location_case, number_case, Rng};
+use seg2_reference::worked::{NO_DOUBLE, NO_LOCATION, NUMBERS, PAPER_DOUBLES, PAPER_NUMBERS};
 use seg2_reference::{self as reference, Refusal};
+use std::collections::{BTreeMap, BTreeSet};
 
 /// The whole number of a refusal: a lone text's part is the file's, -1.
 fn refusal_of(refusal: Refusal) -> (u32, usize) {
@@ -87,14 +89,14 @@ fn agree(text: &[u8]) {
 
 #[test]
 fn worked_values() {
-    assert_eq!(proved::number(b"-2.3E6"), good_number(true, 23, 5));
-    assert_eq!(proved::number(b"0.020"), good_number(false, 20, -3));
-    assert_eq!(proved::number(b"-34.6"), good_number(true, 346, -1));
-    assert_eq!(proved::number(b"0,020"), bad_number((20, 0)));
-    assert_eq!(proved::number(b"12."), bad_number((20, 0)));
-    assert_eq!(proved::number(b"1.345E24"), good_number(false, 1345, 21));
-    assert_eq!(double_bits(proved::double(b"1.345E24")), (22, 0, 0));
-    assert_eq!(location_bits(proved::location(b"1 2")), (23, 0, 0, [0; 3]));
+    for &(text, number) in NUMBERS {
+        let expected = number_told(number.map_err(|row| Refusal::file(row, 0)));
+        assert_eq!(proved::number(text.as_bytes()), expected, "{text}");
+    }
+    let double = proved::double(NO_DOUBLE.as_bytes());
+    assert_eq!(double_bits(double), (22, 0, 0));
+    let location = proved::location(NO_LOCATION.as_bytes());
+    assert_eq!(location_bits(location), (23, 0, 0, [0; 3]));
 }
 
 /// "zero has sign plus"; "leading zeros counted"; the bounds of the double case.
@@ -126,28 +128,16 @@ fn bounds() {
     }
 }
 
-/// "The numbers in the following list are allowable numeric expressions."
 #[test]
 fn the_papers_allowed_numbers() {
-    let allowed: &[(&str, bool, u64, i32)] = &[
-        ("12", false, 12, 0),
-        ("-3", true, 3, 0),
-        ("12.657", false, 12657, -3),
-        ("-34.6", true, 346, -1),
-        ("1.345E24", false, 1345, 21),
-        ("-2.3E6", true, 23, 5),
-        ("5.6E-11", false, 56, -12),
-        ("-2.0E-9", true, 20, -10),
-    ];
-    for &(text, minus, coefficient, power) in allowed {
-        let expected = good_number(minus, coefficient, power);
+    for &(text, number) in PAPER_NUMBERS {
+        let expected = number_told(Ok(number));
         assert_eq!(proved::number(text.as_bytes()), expected, "{text}");
         agree(text.as_bytes());
     }
-    assert_eq!(proved::double(b"5.6E-11").value, 5.6e-11);
-    assert_eq!(proved::double(b"-2.0E-9").value, -2.0e-9);
-    assert_eq!(proved::double(b"-2.3E6").value, -2_300_000.0);
-    assert_eq!(proved::double(b"12.657").value, 12.657);
+    for &(text, value) in PAPER_DOUBLES {
+        assert_eq!(proved::double(text.as_bytes()).value, value, "{text}");
+    }
 }
 
 /// The places of figure C-2, and separators at either end.
@@ -170,7 +160,7 @@ fn locations() {
 #[test]
 fn generated_numbers() {
     let mut rng = Rng::new(41);
-    let mut met = [0; 4];
+    let mut met = BTreeMap::new();
     for _ in 0..40_000 {
         let case = number_case(&mut rng);
         let shown = String::from_utf8_lossy(&case.text).into_owned();
@@ -179,18 +169,16 @@ fn generated_numbers() {
         let expected = double_told(case.double);
         assert_eq!(double_bits(proved::double(&case.text)), expected, "{shown}");
         agree(&case.text);
-        met[match case.double {
-            Ok(_) => 0,
-            Err(refusal) => usize::from(refusal.number) - 19,
-        }] += 1;
+        *met.entry(case.row()).or_insert(0) += 1;
     }
-    assert!(met.iter().all(|&times| times > 1000), "{met:?}");
+    assert!(met.keys().eq(&[0, 20, 21, 22]), "{met:?}");
+    assert!(met.values().all(|&times| times > 1000), "{met:?}");
 }
 
 #[test]
 fn generated_locations() {
     let mut rng = Rng::new(42);
-    let mut met = std::collections::BTreeSet::new();
+    let mut met = BTreeSet::new();
     for _ in 0..40_000 {
         let case = location_case(&mut rng);
         let shown = String::from_utf8_lossy(&case.text).into_owned();
@@ -198,10 +186,10 @@ fn generated_locations() {
         let found = location_bits(proved::location(&case.text));
         assert_eq!(found, expected, "{shown}");
         agree(&case.text);
-        met.insert((found.0, found.1));
+        met.insert(case.kind());
     }
-    let kinds: Vec<_> = met.into_iter().collect();
-    assert_eq!(kinds, [(0, 1), (0, 3), (20, 0), (21, 0), (22, 0), (23, 0)]);
+    let kinds = [Ok(1), Ok(3), Err(20), Err(21), Err(22), Err(23)];
+    assert_eq!(met, kinds.into());
 }
 
 /// Short texts of the bytes that the grammar knows, and any bytes at all.

@@ -7,6 +7,9 @@ use seg2_reference::samples::{
     class_of_code_4, class_of_code_5, decode_bits, decode_integers, encode_bits, encode_integers,
     needed_bytes,
 };
+use seg2_reference::worked::{
+    Block, CODES_1_AND_2, CODE_3, CODE_3_KEPT, CODE_3_TOO_LARGE, CODE_3_WRITTEN,
+};
 use seg2_reference::Order;
 
 const ORDERS: [(Order, bool); 2] = [(Order::Low, false), (Order::High, true)];
@@ -43,70 +46,42 @@ fn near(rng: &mut Rng, code: u8, count: usize) -> usize {
     (needed + rng.pick(&[0, 0, 0, 1, 2, 3, 4, 9])).saturating_sub(rng.pick(&[0, 0, 0, 1, 2, 9]))
 }
 
+fn is_read(&(code, order, block, samples): &Block) {
+    let mut row = vec![77; samples.len()];
+    let high = order == Order::High;
+    assert!(proved::read_integers(code, block, high, &mut row));
+    assert_eq!(row, samples);
+}
+
 #[test]
 fn codes_1_and_2() {
-    let read = |code, high, block: &[u8]| {
-        let mut row = [77];
-        assert!(proved::read_integers(code, block, high, &mut row));
-        row[0]
-    };
-    assert_eq!(read(1, false, &[0xFF, 0xFF]), -1);
-    assert_eq!(read(1, true, &[0xFF, 0xFF]), -1);
-    assert_eq!(read(1, false, &[0x00, 0x80]), -32_768);
-    assert_eq!(read(2, true, &[0x80, 0, 0, 0]), -2_147_483_648);
+    CODES_1_AND_2.iter().for_each(is_read);
 }
 
 #[test]
 fn code_3_read() {
-    let mut row = [77; 4];
-    let group = [0x10, 0xF2, 0x01, 0x00, 0xFE, 0xFF, 0x05, 0x00, 0xFF, 0x7F];
-    assert!(proved::read_integers(3, &group, false, &mut row));
-    assert_eq!(row, [1, -2, 20, 1_073_709_056]);
-    // High first turns each word's bytes, not all ten.
-    let group = [0xF2, 0x10, 0x00, 0x01, 0xFF, 0xFE, 0x00, 0x05, 0x7F, 0xFF];
-    row = [77; 4];
-    assert!(proved::read_integers(3, &group, true, &mut row));
-    assert_eq!(row, [1, -2, 20, 1_073_709_056]);
+    CODE_3.iter().for_each(is_read);
 }
 
 #[test]
 fn code_3_written() {
     let mut part = [0xEE; 14];
-    assert!(proved::write_integers(
-        3,
-        &[100_000, 0, 0, 0],
-        false,
-        &mut part
-    ));
-    // Exponent 2 in bits 0-3, mantissa 25000 = 61A8h; D is rounded up to 4.
-    let written = [2, 0, 0xA8, 0x61, 0, 0, 0, 0, 0, 0, 0, 0, 0xEE, 0xEE];
-    assert_eq!(part, written);
-    for (sample, kept) in [
-        (100_000, 100_000),
-        (-32_769, -32_768),
-        (1_073_741_823, 1_073_709_056),
-    ] {
+    let (samples, data) = CODE_3_WRITTEN;
+    assert!(proved::write_integers(3, &samples, false, &mut part));
+    assert_eq!(part[..12], data);
+    assert_eq!(part[12..], [0xEE; 2]);
+    for (sample, kept) in CODE_3_KEPT {
         for high in [false, true] {
-            let mut row = [77; 4];
-            assert!(proved::write_integers(
-                3,
-                &[sample, 0, 0, 0],
-                high,
-                &mut part
-            ));
+            let (given, mut row) = ([sample, 0, 0, 0], [77; 4]);
+            assert!(proved::write_integers(3, &given, high, &mut part));
             assert!(proved::read_integers(3, &part, high, &mut row));
             assert_eq!(row, [kept, 0, 0, 0]);
         }
     }
-    // Row 29: of magnitude 2^30 or more.
-    for sample in [1_073_741_824, -1_073_741_824, i32::MIN, i32::MAX] {
+    for sample in CODE_3_TOO_LARGE {
         part = [0xEE; 14];
-        assert!(!proved::write_integers(
-            3,
-            &[0, 0, sample, 0],
-            true,
-            &mut part
-        ));
+        let given = [0, 0, sample, 0];
+        assert!(!proved::write_integers(3, &given, true, &mut part));
         assert_eq!(part, [0xEE; 14]);
     }
 }
@@ -125,15 +100,8 @@ fn classes() {
         (0x7FC0_0000, 4),
     ];
     for (pattern, class) in fours {
-        let (mut row, mut classes) = ([7], [7]);
-        assert!(proved::read_bits(
-            4,
-            &pattern.to_le_bytes(),
-            false,
-            &mut row,
-            &mut classes
-        ));
-        assert_eq!((row[0], classes[0]), (u64::from(pattern), class));
+        let read = one_pattern(4, &pattern.to_le_bytes(), false);
+        assert_eq!(read, (pattern.into(), class));
     }
     let fives: [(u64, u8); 6] = [
         (1 << 63, 0),
@@ -144,15 +112,31 @@ fn classes() {
         (u64::MAX, 4),
     ];
     for (pattern, class) in fives {
-        let (mut row, mut classes) = ([7], [7]);
-        assert!(proved::read_bits(
-            5,
-            &pattern.to_be_bytes(),
-            true,
-            &mut row,
-            &mut classes
-        ));
-        assert_eq!((row[0], classes[0]), (pattern, class));
+        let read = one_pattern(5, &pattern.to_be_bytes(), true);
+        assert_eq!(read, (pattern, class));
+    }
+}
+
+/// The only pattern of a block, and its class.
+fn one_pattern(code: u8, block: &[u8], high: bool) -> (u64, u8) {
+    let (mut row, mut classes) = ([7], [7]);
+    assert!(proved::read_bits(code, block, high, &mut row, &mut classes));
+    (row[0], classes[0])
+}
+
+/// How often each code was accepted and refused; codes over 5 count as one.
+#[derive(Default)]
+struct Met([[u32; 2]; 7]);
+
+impl Met {
+    fn count(&mut self, code: u8, accepted: bool) {
+        self.0[usize::from(code.min(6))][usize::from(accepted)] += 1;
+    }
+
+    /// Each of these codes was often met both ways.
+    fn both_ways(&self, codes: std::ops::RangeInclusive<usize>) {
+        let met = &self.0;
+        assert!(met[codes].iter().flatten().all(|&n| n > 1000), "{met:?}");
     }
 }
 
@@ -161,7 +145,7 @@ fn classes() {
 #[test]
 fn integers_read() {
     let mut rng = Rng::new(51);
-    let mut met = [[0; 2]; 7];
+    let mut met = Met::default();
     for _ in 0..30_000 {
         let code = rng.pick(&[0, 1, 1, 2, 2, 3, 3, 3, 4, 5, 6, 255]);
         let count = match rng.one_in(3) {
@@ -177,16 +161,16 @@ fn integers_read() {
             let expected = integers_expected(code, order, &block, count);
             assert_eq!(answer, expected.is_some(), "{code} {count} {length}");
             assert_eq!(row, expected.unwrap_or(before), "{code} {high}");
-            met[usize::from(code.min(6))][usize::from(answer)] += 1;
+            met.count(code, answer);
         }
     }
-    assert!(met[1..4].iter().flatten().all(|&n| n > 1000), "{met:?}");
+    met.both_ways(1..=3);
 }
 
 #[test]
 fn bits_read() {
     let mut rng = Rng::new(52);
-    let mut met = [[0; 2]; 7];
+    let mut met = Met::default();
     for _ in 0..30_000 {
         let code = rng.pick(&[0, 1, 2, 3, 4, 4, 4, 5, 5, 5, 6, 255]);
         let count = rng.between(0, 40);
@@ -213,10 +197,10 @@ fn bits_read() {
             });
             assert_eq!(row, expected.unwrap_or(before), "{code} {high}");
             assert_eq!(classes, expected_classes, "{code} {high}");
-            met[usize::from(code.min(6))][usize::from(answer)] += 1;
+            met.count(code, answer);
         }
     }
-    assert!(met[4..6].iter().flatten().all(|&n| n > 1000), "{met:?}");
+    met.both_ways(4..=5);
 }
 
 /// A sample of any size, often at an end of a code's range.
@@ -251,10 +235,29 @@ fn part_expected(data: Option<Vec<u8>>, before: &[u8]) -> (bool, Vec<u8>) {
     }
 }
 
+/// A row written in both orders into a part about as long as it needs.
+fn written_alike(
+    rng: &mut Rng,
+    met: &mut Met,
+    (code, count): (u8, usize),
+    encode: impl Fn(Order) -> Option<Vec<u8>>,
+    write: impl Fn(bool, &mut [u8]) -> bool,
+) {
+    let length = near(rng, code, count) + rng.pick(&[0, 2, 2, 4]);
+    for (order, high) in ORDERS {
+        let before = random_block(rng, length);
+        let mut part = before.clone();
+        let answer = write(high, &mut part);
+        let expected = part_expected(encode(order), &before);
+        assert_eq!((answer, part), expected, "{code} {count} {high}");
+        met.count(code, answer);
+    }
+}
+
 #[test]
 fn integers_written() {
     let mut rng = Rng::new(53);
-    let mut met = [[0; 2]; 7];
+    let mut met = Met::default();
     for _ in 0..30_000 {
         let code = rng.pick(&[0, 1, 1, 2, 2, 3, 3, 3, 4, 5, 6, 255]);
         let count = match rng.one_in(3) {
@@ -262,27 +265,17 @@ fn integers_written() {
             false => 4 * rng.between(0, 10),
         };
         let row: Vec<i32> = (0..count).map(|_| random_sample(&mut rng, code)).collect();
-        let length = near(&mut rng, code, count) + rng.pick(&[0, 2, 2, 4]);
-        for (order, high) in ORDERS {
-            let before = random_block(&mut rng, length);
-            let mut part = before.clone();
-            let answer = proved::write_integers(code, &row, high, &mut part);
-            let data = encode_integers(code, order, &row).ok();
-            assert_eq!(
-                (answer, part),
-                part_expected(data, &before),
-                "{code} {row:?}"
-            );
-            met[usize::from(code.min(6))][usize::from(answer)] += 1;
-        }
+        let encode = |order| encode_integers(code, order, &row).ok();
+        let write = |high, part: &mut [u8]| proved::write_integers(code, &row, high, part);
+        written_alike(&mut rng, &mut met, (code, count), encode, write);
     }
-    assert!(met[1..4].iter().flatten().all(|&n| n > 1000), "{met:?}");
+    met.both_ways(1..=3);
 }
 
 #[test]
 fn bits_written() {
     let mut rng = Rng::new(54);
-    let mut met = [[0; 2]; 7];
+    let mut met = Met::default();
     for _ in 0..30_000 {
         let code = rng.pick(&[0, 1, 2, 3, 4, 4, 4, 5, 5, 5, 6, 255]);
         let count = rng.between(0, 40);
@@ -293,21 +286,11 @@ fn bits_written() {
                 false => rng.bits() >> 32,
             })
             .collect();
-        let length = near(&mut rng, code, count) + rng.pick(&[0, 2, 2, 4]);
-        for (order, high) in ORDERS {
-            let before = random_block(&mut rng, length);
-            let mut part = before.clone();
-            let answer = proved::write_bits(code, &row, high, &mut part);
-            let data = encode_bits(code, order, &row).ok();
-            assert_eq!(
-                (answer, part),
-                part_expected(data, &before),
-                "{code} {row:?}"
-            );
-            met[usize::from(code.min(6))][usize::from(answer)] += 1;
-        }
+        let encode = |order| encode_bits(code, order, &row).ok();
+        let write = |high, part: &mut [u8]| proved::write_bits(code, &row, high, part);
+        written_alike(&mut rng, &mut met, (code, count), encode, write);
     }
-    assert!(met[4..6].iter().flatten().all(|&n| n > 1000), "{met:?}");
+    met.both_ways(4..=5);
 }
 
 /// Written and read again: the same row under codes 1, 2, 4 and 5; under code 3 "the

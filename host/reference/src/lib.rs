@@ -4,6 +4,11 @@
 //! the exact rules") decides, the 1990 paper (document 001) stands behind it.
 //! It is a yardstick: right and readable first, fast never. Comments name the
 //! section of document 01, or the row of its refusal table, that they carry out.
+//! It shares no code with the proved library, its wrapper (`seg2`) or the plain Rust of
+//! the benchmarks: what looks alike there stays apart, or a comparison would say nothing.
+//!
+//! Beside the reader and writer stand what tests are made of: inputs with known answers,
+//! drawn from a seed ([`generate`]) or worked out by hand ([`worked`]).
 //!
 //! Every function of the reader and the writer is total. It answers for any
 //! buffer, any length beside it, any part, index, code or text, and never panics.
@@ -20,6 +25,7 @@ pub mod samples;
 pub mod sheet;
 pub mod strings;
 pub mod words;
+pub mod worked;
 pub mod write;
 
 pub use check::{check, check_for_addition, File, Trace, MAXIMUM_LENGTH};
@@ -32,4 +38,4 @@ pub use questions::{
 pub use refusal::{Refusal, ALL};
 pub use strings::StringPlace;
 pub use words::Order;
-pub use write::{add_bits, add_integers, file_of, start, Row, TraceGiven};
+pub use write::{add, add_bits, add_integers, file_of, start, Row, TraceGiven};

@@ -7,11 +7,11 @@ use crate::words::{
 };
 
 /// Classes of codes 4 and 5.
-pub const ZERO: u8 = 0;
-pub const UNDERFLOW: u8 = 1;
-pub const NUMBER: u8 = 2;
-pub const INFINITY: u8 = 3;
-pub const NOT_A_NUMBER: u8 = 4;
+const ZERO: u8 = 0;
+const UNDERFLOW: u8 = 1;
+const NUMBER: u8 = 2;
+const INFINITY: u8 = 3;
+const NOT_A_NUMBER: u8 = 4;
 
 /// "Needed bytes: code 1: 2S, code 2: 4S, code 3: 10S/4, code 4: 4S, code 5:
 /// 8S"; `None` for any other code. (Counts are at most 2^32 in a file; for any
@@ -27,14 +27,14 @@ pub fn needed_bytes(code: u8, count: u64) -> Option<u64> {
 }
 
 /// Code 1: 16 bits, two's complement. Every whole sample of the data.
-pub fn decode_code_1(order: Order, data: &[u8]) -> Vec<i32> {
+fn decode_code_1(order: Order, data: &[u8]) -> Vec<i32> {
     data.chunks_exact(2)
         .map(|sample| i32::from(u16_at(sample, 0, order) as i16))
         .collect()
 }
 
 /// Code 2: 32 bits, two's complement. Every whole sample of the data.
-pub fn decode_code_2(order: Order, data: &[u8]) -> Vec<i32> {
+fn decode_code_2(order: Order, data: &[u8]) -> Vec<i32> {
     data.chunks_exact(4)
         .map(|sample| u32_at(sample, 0, order) as i32)
         .collect()
@@ -42,7 +42,7 @@ pub fn decode_code_2(order: Order, data: &[u8]) -> Vec<i32> {
 
 /// Code 3: "groups of 10 bytes for 4 samples, five 2-byte words each in file
 /// order". Every whole group of the data.
-pub fn decode_code_3(order: Order, data: &[u8]) -> Vec<i32> {
+fn decode_code_3(order: Order, data: &[u8]) -> Vec<i32> {
     data.chunks_exact(10)
         .flat_map(|group| decode_group(order, group))
         .collect()
@@ -69,14 +69,14 @@ fn ones_complement(word: u16) -> i32 {
 }
 
 /// Code 4: the 32-bit pattern is kept. Every whole sample of the data.
-pub fn decode_code_4(order: Order, data: &[u8]) -> Vec<u64> {
+fn decode_code_4(order: Order, data: &[u8]) -> Vec<u64> {
     data.chunks_exact(4)
         .map(|sample| u64::from(u32_at(sample, 0, order)))
         .collect()
 }
 
 /// Code 5: the 64-bit pattern is kept. Every whole sample of the data.
-pub fn decode_code_5(order: Order, data: &[u8]) -> Vec<u64> {
+fn decode_code_5(order: Order, data: &[u8]) -> Vec<u64> {
     data.chunks_exact(8)
         .map(|sample| u64_at(sample, 0, order))
         .collect()

@@ -6,7 +6,7 @@ use crate::strings::{is_keyword, may_follow, Terminators, NOTE};
 use crate::words::{bytes_of_u16, pad_to_4, round_up_4, Order};
 
 /// "An area is at most 65,500 bytes."
-pub const AREA_MAXIMUM: usize = 65_500;
+const AREA_MAXIMUM: usize = 65_500;
 
 /// The size of an offset, and of the end mark.
 const OFFSET_SIZE: usize = 2;

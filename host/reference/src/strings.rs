@@ -28,7 +28,7 @@ pub fn is_separator(character: u8) -> bool {
 }
 
 /// "uses codes 33 to 126 except 97 to 122"
-pub fn is_keyword_character(character: u8) -> bool {
+fn is_keyword_character(character: u8) -> bool {
     matches!(character, 33..=126) && !matches!(character, 97..=122)
 }
 
@@ -38,7 +38,7 @@ pub fn is_keyword(text: &[u8]) -> bool {
 }
 
 /// "It uses 32 to 126 and tab"
-pub fn is_value_character(character: u8) -> bool {
+fn is_value_character(character: u8) -> bool {
     matches!(character, 32..=126) || character == b'\t'
 }
 

@@ -14,7 +14,7 @@ pub enum Order {
 
 /// A byte past the end reads as 0, which keeps reading total. The checks never
 /// ask for such a byte.
-pub fn byte_at(bytes: &[u8], place: usize) -> u8 {
+fn byte_at(bytes: &[u8], place: usize) -> u8 {
     bytes.get(place).copied().unwrap_or(0)
 }
 

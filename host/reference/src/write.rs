@@ -46,7 +46,7 @@ pub fn add_integers(
     row: &[i32],
 ) -> Result<usize, Refusal> {
     let encode = |order| encode_integers(code, order, row);
-    add(buffer, length, sheet, code, row.len(), encode)
+    add_encoded(buffer, length, sheet, code, row.len(), encode)
 }
 
 /// Adds a trace of code 4 or 5 to the image of the given length and answers the
@@ -59,13 +59,27 @@ pub fn add_bits(
     row: &[u64],
 ) -> Result<usize, Refusal> {
     let encode = |order| encode_bits(code, order, row);
-    add(buffer, length, sheet, code, row.len(), encode)
+    add_encoded(buffer, length, sheet, code, row.len(), encode)
+}
+
+/// The one of the two additions that takes such a row.
+pub fn add(
+    buffer: &mut [u8],
+    length: usize,
+    sheet: &[u8],
+    code: u8,
+    row: &Row,
+) -> Result<usize, Refusal> {
+    match row {
+        Row::Integers(row) => add_integers(buffer, length, sheet, code, row),
+        Row::Bits(row) => add_bits(buffer, length, sheet, code, row),
+    }
 }
 
 /// "The new trace begins at the old length rounded up to 4, and is written into
 /// the free end of the buffer, the gap and all unnamed bytes zero." Nothing is
 /// written before the last row has passed.
-fn add(
+fn add_encoded(
     buffer: &mut [u8],
     length: usize,
     sheet: &[u8],

@@ -1,30 +1,24 @@
 //! Every refusal number of the base occurs in the generated cases.
 
+mod common;
+
+use common::number_of;
 use seg2_reference::generate::*;
 use seg2_reference::*;
 use std::collections::BTreeSet;
-
-fn number_of<T>(answer: Result<T, Refusal>) -> u8 {
-    answer.err().map_or(0, |refusal| refusal.number)
-}
 
 fn samples_number(case: &SampleCase) -> u8 {
     match &case.question {
         SampleQuestion::Integers { row, .. } => {
             let mut row = vec![0; *row];
             let answer = samples_as_integers(&case.buffer, case.length, case.trace, &mut row);
-            number_of(answer)
+            number_of(&answer)
         }
         SampleQuestion::Bits { row, classes, .. } => {
             let (mut row, mut classes) = (vec![0; *row], vec![0; *classes]);
             let (buffer, length) = (&case.buffer, case.length);
-            number_of(samples_as_bits(
-                buffer,
-                length,
-                case.trace,
-                &mut row,
-                &mut classes,
-            ))
+            let answer = samples_as_bits(buffer, length, case.trace, &mut row, &mut classes);
+            number_of(&answer)
         }
     }
 }
@@ -40,10 +34,8 @@ fn listed_number(input: &[u8]) -> u8 {
 
 fn addition_number(case: AdditionCase) -> u8 {
     let mut buffer = case.buffer;
-    number_of(match &case.row {
-        Row::Integers(row) => add_integers(&mut buffer, case.length, &case.sheet, case.code, row),
-        Row::Bits(row) => add_bits(&mut buffer, case.length, &case.sheet, case.code, row),
-    })
+    let answer = add(&mut buffer, case.length, &case.sheet, case.code, &case.row);
+    number_of(&answer)
 }
 
 #[test]
@@ -52,16 +44,16 @@ fn every_number_is_met() {
     let mut met = BTreeSet::new();
     for way in WAYS {
         let case = damaged(&mut rng, way);
-        met.insert(number_of(check(&case.buffer, case.length)));
+        met.insert(number_of(&check(&case.buffer, case.length)));
     }
     met.insert(listed_number(&too_long_for_listing(&mut rng)));
     for _ in 0..400 {
         met.insert(samples_number(&sample_case(&mut rng)));
-        met.insert(number_of(double(&number_case(&mut rng).text)));
-        met.insert(number_of(location(&location_case(&mut rng).text)));
+        met.insert(number_of(&double(&number_case(&mut rng).text)));
+        met.insert(number_of(&location(&location_case(&mut rng).text)));
         let mut case = start_case(&mut rng);
         let answer = start(&mut case.buffer, case.order, case.slots, &case.sheet);
-        met.insert(number_of(answer));
+        met.insert(number_of(&answer));
         met.insert(addition_number(addition_case(&mut rng)));
     }
     assert!(met.remove(&0), "some are accepted");

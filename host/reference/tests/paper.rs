@@ -3,6 +3,7 @@
 mod common;
 
 use common::{file, string, strings_in, trace};
+use seg2_reference::worked::{PAPER_DOUBLES, PAPER_NUMBERS};
 use seg2_reference::*;
 
 /// Figure C-1: the offset as printed, the keyword, the value.
@@ -114,29 +115,12 @@ fn offsets_count_from_their_own_first_byte() {
     assert_eq!(strings_in(&[0], b"\n\r", &bytes), Err((15, 0)));
 }
 
-/// "The numbers in the following list are allowable numeric expressions."
 #[test]
 fn allowed_numbers() {
-    let allowed: &[(&str, bool, u64, i32)] = &[
-        ("12", false, 12, 0),
-        ("-3", true, 3, 0),
-        ("12.657", false, 12657, -3),
-        ("-34.6", true, 346, -1),
-        ("1.345E24", false, 1345, 21),
-        ("-2.3E6", true, 23, 5),
-        ("5.6E-11", false, 56, -12),
-        ("-2.0E-9", true, 20, -10),
-    ];
-    for &(text, minus, coefficient, power) in allowed {
-        let expected = Number {
-            minus,
-            coefficient,
-            power,
-        };
+    for &(text, expected) in PAPER_NUMBERS {
         assert_eq!(number(text.as_bytes()), Ok(expected), "{text}");
     }
-    assert_eq!(double(b"5.6E-11"), Ok(5.6e-11));
-    assert_eq!(double(b"-2.0E-9"), Ok(-2.0e-9));
-    assert_eq!(double(b"-2.3E6"), Ok(-2_300_000.0));
-    assert_eq!(double(b"12.657"), Ok(12.657));
+    for &(text, expected) in PAPER_DOUBLES {
+        assert_eq!(double(text.as_bytes()), Ok(expected), "{text}");
+    }
 }

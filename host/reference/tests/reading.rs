@@ -1,4 +1,5 @@
-//! Generated files: what the reader finds is what the model says.
+//! Generated files: what the reader finds is what the model says. (How unclear rules are
+//! read is tested in `readings.rs`.)
 
 use seg2_reference::generate::*;
 use seg2_reference::*;

@@ -1,4 +1,5 @@
-//! How unclear rules are read, one test for each row of that table.
+//! How rules that leave something open are read, one test for each such point. (Generated
+//! files are read in `reading.rs`.)
 
 mod common;
 

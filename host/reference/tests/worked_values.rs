@@ -4,54 +4,47 @@ mod common;
 
 use common::{file, refusal, trace};
 use seg2_reference::samples::{decode_integers, encode_integers};
+use seg2_reference::worked::{
+    example, Block, CODES_1_AND_2, CODE_3, CODE_3_KEPT, CODE_3_TOO_LARGE, CODE_3_WRITTEN,
+    EXAMPLE_LISTED, EXAMPLE_SAMPLES, EXAMPLE_SHEET, EXAMPLE_TRACE_SHEET, NO_DOUBLE, NO_LOCATION,
+    NUMBERS,
+};
 use seg2_reference::{
     add_integers, check, check_for_addition, double, file_of, keyword_value, listing, location,
-    number, samples_as_integers, start, Number, Order, Row, TraceGiven,
+    number, samples_as_integers, start, Order, Row, TraceGiven,
 };
 
 fn decoded(code: u8, order: Order, data: &[u8]) -> Vec<i32> {
     decode_integers(code, order, data).expect("a code of integers")
 }
 
-/// What a sample becomes when it is written in code 3 and read again.
-fn through_code_3(sample: i32) -> i32 {
-    for order in [Order::Low, Order::High] {
-        let data = encode_integers(3, order, &[sample, 0, 0, 0]).expect("in range");
-        assert_eq!(decoded(3, order, &data)[1..], [0, 0, 0]);
+fn reads(blocks: &[Block]) {
+    for &(code, order, data, samples) in blocks {
+        assert_eq!(decoded(code, order, data), samples);
     }
-    let data = encode_integers(3, Order::Low, &[sample, 0, 0, 0]).expect("in range");
-    decoded(3, Order::Low, &data)[0]
 }
 
 #[test]
 fn codes_1_and_2() {
-    assert_eq!(decoded(1, Order::Low, &[0xFF, 0xFF]), [-1]);
-    assert_eq!(decoded(1, Order::High, &[0xFF, 0xFF]), [-1]);
-    assert_eq!(decoded(1, Order::Low, &[0x00, 0x80]), [-32768]);
-    assert_eq!(decoded(2, Order::High, &[0x80, 0, 0, 0]), [-2147483648]);
+    reads(CODES_1_AND_2);
 }
 
 #[test]
 fn code_3_read() {
-    let group = [0x10, 0xF2, 0x01, 0x00, 0xFE, 0xFF, 0x05, 0x00, 0xFF, 0x7F];
-    assert_eq!(decoded(3, Order::Low, &group), [1, -2, 20, 1073709056]);
-    // High first turns each word's bytes, not all ten.
-    let group = [0xF2, 0x10, 0x00, 0x01, 0xFF, 0xFE, 0x00, 0x05, 0x7F, 0xFF];
-    assert_eq!(decoded(3, Order::High, &group), [1, -2, 20, 1073709056]);
+    reads(CODE_3);
 }
 
 #[test]
 fn code_3_written() {
-    // Exponent 2 in bits 0-3, mantissa 25000 = 61A8h; D is rounded up to 4.
-    let data = encode_integers(3, Order::Low, &[100_000, 0, 0, 0]);
-    assert_eq!(
-        data.expect("in range"),
-        [0x02, 0x00, 0xA8, 0x61, 0, 0, 0, 0, 0, 0, 0, 0]
-    );
-    assert_eq!(through_code_3(100_000), 100_000);
-    assert_eq!(through_code_3(-32769), -32768);
-    assert_eq!(through_code_3(1073741823), 1073709056);
-    for sample in [1073741824, -1073741824, i32::MIN, i32::MAX] {
+    let (samples, data) = CODE_3_WRITTEN;
+    assert_eq!(encode_integers(3, Order::Low, &samples), Ok(data.to_vec()));
+    for (sample, kept) in CODE_3_KEPT {
+        for order in [Order::Low, Order::High] {
+            let data = encode_integers(3, order, &[sample, 0, 0, 0]).expect("in range");
+            assert_eq!(decoded(3, order, &data), [kept, 0, 0, 0]);
+        }
+    }
+    for sample in CODE_3_TOO_LARGE {
         let data = encode_integers(3, Order::High, &[0, 0, sample, 0]);
         assert_eq!(data, Err(refusal(29, -1, 2)));
     }
@@ -59,21 +52,12 @@ fn code_3_written() {
 
 #[test]
 fn numbers() {
-    let good = |minus, coefficient, power| {
-        Ok(Number {
-            minus,
-            coefficient,
-            power,
-        })
-    };
-    assert_eq!(number(b"-2.3E6"), good(true, 23, 5));
-    assert_eq!(number(b"0.020"), good(false, 20, -3));
-    assert_eq!(number(b"-34.6"), good(true, 346, -1));
-    assert_eq!(number(b"0,020"), Err(refusal(20, -1, 0)));
-    assert_eq!(number(b"12."), Err(refusal(20, -1, 0)));
-    assert_eq!(number(b"1.345E24"), good(false, 1345, 21));
-    assert_eq!(double(b"1.345E24"), Err(refusal(22, -1, 0)));
-    assert_eq!(location(b"1 2"), Err(refusal(23, -1, 0)));
+    for &(text, expected) in NUMBERS {
+        let expected = expected.map_err(|row| refusal(row, -1, 0));
+        assert_eq!(number(text.as_bytes()), expected, "{text}");
+    }
+    assert_eq!(double(NO_DOUBLE.as_bytes()), Err(refusal(22, -1, 0)));
+    assert_eq!(location(NO_LOCATION.as_bytes()), Err(refusal(23, -1, 0)));
 }
 
 #[test]
@@ -94,48 +78,40 @@ fn b_of_32_passes_and_28_does_not() {
     assert_eq!(check(&bytes, bytes.len()), Err(refusal(10, 0, 38)));
 }
 
-/// "Low first, one slot, sheet UNITS METERS, one trace of code 1 with samples 1,
-/// -1, 256 and sheet STACK 1: pointer 56, B 44, D 8, length 108."
-fn example_bytes() -> Vec<u8> {
-    let mut bytes = vec![0x55, 0x3A, 1, 0, 4, 0, 1, 0, 1, 0, 0, 1, 0x0A, 0];
-    bytes.extend([0; 18]);
-    bytes.extend([56, 0, 0, 0]);
-    bytes.extend(b"\x0F\0UNITS METERS\0\0\0\0\0\0");
-    bytes.extend([0x22, 0x44, 44, 0, 8, 0, 0, 0, 3, 0, 0, 0, 1]);
-    bytes.extend([0; 19]);
-    bytes.extend(b"\x0A\0STACK 1\0\0\0");
-    bytes.extend([1, 0, 0xFF, 0xFF, 0, 1, 0, 0]);
-    bytes
-}
-
 #[test]
 fn example_written() {
     let mut buffer = vec![0xEE; 120];
-    let length = start(&mut buffer, 0, 1, b"UNITS\tMETERS\n").expect("room for it");
+    let length = start(&mut buffer, 0, 1, EXAMPLE_SHEET).expect("room for it");
     assert_eq!(length, 56);
     assert_eq!(listing(&buffer[..length]), b"R\t5\tF\t6\n");
-    let length = add_integers(&mut buffer, length, b"STACK\t1\n", 1, &[1, -1, 256]);
+    let length = add_integers(
+        &mut buffer,
+        length,
+        EXAMPLE_TRACE_SHEET,
+        1,
+        &EXAMPLE_SAMPLES,
+    );
     assert_eq!(length, Ok(108));
-    assert_eq!(buffer[..108], example_bytes());
+    assert_eq!(buffer[..108], example());
     assert_eq!(buffer[108..], [0xEE; 12]);
     let given = TraceGiven {
-        sheet: b"STACK\t1\n".to_vec(),
+        sheet: EXAMPLE_TRACE_SHEET.to_vec(),
         code: 1,
-        row: Row::Integers(vec![1, -1, 256]),
+        row: Row::Integers(EXAMPLE_SAMPLES.to_vec()),
     };
-    let defined = file_of(0, 1, b"UNITS\tMETERS\n", &[given]);
-    assert_eq!(defined, Ok(example_bytes()));
+    let defined = file_of(0, 1, EXAMPLE_SHEET, &[given]);
+    assert_eq!(defined, Ok(example()));
 }
 
 #[test]
 fn example_read() {
-    let bytes = example_bytes();
+    let bytes = example();
     let file = check(&bytes, bytes.len()).expect("a file");
     let found = &file.traces[0];
     assert_eq!((found.p, found.b, found.d, found.s), (56, 44, 8, 3));
     let mut row = [0; 3];
     assert_eq!(samples_as_integers(&bytes, 108, 0, &mut row), Ok(()));
-    assert_eq!(row, [1, -1, 256]);
+    assert_eq!(row, EXAMPLE_SAMPLES);
     let value = keyword_value(&bytes, 108, -1, b"UNITS");
     assert_eq!(&bytes[value], b"METERS");
     assert_eq!(&bytes[keyword_value(&bytes, 108, 0, b"STACK")], b"1");
@@ -143,10 +119,6 @@ fn example_read() {
 
 #[test]
 fn example_listed() {
-    let expected = "SEG2\tlow\t1\t4\n\
-                    S\tF\tUNITS\tMETERS\n\
-                    T\t0\t1\t3\n\
-                    S\t0\tSTACK\t1\n";
-    let listed = String::from_utf8(listing(&example_bytes())).expect("text");
-    assert_eq!(listed, expected);
+    let listed = String::from_utf8(listing(&example())).expect("text");
+    assert_eq!(listed, EXAMPLE_LISTED);
 }

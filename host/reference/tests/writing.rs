@@ -1,32 +1,23 @@
 //! Sheets, starts, additions, and the file that a list defines.
 
-use seg2_reference::generate::writing::{some_integer, some_pattern};
+mod common;
+
+use common::number_of;
+use seg2_reference::generate::writing::row_for;
 use seg2_reference::generate::*;
 use seg2_reference::sheet::{sheet_strings, SheetString};
 use seg2_reference::*;
-
-fn add(
-    buffer: &mut [u8],
-    length: usize,
-    sheet: &[u8],
-    code: u8,
-    row: &Row,
-) -> Result<usize, Refusal> {
-    match row {
-        Row::Integers(row) => add_integers(buffer, length, sheet, code, row),
-        Row::Bits(row) => add_bits(buffer, length, sheet, code, row),
-    }
-}
+use std::collections::BTreeSet;
 
 #[test]
 fn sheets() {
     let mut rng = Rng::new(31);
-    let mut met = std::collections::BTreeSet::new();
+    let mut met = BTreeSet::new();
     for _ in 0..6000 {
         let case = sheet_case(&mut rng);
         let text = String::from_utf8_lossy(&case.sheet).into_owned();
         assert_eq!(sheet_strings(&case.sheet), case.expected, "{text:?}");
-        met.insert(case.expected.map_or_else(|r| r.number, |_| 0));
+        met.insert(number_of(&case.expected));
     }
     assert_eq!(met, [0, 25, 26].into());
 }
@@ -35,14 +26,14 @@ fn sheets() {
 #[test]
 fn starts() {
     let mut rng = Rng::new(32);
-    let mut met = std::collections::BTreeSet::new();
+    let mut met = BTreeSet::new();
     for _ in 0..3000 {
         let case = start_case(&mut rng);
         let mut buffer = case.buffer.clone();
         let answer = start(&mut buffer, case.order, case.slots, &case.sheet);
         assert_eq!(answer, case.expected);
         assert_eq!(buffer, case.after);
-        met.insert(answer.map_or_else(|r| r.number, |_| 0));
+        met.insert(number_of(&answer));
         if let Ok(length) = answer {
             let file = check_for_addition(&buffer, length).expect("an image");
             assert_eq!((file.n, u64::from(file.m)), (0, 4 * case.slots));
@@ -107,7 +98,7 @@ fn code_3_law(given: i32, read: i32) {
 #[test]
 fn additions_on_any_file() {
     let mut rng = Rng::new(33);
-    let mut met = std::collections::BTreeSet::new();
+    let mut met = BTreeSet::new();
     for _ in 0..10_000 {
         let case = addition_case(&mut rng);
         let mut buffer = case.buffer.clone();
@@ -115,7 +106,7 @@ fn additions_on_any_file() {
         let answer = add(&mut buffer, case.length, &case.sheet, case.code, &case.row);
         assert_eq!(answer, case.expected);
         assert!(buffer == case.after);
-        met.insert(answer.map_or_else(|r| r.number, |_| 0));
+        met.insert(number_of(&answer));
         let Ok(length) = answer else {
             assert!(buffer == case.buffer);
             continue;
@@ -124,8 +115,7 @@ fn additions_on_any_file() {
         only_the_named_bytes_change(&case.buffer, &buffer, &before, case.length, length);
         reads_as_before_and_the_new_trace_last(&case, &buffer, &before, length);
     }
-    let met: Vec<u8> = met.into_iter().collect();
-    let expected: Vec<u8> = (0..=17).chain(24..=30).collect();
+    let expected: BTreeSet<u8> = (0..=17).chain(24..=30).collect();
     assert_eq!(met, expected);
 }
 
@@ -169,10 +159,7 @@ fn reads_as_before_and_the_new_trace_last(
 fn random_trace(rng: &mut Rng) -> TraceGiven {
     let code = rng.between(1, 5) as u8;
     let count = rng.pick(&[0, 4, 8, 12]) + if code == 3 { 0 } else { rng.between(0, 3) };
-    let row = match code {
-        1..=3 => Row::Integers((0..count).map(|_| some_integer(rng, code, false)).collect()),
-        _ => Row::Bits((0..count).map(|_| some_pattern(rng, code, false)).collect()),
-    };
+    let row = row_for(rng, code, count, false);
     TraceGiven {
         sheet: good_sheet(rng).sheet,
         code,

@@ -48,18 +48,10 @@ pub fn string(buffer: &[u8], length: usize, part: i32, index: usize) -> raw::Tex
 macro_rules! keyword_question {
     ($name:ident, $exported:ident, $answer:ident) => {
         pub fn $name(buffer: &[u8], length: usize, part: i32, key: &[u8]) -> raw::$answer {
+            let (bytes, size) = (buffer.as_ptr(), buffer.len());
+            let (letters, count) = (key.as_ptr(), key.len());
             // SAFETY: a place for the answer; pointer and size of two slices
-            answered(|a| unsafe {
-                raw::$exported(
-                    a,
-                    buffer.as_ptr(),
-                    buffer.len(),
-                    length,
-                    part,
-                    key.as_ptr(),
-                    key.len(),
-                )
-            })
+            answered(|a| unsafe { raw::$exported(a, bytes, size, length, part, letters, count) })
         }
     };
 }
@@ -71,17 +63,10 @@ keyword_question!(double, seg2_double, Double);
 keyword_question!(location, seg2_location, Location);
 
 pub fn integers(buffer: &[u8], length: usize, trace: i32, row: &mut [i32]) -> raw::Verdict {
+    let (bytes, size) = (buffer.as_ptr(), buffer.len());
+    let (to, count) = (row.as_mut_ptr(), row.len());
     // SAFETY: pointer and size of two slices, the second lent for writing
-    unsafe {
-        raw::seg2_integers(
-            buffer.as_ptr(),
-            buffer.len(),
-            length,
-            trace,
-            row.as_mut_ptr(),
-            row.len(),
-        )
-    }
+    unsafe { raw::seg2_integers(bytes, size, length, trace, to, count) }
 }
 
 pub fn bits(
@@ -91,34 +76,18 @@ pub fn bits(
     row: &mut [u64],
     classes: &mut [u8],
 ) -> raw::Verdict {
+    let (bytes, size) = (buffer.as_ptr(), buffer.len());
+    let (to, count) = (row.as_mut_ptr(), row.len());
+    let (class, class_count) = (classes.as_mut_ptr(), classes.len());
     // SAFETY: pointer and size of three slices, the last two lent for writing
-    unsafe {
-        raw::seg2_bits(
-            buffer.as_ptr(),
-            buffer.len(),
-            length,
-            trace,
-            row.as_mut_ptr(),
-            row.len(),
-            classes.as_mut_ptr(),
-            classes.len(),
-        )
-    }
+    unsafe { raw::seg2_bits(bytes, size, length, trace, to, count, class, class_count) }
 }
 
 pub fn start(buffer: &mut [u8], order: u32, slots: u32, sheet: &[u8]) -> raw::Length {
+    let (image, size) = (buffer.as_mut_ptr(), buffer.len());
+    let (text, text_size) = (sheet.as_ptr(), sheet.len());
     // SAFETY: a place for the answer; pointer and size of two slices, the first lent for writing
-    answered(|a| unsafe {
-        raw::seg2_start(
-            a,
-            buffer.as_mut_ptr(),
-            buffer.len(),
-            order,
-            slots,
-            sheet.as_ptr(),
-            sheet.len(),
-        )
-    })
+    answered(|a| unsafe { raw::seg2_start(a, image, size, order, slots, text, text_size) })
 }
 
 /// The two additions differ in their samples alone.
@@ -131,19 +100,12 @@ macro_rules! addition {
             code: u32,
             row: &[$sample],
         ) -> raw::Length {
+            let (image, size) = (buffer.as_mut_ptr(), buffer.len());
+            let (text, text_size) = (sheet.as_ptr(), sheet.len());
+            let (from, count) = (row.as_ptr(), row.len());
             // SAFETY: a place for the answer; pointer and size of three slices, the first lent for writing
             answered(|a| unsafe {
-                raw::$exported(
-                    a,
-                    buffer.as_mut_ptr(),
-                    buffer.len(),
-                    length,
-                    sheet.as_ptr(),
-                    sheet.len(),
-                    code,
-                    row.as_ptr(),
-                    row.len(),
-                )
+                raw::$exported(a, image, size, length, text, text_size, code, from, count)
             })
         }
     };

@@ -1,7 +1,7 @@
-//! An accepted file, its strings and its traces.
+//! An accepted file and its traces. What it is asked about its strings is `Part`'s.
 
 use crate::part::Part;
-use crate::{calls, raw, Location, Number, Order, Refusal, Trace, Walk};
+use crate::{calls, raw, Lines, Location, Number, Order, Refusal, Strings, Trace, Walk};
 
 /// A view of a file that the check has accepted. It borrows the bytes and copies none.
 ///
@@ -262,7 +262,7 @@ impl<'a> File<'a> {
     /// # Ok::<(), seg2::Refusal>(())
     /// ```
     pub fn strings(&self) -> Strings<'a> {
-        Strings::of(self.part)
+        self.part.strings()
     }
 
     /// Whether the file block has a keyword.
@@ -369,10 +369,7 @@ impl<'a> File<'a> {
     where
         'a: 'v,
     {
-        Lines {
-            rest: Some(value),
-            terminator: self.line_terminator(),
-        }
+        Lines::of(value, self.line_terminator())
     }
 
     /// The lines of the file's NOTE; none at all where it has none.
@@ -388,15 +385,7 @@ impl<'a> File<'a> {
     /// # Ok::<(), seg2::Refusal>(())
     /// ```
     pub fn note(&self) -> Lines<'a> {
-        self.note_of(self.part)
-    }
-
-    /// The lines of a part's NOTE.
-    pub(crate) fn note_of(&self, part: Part<'a>) -> Lines<'a> {
-        Lines {
-            rest: part.value(b"NOTE"),
-            terminator: self.line_terminator(),
-        }
+        self.part.note(self.line_terminator())
     }
 
     /// Another part of this file.
@@ -447,71 +436,3 @@ impl<'a> Iterator for Traces<'a> {
 }
 
 impl ExactSizeIterator for Traces<'_> {}
-
-/// Keyword and value of each string of a block, in order: [`File::strings`] and
-/// [`Trace::strings`].
-///
-/// ```
-/// # use seg2::{Builder, Order};
-/// # let mut shot = Builder::start(Order::Low, 1, b"UNITS\tMETERS\n")?;
-/// # shot.add_integers(b"", 1, &[7])?;
-/// # let bytes = shot.finish();
-/// let file = seg2::File::open(&bytes)?;
-/// assert_eq!(file.strings().next(), Some((&b"UNITS"[..], &b"METERS"[..])));
-/// # Ok::<(), seg2::Refusal>(())
-/// ```
-#[derive(Clone, Debug)]
-pub struct Strings<'a> {
-    part: Part<'a>,
-    next: usize,
-}
-
-impl<'a> Strings<'a> {
-    pub(crate) fn of(part: Part<'a>) -> Strings<'a> {
-        Strings { part, next: 0 }
-    }
-}
-
-impl<'a> Iterator for Strings<'a> {
-    type Item = (&'a [u8], &'a [u8]);
-
-    fn next(&mut self) -> Option<Self::Item> {
-        let string = self.part.string(self.next)?;
-        self.next += 1;
-        Some(string)
-    }
-}
-
-impl std::iter::FusedIterator for Strings<'_> {}
-
-/// The lines of a value, parted by whole line terminators from the left: [`File::lines`],
-/// [`File::note`] and [`Trace::note`].
-///
-/// ```
-/// # use seg2::{Builder, Order};
-/// # let mut shot = Builder::start(Order::Low, 1, b"NOTE\tWET\nNOTE\tCOLD\n")?;
-/// # shot.add_integers(b"", 1, &[7])?;
-/// # let bytes = shot.finish();
-/// let file = seg2::File::open(&bytes)?;
-/// assert_eq!(file.note().last(), Some(&b"COLD"[..]));
-/// # Ok::<(), seg2::Refusal>(())
-/// ```
-#[derive(Clone, Debug)]
-pub struct Lines<'a> {
-    rest: Option<&'a [u8]>,
-    terminator: &'a [u8],
-}
-
-impl<'a> Iterator for Lines<'a> {
-    type Item = &'a [u8];
-
-    fn next(&mut self) -> Option<&'a [u8]> {
-        let rest = self.rest?;
-        let size = self.terminator.len();
-        let cut = rest.windows(size).position(|w| w == self.terminator);
-        self.rest = cut.map(|at| &rest[at + size..]);
-        Some(cut.map_or(rest, |at| &rest[..at]))
-    }
-}
-
-impl std::iter::FusedIterator for Lines<'_> {}

@@ -50,7 +50,8 @@ mod trace;
 mod walk;
 mod write;
 
-pub use file::{File, Lines, Strings, Traces};
+pub use file::{File, Traces};
+pub use part::{Lines, Strings};
 pub use refusal::{text, Place, Refusal};
 pub use trace::{Bits, Class, Trace};
 pub use walk::{Step, Walk};

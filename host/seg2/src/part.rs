@@ -1,4 +1,5 @@
 //! The questions that the file and a trace share: strings, keywords, numbers in values.
+//! `File` and `Trace` hand them on, each with an example of its own.
 
 use crate::{calls, Location, Number, Refusal};
 
@@ -25,6 +26,13 @@ impl<'a> Part<'a> {
         (found.found == 1).then_some((keyword, value))
     }
 
+    pub fn strings(self) -> Strings<'a> {
+        Strings {
+            part: self,
+            next: 0,
+        }
+    }
+
     pub fn has(self, keyword: &[u8]) -> bool {
         calls::keyword(self.buffer, self.length, self.number, keyword).found == 1
     }
@@ -33,6 +41,14 @@ impl<'a> Part<'a> {
         let value = calls::value(self.buffer, self.length, self.number, keyword);
         // a no is start 0, where no value stands: not even an empty one is in the first 32 bytes
         (value.start > 0).then(|| &self.buffer[value.start..value.start + value.size])
+    }
+
+    /// The lines of its NOTE, by the file's line terminator.
+    pub fn note(self, terminator: &'a [u8]) -> Lines<'a> {
+        Lines {
+            rest: self.value(b"NOTE"),
+            terminator,
+        }
     }
 
     pub fn number(self, keyword: &[u8]) -> Result<Number, Refusal> {
@@ -59,3 +75,75 @@ impl<'a> Part<'a> {
         })
     }
 }
+
+/// Keyword and value of each string of a block, in order:
+/// [`File::strings`](crate::File::strings) and [`Trace::strings`](crate::Trace::strings).
+///
+/// ```
+/// # use seg2::{Builder, Order};
+/// # let mut shot = Builder::start(Order::Low, 1, b"UNITS\tMETERS\n")?;
+/// # shot.add_integers(b"", 1, &[7])?;
+/// # let bytes = shot.finish();
+/// let file = seg2::File::open(&bytes)?;
+/// assert_eq!(file.strings().next(), Some((&b"UNITS"[..], &b"METERS"[..])));
+/// # Ok::<(), seg2::Refusal>(())
+/// ```
+#[derive(Clone, Debug)]
+pub struct Strings<'a> {
+    part: Part<'a>,
+    next: usize,
+}
+
+impl<'a> Iterator for Strings<'a> {
+    type Item = (&'a [u8], &'a [u8]);
+
+    fn next(&mut self) -> Option<Self::Item> {
+        let string = self.part.string(self.next)?;
+        self.next += 1;
+        Some(string)
+    }
+}
+
+impl std::iter::FusedIterator for Strings<'_> {}
+
+/// The lines of a value, parted by whole line terminators from the left:
+/// [`File::lines`](crate::File::lines), [`File::note`](crate::File::note) and
+/// [`Trace::note`](crate::Trace::note).
+///
+/// ```
+/// # use seg2::{Builder, Order};
+/// # let mut shot = Builder::start(Order::Low, 1, b"NOTE\tWET\nNOTE\tCOLD\n")?;
+/// # shot.add_integers(b"", 1, &[7])?;
+/// # let bytes = shot.finish();
+/// let file = seg2::File::open(&bytes)?;
+/// assert_eq!(file.note().last(), Some(&b"COLD"[..]));
+/// # Ok::<(), seg2::Refusal>(())
+/// ```
+#[derive(Clone, Debug)]
+pub struct Lines<'a> {
+    rest: Option<&'a [u8]>,
+    terminator: &'a [u8],
+}
+
+impl<'a> Lines<'a> {
+    pub(crate) fn of(value: &'a [u8], terminator: &'a [u8]) -> Lines<'a> {
+        Lines {
+            rest: Some(value),
+            terminator,
+        }
+    }
+}
+
+impl<'a> Iterator for Lines<'a> {
+    type Item = &'a [u8];
+
+    fn next(&mut self) -> Option<&'a [u8]> {
+        let rest = self.rest?;
+        let size = self.terminator.len();
+        let cut = rest.windows(size).position(|w| w == self.terminator);
+        self.rest = cut.map(|at| &rest[at + size..]);
+        Some(cut.map_or(rest, |at| &rest[..at]))
+    }
+}
+
+impl std::iter::FusedIterator for Lines<'_> {}

@@ -1,4 +1,5 @@
-//! The exported functions as they are: what `include/seg2.h` declares, in Rust.
+//! The exported functions as they are: what `include/seg2.h` declares, in Rust. The
+//! answers' fields have the names that `crates/seg2` gives them.
 //!
 //! A slice goes as its pointer and its size, one behind the other. A struct of more
 //! than 16 bytes comes back through a place that is the first argument, on x86-64 and

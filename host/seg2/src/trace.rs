@@ -1,4 +1,5 @@
-//! A trace of an accepted file, and its samples.
+//! A trace of an accepted file, and its samples. What it is asked about its strings is
+//! `Part`'s.
 
 use crate::part::Part;
 use crate::{calls, code, raw, File, Lines, Location, Number, Refusal, Strings};
@@ -190,7 +191,7 @@ impl<'a> Trace<'a> {
     /// # Ok::<(), seg2::Refusal>(())
     /// ```
     pub fn strings(&self) -> Strings<'a> {
-        Strings::of(self.part)
+        self.part.strings()
     }
 
     /// Whether its block has a keyword.
@@ -279,7 +280,7 @@ impl<'a> Trace<'a> {
     /// # Ok::<(), seg2::Refusal>(())
     /// ```
     pub fn note(&self) -> Lines<'a> {
-        self.file.note_of(self.part)
+        self.part.note(self.file.line_terminator())
     }
 
     /// Whether its samples are whole numbers (codes 1 to 3) and not bit patterns. Free.

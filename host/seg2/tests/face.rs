@@ -4,7 +4,7 @@
 
 mod c;
 
-use c::{compiled, here, printed, root, Kept};
+use c::{compiled, here, printed, root, Temporary};
 use std::collections::BTreeMap;
 use std::mem::{offset_of, size_of};
 
@@ -155,7 +155,7 @@ fn the_header_lays_structs_out_as_the_library_does() {
         program += "    printf(\"\\n\");\n";
     }
     program += "    return 0;\n}\n";
-    let source = Kept::new("layout.c");
+    let source = Temporary::new("layout.c");
     std::fs::write(source.path(), program).expect("a source for the test");
     let program = compiled("cc", &["-std=c99"], source.path(), "layout").expect("a C compiler");
     let mut seen = 0;

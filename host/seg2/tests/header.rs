@@ -4,7 +4,7 @@
 
 mod c;
 
-use c::{compiled, here, printed, root, Kept};
+use c::{compiled, here, printed, root, Temporary};
 
 /// What header.c prints before the table's words.
 const ANSWERS: &str = "\
@@ -115,7 +115,7 @@ fn the_first_lines_of_c_in_the_docs_work() {
     let page = std::fs::read_to_string(root().join("docs/USING.md")).expect("the page");
     let (_, lines) = page.split_once("```c\n").expect("lines of C");
     let (lines, _) = lines.split_once("```").expect("their end");
-    let source = Kept::new("using.c");
+    let source = Temporary::new("using.c");
     std::fs::write(source.path(), lines).expect("a source for the test");
     let options = [&["-std=c99"], &SANITIZED[..]].concat();
     let program = compiled("cc", &options, source.path(), "using").expect("a C compiler");

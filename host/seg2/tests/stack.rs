@@ -3,16 +3,16 @@
 
 mod c;
 
-use c::{compiled, here, printed, root, Kept};
+use c::{compiled, here, printed, root, Temporary};
 use std::os::unix::process::ExitStatusExt;
 use std::process::{Command, Output};
 
-fn program(name: &str) -> Kept {
+fn program(name: &str) -> Temporary {
     let source = here().join("tests/stack.c");
     compiled("cc", &["-std=c99", "-O1"], &source, name).expect("a C compiler")
 }
 
-fn run(program: &Kept, words: &[&str]) -> Output {
+fn run(program: &Temporary, words: &[&str]) -> Output {
     let mut command = Command::new(program.path());
     command.args(words).output().expect("the program runs")
 }

@@ -4,7 +4,7 @@
 use seg2::{Builder, File, Location, Number, Order, Refusal, Step};
 use seg2_reference as reference;
 use seg2_reference::generate::{
-    addition_case, good_sheet, sample_case, Model, Rng, SampleQuestion,
+    addition_case, good_sheet, sample_case, Laid, Model, Rng, SampleQuestion,
 };
 
 fn told(refusal: reference::Refusal) -> Refusal {
@@ -13,6 +13,13 @@ fn told(refusal: reference::Refusal) -> Refusal {
         part: refusal.part.try_into().expect("a part of 32 bits"),
         place: refusal.place.try_into().expect("a place in a buffer"),
     }
+}
+
+/// A valid file by the wrapper and by the independent reader.
+fn both(laid: &Laid) -> (File<'_>, reference::File) {
+    let file = File::open_prefix(&laid.buffer, laid.length).expect("a valid file");
+    let expected = reference::check(&laid.buffer, laid.length).expect("a valid file");
+    (file, expected)
 }
 
 type Pairs<'a> = Vec<(&'a [u8], &'a [u8])>;
@@ -28,8 +35,7 @@ fn a_file_is_read_as_the_reference_reads_it() {
     let mut rng = Rng::new(201);
     for _ in 0..1500 {
         let laid = Model::random(&mut rng).lay();
-        let expected = reference::check(&laid.buffer, laid.length).expect("a valid file");
-        let file = File::open_prefix(&laid.buffer, laid.length).expect("a valid file");
+        let (file, expected) = both(&laid);
         assert_eq!(file.bytes(), &laid.buffer[..laid.length]);
         assert_eq!(file.high_first(), expected.order == reference::Order::High);
         assert_eq!(file.order() == Order::High, file.high_first());
@@ -62,8 +68,7 @@ fn values_are_the_buffers_own_bytes() {
     let mut rng = Rng::new(202);
     for _ in 0..1500 {
         let laid = Model::random(&mut rng).lay();
-        let file = File::open_prefix(&laid.buffer, laid.length).expect("a valid file");
-        let expected = reference::check(&laid.buffer, laid.length).expect("a valid file");
+        let (file, expected) = both(&laid);
         for string in &expected.strings {
             let keyword = &laid.buffer[string.keyword.clone()];
             let value = file.value(keyword).expect("a value");
@@ -137,8 +142,7 @@ fn lines_are_parted_as_the_reference_parts_them() {
     let mut notes = 0;
     for _ in 0..3000 {
         let laid = Model::random(&mut rng).lay();
-        let expected = reference::check(&laid.buffer, laid.length).expect("a valid file");
-        let file = File::open_prefix(&laid.buffer, laid.length).expect("a valid file");
+        let (file, expected) = both(&laid);
         for trace in file.traces() {
             let Some(value) = trace.value(b"NOTE") else {
                 assert_eq!(trace.note().count(), 0);

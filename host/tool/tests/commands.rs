@@ -6,6 +6,7 @@ use std::process::{Command, Output, Stdio};
 
 use seg2::{Builder, Order};
 use seg2_reference::generate::{damaged, mutated, Model, Rng, WAYS};
+use seg2_reference::worked::{example, EXAMPLE_LISTED};
 
 /// A folder for one test, removed at its end.
 struct Folder(PathBuf);
@@ -61,13 +62,29 @@ macro_rules! run {
 }
 
 /// Exit status, output, errors.
-fn ended(out: Output) -> (i32, String, String) {
+type Ended = (i32, String, String);
+
+fn ended(out: Output) -> Ended {
     let status = out.status.code().expect("an exit status");
     (status, text(&out.stdout), text(&out.stderr))
 }
 
+/// Adds a trace to a file.
+fn add(shot: &Path, sheet: &Path, code: &str, samples: &Path) -> Ended {
+    run!(
+        "add",
+        shot,
+        "--sheet",
+        sheet,
+        "--code",
+        code,
+        "--samples",
+        samples
+    )
+}
+
 /// One sentence on standard error, nothing on standard output, status 2.
-fn sentence(ended: (i32, String, String), says: &str) {
+fn sentence(ended: Ended, says: &str) {
     let (status, out, error) = ended;
     assert_eq!((status, out.as_str()), (2, ""), "{error}");
     assert!(
@@ -78,79 +95,49 @@ fn sentence(ended: (i32, String, String), says: &str) {
     assert!(!error.contains("panicked"), "{error}");
 }
 
-/// Document 01's example: one slot, UNITS METERS, one trace of code 1 with samples 1, -1,
-/// 256 and STACK 1.
-fn example() -> Vec<u8> {
-    let mut shot = Builder::start(Order::Low, 1, b"UNITS\tMETERS\n").expect("a start");
-    let added = shot.add_integers(b"STACK\t1\n", 1, &[1, -1, 256]);
-    added.expect("a trace");
-    shot.finish()
-}
-
-const EXAMPLE_LISTED: &str = "SEG2\tlow\t1\t4\nS\tF\tUNITS\tMETERS\nT\t0\t1\t3\nS\t0\tSTACK\t1\n";
-
 // ---- words
 
 #[test]
 fn what_is_not_understood_is_status_2() {
-    sentence(run!(), "seg2 check FILE..");
-    sentence(run!("chekc", "a"), "`chekc` is no command");
-    sentence(run!("check"), "usage: seg2 check FILE..");
-    sentence(run!("list"), "usage: seg2 list FILE");
-    sentence(run!("list", "a", "b"), "usage: seg2 list FILE");
-    sentence(
-        run!("list", "--bits", "a"),
-        "--bits is no option of this command",
-    );
-    sentence(run!("samples", "a"), "usage: seg2 samples FILE TRACE");
-    sentence(
-        run!("samples", "a", "first"),
-        "`first` is no trace's number",
-    );
-    sentence(run!("samples", "a", "-1"), "`-1` is no trace's number");
-    sentence(
-        run!("samples", "a", "0", "--bits", "--bits"),
-        "--bits is given twice",
-    );
-    sentence(run!("new", "a"), "--order is missing");
-    sentence(run!("new", "a", "--order", "low"), "--slots is missing");
-    sentence(run!("new", "a", "--order"), "--order needs a value");
-    sentence(
-        run!("new", "--order", "low", "--slots", "1"),
-        "usage: seg2 new FILE",
-    );
-    sentence(
-        run!("new", "a", "--order", "up", "--slots", "1"),
-        "`up` is no byte order",
-    );
-    sentence(
-        run!("new", "a", "--order", "low", "--slots", "few"),
-        "`few` is no number of pointer slots",
-    );
-    sentence(
-        run!("add", "a", "--code", "1", "--samples", "b"),
-        "--sheet is missing",
-    );
-    sentence(
-        run!("add", "a", "--sheet", "b", "--samples", "c"),
-        "--code is missing",
-    );
-    sentence(
-        run!("add", "a", "--sheet", "b", "--code", "1"),
-        "--samples is missing",
-    );
-    sentence(
-        run!("add", "a", "--sheet", "b", "--code", "6", "--samples", "c"),
-        "`6` is no format code",
-    );
-    sentence(
-        run!("add", "a", "--sheet", "b", "--code", "x", "--samples", "c"),
-        "`x` is no format code",
-    );
-    sentence(run!("explain"), "usage: seg2 explain NUMBER");
-    sentence(run!("explain", "0"), "the table has no number 0");
-    sentence(run!("explain", "34"), "the table has no number 34");
-    sentence(run!("explain", "x"), "`x` is no refusal's number");
+    for (words, says) in [
+        ("", "seg2 check FILE.."),
+        ("chekc a", "`chekc` is no command"),
+        ("check", "usage: seg2 check FILE.."),
+        ("list", "usage: seg2 list FILE"),
+        ("list a b", "usage: seg2 list FILE"),
+        ("list --bits a", "--bits is no option of this command"),
+        ("samples a", "usage: seg2 samples FILE TRACE"),
+        ("samples a first", "`first` is no trace's number"),
+        ("samples a -1", "`-1` is no trace's number"),
+        ("samples a 0 --bits --bits", "--bits is given twice"),
+        ("new a", "--order is missing"),
+        ("new a --order low", "--slots is missing"),
+        ("new a --order", "--order needs a value"),
+        ("new --order low --slots 1", "usage: seg2 new FILE"),
+        ("new a --order up --slots 1", "`up` is no byte order"),
+        (
+            "new a --order low --slots few",
+            "`few` is no number of pointer slots",
+        ),
+        ("add a --code 1 --samples b", "--sheet is missing"),
+        ("add a --sheet b --samples c", "--code is missing"),
+        ("add a --sheet b --code 1", "--samples is missing"),
+        (
+            "add a --sheet b --code 6 --samples c",
+            "`6` is no format code",
+        ),
+        (
+            "add a --sheet b --code x --samples c",
+            "`x` is no format code",
+        ),
+        ("explain", "usage: seg2 explain NUMBER"),
+        ("explain 0", "the table has no number 0"),
+        ("explain 34", "the table has no number 34"),
+        ("explain x", "`x` is no refusal's number"),
+    ] {
+        let out = tool().args(words.split_whitespace()).output();
+        sentence(ended(out.expect("the tool runs")), says);
+    }
 }
 
 #[test]
@@ -188,61 +175,13 @@ fn files_that_cannot_be_read_get_a_sentence() {
         sentence(run!("check", path), says);
         sentence(run!("list", path), says);
         sentence(run!("samples", path, "0"), says);
-        sentence(
-            run!(
-                "add",
-                path,
-                "--sheet",
-                sheet,
-                "--code",
-                "1",
-                "--samples",
-                samples
-            ),
-            says,
-        );
+        sentence(add(&path, &sheet, "1", &samples), says);
     }
     let shot = folder.keep("shot", example());
     let no_file = "cannot be read: there is no such file";
-    sentence(
-        run!(
-            "add",
-            shot,
-            "--sheet",
-            missing,
-            "--code",
-            "1",
-            "--samples",
-            samples
-        ),
-        no_file,
-    );
-    sentence(
-        run!(
-            "add",
-            shot,
-            "--sheet",
-            sheet,
-            "--code",
-            "1",
-            "--samples",
-            missing
-        ),
-        no_file,
-    );
-    sentence(
-        run!(
-            "add",
-            shot,
-            "--sheet",
-            folder.0,
-            "--code",
-            "1",
-            "--samples",
-            samples
-        ),
-        "is a folder",
-    );
+    sentence(add(&shot, &missing, "1", &samples), no_file);
+    sentence(add(&shot, &sheet, "1", &missing), no_file);
+    sentence(add(&shot, &folder.0, "1", &samples), "is a folder");
     let new = folder.path("new");
     sentence(
         run!("new", new, "--order", "low", "--slots", "1", "--sheet", missing),
@@ -548,31 +487,13 @@ fn a_file_is_started_and_traces_are_added() {
         out.contains("started with 1 pointer slots, 56 bytes"),
         "{out}"
     );
-    let (status, out, error) = run!(
-        "add",
-        shot,
-        "--sheet",
-        stack,
-        "--code",
-        "1",
-        "--samples",
-        samples
-    );
+    let (status, out, error) = add(&shot, &stack, "1", &samples);
     assert_eq!((status, error.as_str()), (0, ""));
     assert!(out.ends_with("trace 0 added, now 108 bytes\n"), "{out}");
     assert_eq!(std::fs::read(&shot).expect("the file"), example());
     assert_eq!(run!("list", shot).1, EXAMPLE_LISTED);
     // no slot is left; the file stays, and nothing is left beside it
-    let (status, out, error) = run!(
-        "add",
-        shot,
-        "--sheet",
-        stack,
-        "--code",
-        "1",
-        "--samples",
-        samples
-    );
+    let (status, out, error) = add(&shot, &stack, "1", &samples);
     assert_eq!((status, out.as_str()), (1, ""));
     assert!(
         error.contains("refused (24): no pointer slot is free"),
@@ -590,34 +511,8 @@ fn what_samples_prints_add_reads() {
     assert_eq!(run!("new", shot, "--order", "high", "--slots", "4").0, 0);
     let floats = folder.keep("floats", "0.1\n-0.0\ninf\n-inf\n1e-45\n0x7f800001\n");
     let doubles = folder.keep("doubles", "0.1\n-1e300\n0x7ff0000000000001\n5e-324\n");
-    assert_eq!(
-        run!(
-            "add",
-            shot,
-            "--sheet",
-            none,
-            "--code",
-            "4",
-            "--samples",
-            floats
-        )
-        .0,
-        0
-    );
-    assert_eq!(
-        run!(
-            "add",
-            shot,
-            "--sheet",
-            none,
-            "--code",
-            "5",
-            "--samples",
-            doubles
-        )
-        .0,
-        0
-    );
+    assert_eq!(add(&shot, &none, "4", &floats).0, 0);
+    assert_eq!(add(&shot, &none, "5", &doubles).0, 0);
     let said = run!("samples", shot, "0").1;
     assert_eq!(said, "0.1\n-0.0\ninf\n-inf\n1e-45\nnan\n");
     let bits = run!("samples", shot, "0", "--bits").1;
@@ -627,20 +522,7 @@ fn what_samples_prints_add_reads() {
     for (from, to, code) in [("0", "2", "4"), ("1", "3", "5")] {
         let bits = run!("samples", shot, from, "--bits").1;
         let given = folder.keep("bits", &bits);
-        assert_eq!(
-            run!(
-                "add",
-                shot,
-                "--sheet",
-                none,
-                "--code",
-                code,
-                "--samples",
-                given
-            )
-            .0,
-            0
-        );
+        assert_eq!(add(&shot, &none, code, &given).0, 0);
         assert_eq!(run!("samples", shot, to, "--bits").1, bits);
     }
     assert_eq!(run!("check", shot).0, 0);
@@ -695,16 +577,7 @@ fn add_is_refused_by_the_rules_and_leaves_the_file() {
     let none = folder.keep("none", "");
     let refused = |code: &str, samples: &str, sheet: &Path, says: &str| {
         let samples = folder.keep("samples", samples);
-        let (status, out, error) = run!(
-            "add",
-            shot,
-            "--sheet",
-            sheet,
-            "--code",
-            code,
-            "--samples",
-            samples
-        );
+        let (status, out, error) = add(&shot, sheet, code, &samples);
         assert_eq!((status, out.as_str()), (1, ""), "{error}");
         assert!(error.contains(says), "{error}");
         assert_eq!(std::fs::read(&shot).expect("the file"), before);
@@ -722,16 +595,7 @@ fn add_is_refused_by_the_rules_and_leaves_the_file() {
     broken[8] = 3;
     let broken = folder.keep("broken", &broken);
     let samples = folder.keep("samples", "1\n");
-    let (status, _, error) = run!(
-        "add",
-        broken,
-        "--sheet",
-        none,
-        "--code",
-        "1",
-        "--samples",
-        samples
-    );
+    let (status, _, error) = add(&broken, &none, "1", &samples);
     assert_eq!(status, 1);
     assert!(
         error.contains("refused (6) in the file at byte 8") && error.contains("[03]"),
@@ -776,34 +640,10 @@ fn samples_that_are_no_numbers_get_a_sentence() {
         ),
     ] {
         let samples = folder.keep("samples", samples);
-        sentence(
-            run!(
-                "add",
-                shot,
-                "--sheet",
-                none,
-                "--code",
-                code,
-                "--samples",
-                samples
-            ),
-            says,
-        );
+        sentence(add(&shot, &none, code, &samples), says);
     }
     let samples = folder.keep("samples", [0xFF, 0xFE]);
-    sentence(
-        run!(
-            "add",
-            shot,
-            "--sheet",
-            none,
-            "--code",
-            "1",
-            "--samples",
-            samples
-        ),
-        "is no text",
-    );
+    sentence(add(&shot, &none, "1", &samples), "is no text");
 }
 
 /// Runs an addition that may write no more than some KiB, so that it cannot end.
@@ -859,20 +699,7 @@ fn an_addition_follows_a_link_and_keeps_the_mode() {
     let link = folder.path("link");
     std::os::unix::fs::symlink(&shot, &link).expect("a link");
     let (none, samples) = (folder.keep("none", ""), folder.keep("samples", "1\n"));
-    assert_eq!(
-        run!(
-            "add",
-            link,
-            "--sheet",
-            none,
-            "--code",
-            "1",
-            "--samples",
-            samples
-        )
-        .0,
-        0
-    );
+    assert_eq!(add(&link, &none, "1", &samples).0, 0);
     let about = std::fs::symlink_metadata(&link).expect("the link");
     assert!(about.is_symlink());
     let about = std::fs::metadata(&shot).expect("the file");

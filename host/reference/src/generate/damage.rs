@@ -91,7 +91,7 @@ pub fn damaged_image(rng: &mut Rng) -> Damaged {
 }
 
 /// The given file or image damaged in the given way, if it has what that takes.
-pub fn damaged_in(rng: &mut Rng, way: &Way, mut model: Model) -> Option<Damaged> {
+fn damaged_in(rng: &mut Rng, way: &Way, mut model: Model) -> Option<Damaged> {
     match way.how {
         How::Bytes(change) | How::Alone(change) => {
             let mut laid = model.lay();

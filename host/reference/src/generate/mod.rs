@@ -19,7 +19,7 @@ pub mod ways;
 pub mod writing;
 
 pub use asking::{mutated, sample_case, too_long_for_listing, SampleCase, SampleQuestion};
-pub use damage::{damaged, damaged_image, damaged_in, several_damages, Damaged, Scope, Way};
+pub use damage::{damaged, damaged_image, several_damages, Damaged, Scope, Way};
 pub use lay::Laid;
 pub use model::Model;
 pub use numbers::{location_case, number_case, LocationCase, NumberCase};

@@ -274,7 +274,7 @@ const ODD_KEYWORDS: &[&str] = &[
 ];
 
 /// Any keyword but NOTE.
-pub fn random_keyword(rng: &mut Rng) -> Vec<u8> {
+fn random_keyword(rng: &mut Rng) -> Vec<u8> {
     match rng.between(0, 3) {
         0 => rng.pick(ODD_KEYWORDS).into(),
         1 | 2 => rng.pick(KEYWORDS).into(),
@@ -297,14 +297,14 @@ fn random_keyword_character(rng: &mut Rng) -> u8 {
 }
 
 /// Different keywords in byte order, without NOTE.
-pub fn rising_keywords(rng: &mut Rng, at_most: usize) -> Vec<Vec<u8>> {
+pub(super) fn rising_keywords(rng: &mut Rng, at_most: usize) -> Vec<Vec<u8>> {
     let keywords: BTreeSet<Vec<u8>> = (0..at_most).map(|_| random_keyword(rng)).collect();
     keywords.into_iter().collect()
 }
 
 /// A text that no separator can swallow: empty, or not starting with a blank. It
 /// may end with blanks. Tabs only where they are allowed.
-pub fn random_text(rng: &mut Rng, tabs: bool) -> Vec<u8> {
+pub(super) fn random_text(rng: &mut Rng, tabs: bool) -> Vec<u8> {
     match rng.between(0, 9) {
         0 | 1 => Vec::new(),
         2 => rng.pick(&["12", "-34.6", "0.020", "METERS", "x  "]).into(),
@@ -333,7 +333,7 @@ fn random_line(rng: &mut Rng, length: usize, tabs: bool) -> Vec<u8> {
 }
 
 /// The lines of a NOTE: the first is a text, later ones may start with blanks.
-pub fn random_note_lines(rng: &mut Rng, tabs: bool) -> Vec<Vec<u8>> {
+pub(super) fn random_note_lines(rng: &mut Rng, tabs: bool) -> Vec<Vec<u8>> {
     let mut lines = vec![random_text(rng, tabs)];
     for _ in 0..rng.pick(&[0, 0, 1, 2, 4]) {
         let length = rng.pick(&[0, 0, 1, 5, 12]);
@@ -388,19 +388,22 @@ impl TraceModel {
         let gap = rng.pick(&[0, 0, 0, 4, 8, 40]);
         let slack = rng.pick(&[0, 0, 1, 4, 30]);
         let code = rng.between(1, 5);
+        let (gap, reserved) = (rng.junk(gap), rng.junk(19));
+        let area = AreaModel::random(rng);
+        let count = rng.pick(&[0, 1, 2, 3, 4, 8, 17]);
         TraceModel {
-            gap: rng.junk(gap),
-            reserved: rng.junk(19),
-            area: AreaModel::random(rng),
-            samples: SamplesModel::random(rng, code),
+            gap,
+            reserved,
+            area,
+            samples: SamplesModel::random(rng, code, count),
             slack: rng.junk(slack),
         }
     }
 }
 
 impl SamplesModel {
-    fn random(rng: &mut Rng, code: usize) -> SamplesModel {
-        let count = rng.pick(&[0, 1, 2, 3, 4, 8, 17]);
+    /// So many samples; under code 3 as many of them as make whole groups.
+    pub fn random(rng: &mut Rng, code: usize, count: usize) -> SamplesModel {
         match code {
             1 => SamplesModel::Code1((0..count).map(|_| random_i32(rng) as i16).collect()),
             2 => SamplesModel::Code2((0..count).map(|_| random_i32(rng)).collect()),
@@ -415,7 +418,7 @@ impl SamplesModel {
 }
 
 /// Edges, small numbers and any numbers.
-pub fn random_i32(rng: &mut Rng) -> i32 {
+pub(super) fn random_i32(rng: &mut Rng) -> i32 {
     match rng.between(0, 2) {
         0 => rng.pick(&[
             0,
@@ -447,14 +450,14 @@ fn random_float20(rng: &mut Rng) -> Float20 {
 }
 
 /// Sign, exponent bits and fraction, each often all 0 or all 1.
-pub fn random_code_4(rng: &mut Rng) -> u32 {
+pub(super) fn random_code_4(rng: &mut Rng) -> u32 {
     let any = rng.bits() as u32;
     let exponent = rng.pick(&[0, 0xFF, 127, 1, 254, (any >> 23) & 0xFF]);
     let fraction = rng.pick(&[0, 1, 0x7F_FFFF, any & 0x7F_FFFF]);
     (any & 0x8000_0000) | (exponent << 23) | fraction
 }
 
-pub fn random_code_5(rng: &mut Rng) -> u64 {
+pub(super) fn random_code_5(rng: &mut Rng) -> u64 {
     let any = rng.bits();
     let exponent = rng.pick(&[0, 0x7FF, 1023, 1, 2046, (any >> 52) & 0x7FF]);
     let fraction = rng.pick(&[0, 1, 0xF_FFFF_FFFF_FFFF, any & 0xF_FFFF_FFFF_FFFF]);

@@ -13,6 +13,13 @@ pub struct NumberCase {
     pub double: Result<f64, Refusal>,
 }
 
+impl NumberCase {
+    /// The row that refuses it as a double; 0 where none does.
+    pub fn row(&self) -> u8 {
+        self.double.map_or_else(|refusal| refusal.number, |_| 0)
+    }
+}
+
 pub fn number_case(rng: &mut Rng) -> NumberCase {
     if rng.one_in(4) {
         return NumberCase {
@@ -153,6 +160,14 @@ fn no_number(rng: &mut Rng) -> Vec<u8> {
 pub struct LocationCase {
     pub text: Vec<u8>,
     pub expected: Result<Location, Refusal>,
+}
+
+impl LocationCase {
+    /// How many values it has, or the row that refuses it.
+    pub fn kind(&self) -> Result<u8, u8> {
+        let count = self.expected.map(|location| location.count);
+        count.map_err(|refusal| refusal.number)
+    }
 }
 
 pub fn location_case(rng: &mut Rng) -> LocationCase {

@@ -251,8 +251,11 @@ fn some_row(rng: &mut Rng) -> (u8, Row, [Option<Refusal>; 2]) {
         } else {
             good
         };
-        let row: Vec<i32> = (0..count).map(|_| some_integer(rng, code, wild)).collect();
-        let no_kind = when(!(1..=3).contains(&code) || code == 3 && count % 4 != 0, 28);
+        let row = some_integers(rng, code, count, wild);
+        let no_kind = when(
+            !(1..=3).contains(&code) || code == 3 && !count.is_multiple_of(4),
+            28,
+        );
         let outside = row.iter().position(|&v| is_outside(code, v));
         let outside = outside.map(|index| Refusal::file(29, index));
         (code, Row::Integers(row), [no_kind, outside])
@@ -263,7 +266,7 @@ fn some_row(rng: &mut Rng) -> (u8, Row, [Option<Refusal>; 2]) {
         } else {
             good
         };
-        let row: Vec<u64> = (0..count).map(|_| some_pattern(rng, code, wild)).collect();
+        let row = some_patterns(rng, code, count, wild);
         let no_kind = when(!(4..=5).contains(&code), 28);
         let outside = row.iter().position(|&v| code == 4 && v >> 32 != 0);
         let outside = outside.map(|index| Refusal::file(29, index));
@@ -279,8 +282,26 @@ fn is_outside(code: u8, sample: i32) -> bool {
     }
 }
 
-/// A sample that fits its code, unless the row is wild.
-pub fn some_integer(rng: &mut Rng, code: u8, wild: bool) -> i32 {
+/// A row for a code, of integers or of patterns as the code has them. Its samples fit
+/// the code, unless the row is wild.
+pub fn row_for(rng: &mut Rng, code: u8, count: usize, wild: bool) -> Row {
+    match code {
+        1..=3 => Row::Integers(some_integers(rng, code, count, wild)),
+        _ => Row::Bits(some_patterns(rng, code, count, wild)),
+    }
+}
+
+/// So many samples that fit their code, unless the row is wild.
+pub fn some_integers(rng: &mut Rng, code: u8, count: usize, wild: bool) -> Vec<i32> {
+    (0..count).map(|_| some_integer(rng, code, wild)).collect()
+}
+
+/// So many patterns that fit their code, unless the row is wild.
+pub fn some_patterns(rng: &mut Rng, code: u8, count: usize, wild: bool) -> Vec<u64> {
+    (0..count).map(|_| some_pattern(rng, code, wild)).collect()
+}
+
+fn some_integer(rng: &mut Rng, code: u8, wild: bool) -> i32 {
     loop {
         let sample = random_i32(rng);
         if !is_outside(code, sample) || wild && rng.one_in(3) {
@@ -289,8 +310,7 @@ pub fn some_integer(rng: &mut Rng, code: u8, wild: bool) -> i32 {
     }
 }
 
-/// A pattern that fits its code, unless the row is wild.
-pub fn some_pattern(rng: &mut Rng, code: u8, wild: bool) -> u64 {
+fn some_pattern(rng: &mut Rng, code: u8, wild: bool) -> u64 {
     if code == 5 || wild && rng.one_in(4) {
         let far = rng.pick(&[1 << 32, u64::MAX]);
         let any = random_code_5(rng);

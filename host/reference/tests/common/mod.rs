@@ -1,4 +1,5 @@
-//! Small files written out by hand, for rules with one right answer.
+//! Small files written out by hand, for rules with one right answer, and short words for
+//! answers.
 #![allow(dead_code)]
 
 use seg2_reference::{check_for_addition, Refusal};
@@ -98,10 +99,11 @@ pub fn pairs(of: &[(&str, &str)]) -> Result<Vec<(String, String)>, (u8, u64)> {
         .collect())
 }
 
-pub fn refusal(number: u8, part: i64, place: u64) -> Refusal {
-    Refusal {
-        number,
-        part,
-        place,
-    }
+pub fn refusal(number: u8, part: i64, place: usize) -> Refusal {
+    Refusal::new(number, part, place)
+}
+
+/// The row that an answer is refused by, 0 where it is none.
+pub fn number_of<T>(answer: &Result<T, Refusal>) -> u8 {
+    answer.as_ref().err().map_or(0, |refusal| refusal.number)
 }

@@ -12,11 +12,11 @@ pub fn root() -> PathBuf {
 }
 
 /// A file that is removed with this value.
-pub struct Kept(pub PathBuf);
+pub struct Temporary(PathBuf);
 
-impl Kept {
-    pub fn new(name: &str) -> Kept {
-        Kept(std::env::temp_dir().join(format!("seg2-{}-{name}", std::process::id())))
+impl Temporary {
+    pub fn new(name: &str) -> Temporary {
+        Temporary(std::env::temp_dir().join(format!("seg2-{}-{name}", std::process::id())))
     }
 
     pub fn path(&self) -> &Path {
@@ -24,15 +24,15 @@ impl Kept {
     }
 }
 
-impl Drop for Kept {
+impl Drop for Temporary {
     fn drop(&mut self) {
         let _ = std::fs::remove_file(&self.0);
     }
 }
 
 /// Compiles a source with warnings as errors; none where there is no such compiler.
-pub fn compiled(compiler: &str, options: &[&str], source: &Path, name: &str) -> Option<Kept> {
-    let program = Kept::new(name);
+pub fn compiled(compiler: &str, options: &[&str], source: &Path, name: &str) -> Option<Temporary> {
+    let program = Temporary::new(name);
     let status = Command::new(compiler)
         .args(options)
         .args(["-Wall", "-Wextra", "-Wpedantic", "-Werror", "-I"])
@@ -53,7 +53,7 @@ pub fn compiled(compiler: &str, options: &[&str], source: &Path, name: &str) -> 
 }
 
 /// What a program prints; its exit status is 0.
-pub fn printed(program: &Kept) -> String {
+pub fn printed(program: &Temporary) -> String {
     let out = Command::new(program.path())
         // nothing is allocated, and the sanitizer's search for leaks takes seconds
         .env("ASAN_OPTIONS", "detect_leaks=0")

@@ -476,7 +476,7 @@ public final class Seg2 {
      */
     public static Verdict integers(ByteBuffer buffer, long length, int trace, int[] row) {
         long[] a = new long[3];
-        nativeIntegersArray(lent(buffer), buffer.limit(), length, trace, there(row), a);
+        nativeIntegersArray(lent(buffer), buffer.limit(), length, trace, there(row, "row"), a);
         return new Verdict(a);
     }
 
@@ -486,7 +486,7 @@ public final class Seg2 {
      */
     public static Verdict integers(ByteBuffer buffer, long length, int trace, IntBuffer row) {
         long[] a = new long[3];
-        if (there(row).isReadOnly()) {
+        if (direct(row).isReadOnly()) {
             throw new IllegalArgumentException("the row is read-only, and the samples go into it");
         }
         nativeIntegersBuffer(lent(buffer), buffer.limit(), length, trace, row, row.limit(), a);
@@ -500,10 +500,7 @@ public final class Seg2 {
      */
     public static Verdict bits(ByteBuffer buffer, long length, int trace, long[] row, byte[] classes) {
         long[] a = new long[3];
-        if (row == null || classes == null) {
-            throw new IllegalArgumentException("a row is null");
-        }
-        nativeBits(lent(buffer), buffer.limit(), length, trace, row, classes, a);
+        nativeBits(lent(buffer), buffer.limit(), length, trace, there(row, "row"), there(classes, "classes' row"), a);
         return new Verdict(a);
     }
 
@@ -532,7 +529,7 @@ public final class Seg2 {
      */
     public static Length addIntegers(ByteBuffer buffer, long length, byte[] sheet, int code, int[] row) {
         long[] a = new long[4];
-        nativeAddIntegersArray(written(buffer), buffer.limit(), length, there(sheet, "sheet"), code, there(row), a);
+        nativeAddIntegersArray(written(buffer), buffer.limit(), length, there(sheet, "sheet"), code, there(row, "row"), a);
         return new Length(a);
     }
 
@@ -544,8 +541,7 @@ public final class Seg2 {
     /** The same, straight from a direct buffer's memory, without a copy: its elements from 0 to its limit are the row. */
     public static Length addIntegers(ByteBuffer buffer, long length, byte[] sheet, int code, IntBuffer row) {
         long[] a = new long[4];
-        there(row);
-        nativeAddIntegersBuffer(written(buffer), buffer.limit(), length, there(sheet, "sheet"), code, row, row.limit(), a);
+        nativeAddIntegersBuffer(written(buffer), buffer.limit(), length, there(sheet, "sheet"), code, direct(row), row.limit(), a);
         return new Length(a);
     }
 
@@ -557,10 +553,7 @@ public final class Seg2 {
     /** Adds a trace of code 4 or 5 from bit patterns, in the same way and with the same refusals, by way of a copy. */
     public static Length addBits(ByteBuffer buffer, long length, byte[] sheet, int code, long[] row) {
         long[] a = new long[4];
-        if (row == null) {
-            throw new IllegalArgumentException("the row is null");
-        }
-        nativeAddBits(written(buffer), buffer.limit(), length, there(sheet, "sheet"), code, row, a);
+        nativeAddBits(written(buffer), buffer.limit(), length, there(sheet, "sheet"), code, there(row, "row"), a);
         return new Length(a);
     }
 
@@ -571,11 +564,15 @@ public final class Seg2 {
 
     // ---- what is lent
 
-    private static ByteBuffer lent(ByteBuffer buffer) {
-        if (buffer == null) {
-            throw new IllegalArgumentException("the buffer is null");
+    private static <T> T there(T given, String what) {
+        if (given == null) {
+            throw new IllegalArgumentException("the " + what + " is null");
         }
-        if (!buffer.isDirect()) {
+        return given;
+    }
+
+    private static ByteBuffer lent(ByteBuffer buffer) {
+        if (!there(buffer, "buffer").isDirect()) {
             throw new IllegalArgumentException("the buffer is not direct: use ByteBuffer.allocateDirect, or map the file");
         }
         return buffer;
@@ -588,25 +585,8 @@ public final class Seg2 {
         return buffer;
     }
 
-    private static byte[] there(byte[] bytes, String what) {
-        if (bytes == null) {
-            throw new IllegalArgumentException("the " + what + " is null");
-        }
-        return bytes;
-    }
-
-    private static int[] there(int[] row) {
-        if (row == null) {
-            throw new IllegalArgumentException("the row is null");
-        }
-        return row;
-    }
-
-    private static IntBuffer there(IntBuffer row) {
-        if (row == null) {
-            throw new IllegalArgumentException("the row is null");
-        }
-        if (!row.isDirect()) {
+    private static IntBuffer direct(IntBuffer row) {
+        if (!there(row, "row").isDirect()) {
             throw new IllegalArgumentException("the row is not direct: use an int[], or asIntBuffer of a direct ByteBuffer");
         }
         if (row.order() != ByteOrder.nativeOrder()) {
@@ -620,10 +600,7 @@ public final class Seg2 {
      * keyword nor value may hold; no encoding does this, as each has something, often '?', that it puts for what it cannot say.
      */
     private static byte[] bytesOf(String text, String what) {
-        if (text == null) {
-            throw new IllegalArgumentException("the " + what + " is null");
-        }
-        byte[] bytes = new byte[text.length()];
+        byte[] bytes = new byte[there(text, what).length()];
         for (int i = 0; i < bytes.length; i++) {
             char c = text.charAt(i);
             bytes[i] = c < 0x80 ? (byte) c : (byte) 0x80;

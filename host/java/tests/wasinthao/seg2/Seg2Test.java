@@ -461,14 +461,10 @@ public final class Seg2Test {
         }
     }
 
-    private static void misuse() throws Exception {
+    private static void misusedBuffers() throws Exception {
         ByteBuffer good = example();
         ByteBuffer heap = ByteBuffer.wrap(Arrays.copyOf(copy(good), 108));
         ByteBuffer readOnly = good.asReadOnlyBuffer();
-        byte[] none = null;
-        String noText = null;
-        int[] noRow = null;
-        IntBuffer noView = null;
         byte[] key = {'A'};
         for (ByteBuffer bad : new ByteBuffer[] {null, heap}) {
             String words = bad == null ? "the buffer is null" : "not direct";
@@ -494,7 +490,12 @@ public final class Seg2Test {
         misused("read-only", () -> Seg2.addIntegers(readOnly, 108, "", 1, new int[1]));
         misused("read-only", () -> Seg2.addIntegers(readOnly, 108, "", 1, direct(1)));
         misused("read-only", () -> Seg2.addBits(readOnly, 108, "", 4, new long[1]));
-        misused("read-only", () -> Seg2.integers(good, 108, 0, direct(0, 0, 0).asReadOnlyBuffer()));
+    }
+
+    private static void misusedTexts() throws Exception {
+        ByteBuffer good = example();
+        byte[] none = null;
+        String noText = null;
         misused("keyword is null", () -> Seg2.keyword(good, 108, 0, none));
         misused("keyword is null", () -> Seg2.value(good, 108, 0, noText));
         misused("keyword is null", () -> Seg2.number(good, 108, 0, none));
@@ -503,6 +504,13 @@ public final class Seg2Test {
         misused("sheet is null", () -> Seg2.start(good, 0, 1, none));
         misused("sheet is null", () -> Seg2.addIntegers(good, 108, noText, 1, new int[1]));
         misused("sheet is null", () -> Seg2.addBits(good, 108, none, 4, new long[1]));
+    }
+
+    private static void misusedRows() throws Exception {
+        ByteBuffer good = example();
+        int[] noRow = null;
+        IntBuffer noView = null;
+        misused("read-only", () -> Seg2.integers(good, 108, 0, direct(0, 0, 0).asReadOnlyBuffer()));
         misused("row is null", () -> Seg2.integers(good, 108, 0, noRow));
         misused("row is null", () -> Seg2.integers(good, 108, 0, noView));
         misused("row is null", () -> Seg2.bits(good, 108, 0, null, new byte[3]));
@@ -521,7 +529,10 @@ public final class Seg2Test {
         odd.position(1);
         IntBuffer crooked = odd.slice().order(ByteOrder.nativeOrder()).asIntBuffer();
         misused("multiple of its element's size", () -> Seg2.integers(good, 108, 0, crooked));
-        // a row in the file's own memory
+    }
+
+    private static void rowsInTheFilesOwnMemory() throws Exception {
+        ByteBuffer good = example();
         ByteBuffer arena = ByteBuffer.allocateDirect(400).order(ByteOrder.nativeOrder());
         ByteBuffer file = arena.duplicate();
         file.put(copy(good), 0, 108);
@@ -612,7 +623,10 @@ public final class Seg2Test {
         test("characters that are no ASCII", Seg2Test::otherCharacters);
         test("the limit of a buffer holds", Seg2Test::theLimitHolds);
         test("a mapped file", Seg2Test::mappedFile);
-        test("misuse is told before the library is called", Seg2Test::misuse);
+        test("a misused buffer is told before the library is called", Seg2Test::misusedBuffers);
+        test("so is a keyword or sheet that is null", Seg2Test::misusedTexts);
+        test("so is a misused row", Seg2Test::misusedRows);
+        test("so is a row in the file's own memory", Seg2Test::rowsInTheFilesOwnMemory);
         // the machine gives a Java thread the least it can live with where less is asked for
         test("a thread with a small stack", () -> onThreads(1, 32 * 1024, 50));
         test("many threads at a time", () -> onThreads(8, 0, 50));

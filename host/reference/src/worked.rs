@@ -1,0 +1,118 @@
+//! Document 01's worked values and the paper's numbers as tables: inputs with their
+//! answers, for the tests of the reader here and of the proved functions alike. Nothing
+//! here uses the reader's or the writer's code.
+
+use crate::number::Number;
+use crate::words::Order;
+
+const fn number(minus: bool, coefficient: u64, power: i32) -> Number {
+    Number {
+        minus,
+        coefficient,
+        power,
+    }
+}
+
+/// Texts and what each is as a number; a refusal by its number, at place 0.
+pub const NUMBERS: &[(&str, Result<Number, u8>)] = &[
+    ("-2.3E6", Ok(number(true, 23, 5))),
+    ("0.020", Ok(number(false, 20, -3))),
+    ("-34.6", Ok(number(true, 346, -1))),
+    ("0,020", Err(20)),
+    ("12.", Err(20)),
+    ("1.345E24", Ok(number(false, 1345, 21))),
+];
+
+/// A number, and 22 as a double, at place 0.
+pub const NO_DOUBLE: &str = "1.345E24";
+
+/// "Two location values: 23", at place 0.
+pub const NO_LOCATION: &str = "1 2";
+
+/// The paper: "The numbers in the following list are allowable numeric expressions."
+pub const PAPER_NUMBERS: &[(&str, Number)] = &[
+    ("12", number(false, 12, 0)),
+    ("-3", number(true, 3, 0)),
+    ("12.657", number(false, 12657, -3)),
+    ("-34.6", number(true, 346, -1)),
+    ("1.345E24", number(false, 1345, 21)),
+    ("-2.3E6", number(true, 23, 5)),
+    ("5.6E-11", number(false, 56, -12)),
+    ("-2.0E-9", number(true, 20, -10)),
+];
+
+/// Some of them as doubles.
+pub const PAPER_DOUBLES: &[(&str, f64)] = &[
+    ("5.6E-11", 5.6e-11),
+    ("-2.0E-9", -2.0e-9),
+    ("-2.3E6", -2_300_000.0),
+    ("12.657", 12.657),
+];
+
+/// A code, an order, a data block, and the samples that stand in it.
+pub type Block = (u8, Order, &'static [u8], &'static [i32]);
+
+pub const CODES_1_AND_2: &[Block] = &[
+    (1, Order::Low, &[0xFF, 0xFF], &[-1]),
+    (1, Order::High, &[0xFF, 0xFF], &[-1]),
+    (1, Order::Low, &[0x00, 0x80], &[-32_768]),
+    (2, Order::High, &[0x80, 0, 0, 0], &[-2_147_483_648]),
+];
+
+pub const CODE_3: &[Block] = &[
+    (
+        3,
+        Order::Low,
+        &[0x10, 0xF2, 0x01, 0x00, 0xFE, 0xFF, 0x05, 0x00, 0xFF, 0x7F],
+        &[1, -2, 20, 1_073_709_056],
+    ),
+    // High first turns each word's bytes, not all ten.
+    (
+        3,
+        Order::High,
+        &[0xF2, 0x10, 0x00, 0x01, 0xFF, 0xFE, 0x00, 0x05, 0x7F, 0xFF],
+        &[1, -2, 20, 1_073_709_056],
+    ),
+];
+
+/// Samples and their data bytes in code 3, low first: exponent 2 in bits 0-3, mantissa
+/// 25000 = 61A8h; D is rounded up to 4.
+pub const CODE_3_WRITTEN: ([i32; 4], [u8; 12]) = (
+    [100_000, 0, 0, 0],
+    [0x02, 0x00, 0xA8, 0x61, 0, 0, 0, 0, 0, 0, 0, 0],
+);
+
+/// Samples, and what each reads back as once it was written in code 3.
+pub const CODE_3_KEPT: [(i32, i32); 3] = [
+    (100_000, 100_000),
+    (-32_769, -32_768),
+    (1_073_741_823, 1_073_709_056),
+];
+
+/// Row 29: "of magnitude 2^30 or more under code 3".
+pub const CODE_3_TOO_LARGE: [i32; 4] = [1_073_741_824, -1_073_741_824, i32::MIN, i32::MAX];
+
+/// The listing's example: "Low first, one slot, sheet UNITS METERS, one trace of code 1
+/// with samples 1, -1, 256 and sheet STACK 1".
+pub const EXAMPLE_SHEET: &[u8] = b"UNITS\tMETERS\n";
+pub const EXAMPLE_TRACE_SHEET: &[u8] = b"STACK\t1\n";
+pub const EXAMPLE_SAMPLES: [i32; 3] = [1, -1, 256];
+
+/// The example byte for byte: "pointer 56, B 44, D 8, length 108".
+pub fn example() -> Vec<u8> {
+    let mut bytes = vec![0x55, 0x3A, 1, 0, 4, 0, 1, 0, 1, 0, 0, 1, 0x0A, 0];
+    bytes.extend([0; 18]);
+    bytes.extend([56, 0, 0, 0]);
+    bytes.extend(b"\x0F\0UNITS METERS\0\0\0\0\0\0");
+    bytes.extend([0x22, 0x44, 44, 0, 8, 0, 0, 0, 3, 0, 0, 0, 1]);
+    bytes.extend([0; 19]);
+    bytes.extend(b"\x0A\0STACK 1\0\0\0");
+    bytes.extend([1, 0, 0xFF, 0xFF, 0, 1, 0, 0]);
+    bytes
+}
+
+/// What the listing program prints for it.
+pub const EXAMPLE_LISTED: &str = "SEG2\tlow\t1\t4\n\
+                                  S\tF\tUNITS\tMETERS\n\
+                                  T\t0\t1\t3\n\
+                                  S\t0\tSTACK\t1\n";
