@@ -1,6 +1,6 @@
-//! The three places that name the face agree: `crates/seg2/src/lib.rt`,
-//! `include/seg2.h` and `src/raw.rs` have the same functions and lay their structs out
-//! in the same way.
+//! The three places that name the face agree: the crates (functions in
+//! `crates/seg2`, structs in `crates/face`), `include/seg2.h` and `src/raw.rs` have the
+//! same functions and lay their structs out in the same way.
 
 mod c;
 
@@ -13,7 +13,8 @@ fn read(path: std::path::PathBuf) -> String {
 }
 
 fn face() -> String {
-    read(root().join("crates/seg2/src/lib.rt"))
+    let sources = ["crates/face/src/lib.rt", "crates/seg2/src/lib.rt"];
+    sources.map(|source| read(root().join(source))).concat()
 }
 
 fn header() -> String {
