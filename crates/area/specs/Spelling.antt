@@ -1,4 +1,4 @@
--- The written area spells exactly the strings that the sheet means, in `text`'s sense, for every order and terminators that a file can have; its
+-- The written area spells exactly the strings that the sheet means, in `strings`' sense, for every order and terminators that a file can have; its
 -- size; and every list of good lines whose area is not too large is let through.
 -- Assumes nothing.
 use mathlib.Core.Path.{_≡_, refl}
@@ -225,7 +225,7 @@ area-spells high t u s n e m =
     let g = accepted-lines s (b .0) .1 in
     full (padding (textSize t (joined u (linesOf s)))) (lines-rise t u [] (linesOf s) e refl g (omega arith))
 
--- so in a file with these terminators `text`'s check accepts the area, wherever it stands
+-- so in a file with these terminators `strings`' check accepts the area, wherever it stands
 pub area-accepted : (high : Bool) (t u s : List ℕ) (n : ℕ) (p : Part) (at : ℕ) → Terminators t u → measuredOf t u s ≡ Size n
     → Strings.stringsOf high t u p (areaOf high t u s) at ≡ Accepted
 area-accepted high t u s n p at e m = spelled-accepted p at (area-spells high t u s n (terminators-end t u e) m)

@@ -140,7 +140,7 @@ traces-first high t u f (suc left) k prev =
     ∙ sym (then-assoc v (andThen (firstOf bs) (firstOf ss)) (firstOf ts) ∙ ap (andThen v) (then-assoc (firstOf bs) (firstOf ss) (firstOf ts)))
     ∙ sym (rw (block-first high f k p, area-first high t u f (Trace k) (p + 32) (p + blockSize high f p), traces-first high t u f left (k + 1) (endAt high f p))))
 
--- ---- an image: 2 to 7 (`headRows` of `block`), "then the first pointer, then the file's strings, then each trace"; "With N=0 the file's strings run to the
+-- ---- an image: 2 to 7 (`headRows` of `head`), "then the first pointer, then the file's strings, then each trace"; "With N=0 the file's strings run to the
 -- image's end", which only an addition takes
 abbrev pub restRows : Bool → List ℕ → List ℕ → List ℕ → ℕ → ℕ → List Verdict
 restRows high t u f m n =

@@ -1,5 +1,5 @@
 // The answers as they cross to another language: C structs of numbers, each beginning with the refusal's number in document 01's table (0: none), its
-// part (-1 for the file, else the trace) and its place. Face has the definitions; include/seg2.h declares the structs. Stands on `reader`, `writer`.
+// part (-1 for the file, else the trace) and its place. Face has the definitions; include/seg2.h declares the structs. Stands on `reader`, `start`, `double` and what they stand on.
 use decimal::NumberAnswer;
 use double::DoubleAnswer;
 use double::LocationAnswer;

@@ -1,4 +1,4 @@
--- The trace blocks and the check of a whole file (document 01, "The trace block" and rows 1 and 8 to 17). f is the image.
+-- The check of a whole file (document 01, rows 1 and 8 to 17 in their order; rows 2 to 7 are head/Head, the rows of a trace block/Block). f is the image.
 -- Assumes nothing.
 use mathlib.Core.Bool.{Bool, _||_}
 use mathlib.Core.List.{List}

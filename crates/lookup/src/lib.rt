@@ -135,7 +135,7 @@ pub fn nth_key<'a>(f: &'a [u8], a: usize, e: usize, high: bool, t: &[u8], i: usi
         Found::Nothing => &f[..0],
         Found::Is(p) => {
             let from = p.key;
-            let to = p.gap;
+            let to = p.gap; // behind the keyword's last character
             &f[from..to]
         }
     }
@@ -150,7 +150,7 @@ pub fn nth_value<'a>(f: &'a [u8], a: usize, e: usize, high: bool, t: &[u8], i: u
     match s {
         Found::Nothing => &f[..0],
         Found::Is(p) => {
-            let from = p.value;
+            let from = p.value; // behind the separators
             let to = p.end;
             &f[from..to]
         }
@@ -167,7 +167,7 @@ pub fn value<'a>(f: &'a [u8], a: usize, e: usize, high: bool, t: &[u8], key: &[u
         Found::Nothing => &f[..0],
         Found::Is(p) => {
             let from = p.value;
-            let to = p.end;
+            let to = p.end; // before the terminator
             &f[from..to]
         }
     }

@@ -1,4 +1,4 @@
--- The answers of `decimal` as a host takes them: the refusal's number (document 01, "Refusal numbers, in order of checking"), or 0, which no rule has, with
+-- The answers of `decimal` and `double` as a host takes them: the refusal's number (document 01, "Refusal numbers, in order of checking"), or 0, which no rule has, with
 -- the answer beside it. A text that stands alone has no part: its refusals are the file's, so the part is left out.
 -- Assumes nothing.
 use mathlib.Core.Bool.{false}

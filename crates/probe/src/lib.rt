@@ -145,7 +145,7 @@ pub extern "C" fn probe_location(text: &[u8]) -> Location
 
 // ---- samples (document 01, "Samples")
 
-// The integers of a data block; `sample` has what is promised.
+// The integers of a data block; `decode` has what is promised.
 #[no_mangle]
 pub extern "C" fn probe_read_integers(code: u8, block: &[u8], high: bool, row: &mut [i32]) -> bool
     ensures answer { λ r. ⌜ r ≡ integersThere code (length (now (row .entry))) (now (block .entry)) ⌝ }
