@@ -1,6 +1,6 @@
 -- How long the pieces of that file are, what one trace more adds to each, and what stands in its first 32 bytes.
 -- Assumes nothing.
-use mathlib.Core.Path.{_≡_, refl, sym, ap, _∙_}
+use mathlib.Core.Path.{_≡_, refl, sym, ap, ap₂, _∙_}
 use mathlib.Core.Bool.{Bool}
 use mathlib.Core.List.{List, [], _∷_, _++_, append-nil, append-assoc}
 use Prim.Native.Nat.{ℕ, _+_, _-_, _*_, _%_, _≤_}
@@ -31,14 +31,15 @@ file-whole slots sheet ts = let a = start-whole slots sheet in let b = sizes-who
 
 -- ---- the whole
 
+-- the file of no traces is the start's image
+pub file-none : (high : Bool) (slots : ℕ) (sheet : List ℕ) → fileOf high slots sheet [] ≡ startImage high slots sheet
+unfolding fileOf startImage pointers blocks
+file-none high slots sheet = let e : slots - 0 ≡ slots = omega arith in rw (e, append-nil)
+
 pub length-pointers : (high : Bool) (at : ℕ) (ts : List Trace) → length (pointers high at ts) ≡ 4 * length ts
 unfolding pointers
 length-pointers high at [] = refl
-length-pointers high at (x ∷ ts) =
-    let a = length-append (bytesOf 4 high at) (pointers high (at + traceSize nul lineFeed x) ts) in
-    let b = length-bytesOf 4 high at in
-    let i = length-pointers high (at + traceSize nul lineFeed x) ts in
-    omega arith
+length-pointers high at (x ∷ ts) = length-append (bytesOf 4 high at) _ ∙ ap₂ (λ (i j : ℕ). i + j) (length-bytesOf 4 high at) (length-pointers high _ ts) ∙ omega arith
 
 pub length-blocks : (high : Bool) (ts : List Trace) → AllGood ts → length (blocks high ts) ≡ sizes ts
 unfolding blocks sizes
@@ -65,11 +66,6 @@ length-file high slots sheet ts h g =
     let j = length-area high nul lineFeed sheet in
     let k = length-blocks high ts g in
     omega arith
-
--- the file of no traces is the start's image
-pub file-none : (high : Bool) (slots : ℕ) (sheet : List ℕ) → fileOf high slots sheet [] ≡ startImage high slots sheet
-unfolding fileOf startImage pointers blocks
-file-none high slots sheet = let e : slots - 0 ≡ slots = omega arith in rw (e, append-nil)
 
 pub size-none : (slots : ℕ) (sheet : List ℕ) → fileSize slots sheet [] ≡ startSize slots sheet
 unfolding fileSize sizes

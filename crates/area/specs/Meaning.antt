@@ -1,5 +1,5 @@
 -- The strings of a sheet are those of its lines: each line before the first NOTE is a string with the line's own keyword and value, and the NOTE
--- lines at the end are one string, whose value, read by its terminators, is those lines again. With it document 01's own sheets, worked out.
+-- lines at the end are one string, whose value, read by its terminators, is those lines again.
 -- Assumes nothing.
 use mathlib.Core.Path.{_≡_, refl, ap, _∙_}
 use mathlib.Core.Bool.{Bool, true, false, _&&_}

@@ -1,11 +1,13 @@
 // The worked values of document 01 and the examples of the paper (document 001), run against the proved functions. Each group writes one line, and
-// the stored output is what they have to write. Stands on the leaves: `image`, `strings`, `lookup`, `decode`, `encode`, `decimal`, `double`.
+// the stored output is what they have to write. Stands on the leaves (`image`, `strings`, `lookup`, `decode`, `encode`, `decimal`, `double`) and, for
+// what is written and read back, on `start`, `writer` and `traces`.
 use decimal::NumberAnswer;
 use double::DoubleAnswer;
 use double::LocationAnswer;
 use encode::Fit;
 use refusal::Part;
 use refusal::Verdict;
+use start::Written;
 
 // ---- comparisons
 
@@ -129,6 +131,31 @@ fn refused_by(file: &[u8]) -> u32 {
             refusal::number(rule)
         }
     }
+}
+
+// The length that a start or an addition answers, or 0.
+fn length_of(w: Written) -> usize {
+    match w {
+        Written::To(n) => n,
+        Written::Refused(_) => 0,
+    }
+}
+
+// The number that it is refused by, or 0.
+fn written_by(w: Written) -> u32 {
+    match w {
+        Written::To(_) => 0,
+        Written::Refused(r) => {
+            let rule = r.rule;
+            refusal::number(rule)
+        }
+    }
+}
+
+// "Low first, one slot, sheet UNITS METERS", and one trace with sheet STACK 1.
+fn added(file: &mut [u8], code: u32, row: &[i32]) -> Written {
+    let n = length_of(start::start(file, 0, 1, b"UNITS\tMETERS\n"));
+    writer::add_integers(file, n, b"STACK\t1\n", code, row)
 }
 
 // ---- the groups
@@ -287,6 +314,38 @@ fn files() -> bool {
                         == 0))))
 }
 
+// "one trace of code 1 with samples 1, -1, 256 .. length 108": the file of document 01's listing, byte by byte.
+fn written() -> bool {
+    let mut file = [255u8; 108];
+    let row = [1i32, -1, 256];
+    let n = length_of(added(&mut file, 1, &row));
+    (n == 108)
+        & check::same(
+            &file,
+            b"U:\x01\x00\x04\x00\x01\x00\x01\x00\x00\x01\x0a\x00\x00\x00\x00\x00\x00\x00\x00\x00\x00\x00\x00\x00\x00\x00\x00\x00\x00\x008\x00\x00\x00\x0f\x00UNITS METERS\x00\x00\x00\x00\x00\x00\"D,\x00\x08\x00\x00\x00\x03\x00\x00\x00\x01\x00\x00\x00\x00\x00\x00\x00\x00\x00\x00\x00\x00\x00\x00\x00\x00\x00\x00\x00\x0a\x00STACK 1\x00\x00\x00\x01\x00\xff\xff\x00\x01\x00\x00",
+        )
+}
+
+// Code 3 written: 100000 has exponent 2 and mantissa 25000, -32769 reads back -32768 and 1073741823 reads back 1073709056; 1073741824 is refused by 29.
+fn groups_written() -> bool {
+    let mut file = [255u8; 112];
+    let row = [100000i32, -32769, 1073741823, 0];
+    let n = length_of(added(&mut file, 3, &row));
+    let data = check::same(
+        &file[100..112],
+        b"\x12\x0f\xa8\x61\xff\xbf\xff\x7f\x00\x00\x00\x00",
+    );
+    let mut back = [0i32; 4];
+    let v = traces::integers(&file, 112, 0, &mut back);
+    let read = match v {
+        Verdict::Accepted => (back[0] == 100000)
+            & ((back[1] == -32768) & ((back[2] == 1073709056) & (back[3] == 0))),
+        Verdict::Refused(_) => false,
+    };
+    let large = [1073741824i32, 0, 0, 0];
+    (n == 112) & (data & (read & (written_by(added(&mut file, 3, &large)) == 29)))
+}
+
 fn main() {
     line(b"samples", samples());
     line(b"20-bit groups", groups());
@@ -307,4 +366,6 @@ fn main() {
         ),
     );
     line(b"files", files());
+    line(b"a file written", written());
+    line(b"20-bit groups written", groups_written());
 }
