@@ -13,6 +13,7 @@ use lib.ListN.{length, getD, drop, drop-of-length-le}
 use lib.Seq.{drop-cons}
 use lib.Dec.{ltb, leb}
 use borrow.Author.Tests.{le-leb, lt-leb, ltb-true, ltb-false}
+use Rattle.word.specs.Tests.{neither}
 use Rattle.sample.specs.Needed.{byCode}
 use Rattle.encode.specs.declared.Fit.{Fit}
 use Rattle.encode.specs.declared.Fit.the-variants.{All, At}
@@ -39,6 +40,27 @@ module _ {A : Type 0} where
   pub first-over : (bad : A → Bool) (xs : List A) (i : ℕ) → length xs ≤ i → firstFrom bad i (drop i xs) ≡ firstFrom bad 0 xs → All ≡ firstFrom bad 0 xs
   unfolding firstFrom
   first-over bad xs i h e = (rw (drop-of-length-le xs {i = i} h) at e)
+
+  -- whether there is one at all, and a loop that goes through to the end: w is what was found before
+  unfoldable pub any : (A → Bool) → List A → Bool
+  any bad [] = false
+  any bad (x ∷ xs) = bad x || any bad xs
+
+  pub any-turn : (bad : A → Bool) (d : A) (xs : List A) (i : ℕ) (w : Bool) → i < length xs
+      → ((w || bad (getD xs i d)) || any bad (drop (i + 1) xs)) ≡ (w || any bad (drop i xs))
+  unfolding any
+  any-turn bad d xs i true h = refl
+  any-turn bad d xs i false h = rw (add-one i, drop-cons xs i d h)
+
+  pub any-through : (bad : A → Bool) (xs : List A) (i : ℕ) (w : Bool) → length xs ≤ i → w ≡ (w || any bad (drop i xs))
+  unfolding any
+  any-through bad xs i true h = refl
+  any-through bad xs i false h = rw (drop-of-length-le xs {i = i} h)
+
+  pub any-none : (bad : A → Bool) (i : ℕ) (xs : List A) → any bad xs ≡ false → All ≡ firstFrom bad i xs
+  unfolding any firstFrom
+  any-none bad i [] h = refl
+  any-none bad i (x ∷ xs) h = let k = neither (bad x) (any bad xs) h in rw (k .0) (any-none bad (i + 1) xs (k .1))
 
   pub first-same : (bad worse : A → Bool) → ((x : A) → bad x ≡ worse x) → (i : ℕ) (xs : List A) → firstFrom bad i xs ≡ firstFrom worse i xs
   unfolding firstFrom

@@ -7,7 +7,7 @@ ghost use lib.ListN.{length};
 ghost use Rattle.word.specs.Put.{put};
 ghost use Rattle.word.specs.Word.{bytesOf};
 ghost use Rattle.sample.specs.Needed.{room};
-ghost use Rattle.encode.specs.Unfit.{firstFrom, outside, unfitIntegers, unfitPatterns};
+ghost use Rattle.encode.specs.Unfit.{firstFrom, any, outside, unfitIntegers, unfitPattern, unfitPatterns};
 ghost use Rattle.encode.specs.WriteLaws.{Told, Coded};
 ghost use Rattle.encode.specs.Write.{residue, wordsOf, groupOf, integersData, bitsData};
 
@@ -34,13 +34,37 @@ fn first_outside(row: &[i32], low: i32, high: i32) -> Fit
     Fit::All
 }
 
+// Whether any sample is not from `low` to `high`. The loop has no early way out, so that a compiler can test many at a time.
+fn any_outside(row: &[i32], low: i32, high: i32) -> bool
+    ensures { λ r. ⌜ r ≡ any (outside low high) (now (row .entry)) ⌝ }
+{
+    let mut found = false;
+    let mut i = 0;
+    while i < row.len() {
+        let v = row[i];
+        found = found | ((v < low) | (high < v));
+        i += 1;
+    }
+    found
+}
+
+// The first is looked for only where there is one.
+fn outside_of(row: &[i32], low: i32, high: i32) -> Fit
+    ensures { λ r. ⌜ r ≡ firstFrom (outside low high) 0 (now (row .entry)) ⌝ }
+{
+    if any_outside(row, low, high) {
+        return first_outside(row, low, high);
+    }
+    Fit::All
+}
+
 // The first sample of a row that the code cannot hold.
 pub fn unfit_integers(code: u8, row: &[i32]) -> Fit
     ensures { λ r. ⌜ r ≡ unfitIntegers code (now (row .entry)) ⌝ }
 {
     match code {
-        1 => first_outside(row, -32768, 32767),
-        3 => first_outside(row, -1073741823, 1073741823),
+        1 => outside_of(row, -32768, 32767),
+        3 => outside_of(row, -1073741823, 1073741823),
         _ => Fit::All,
     }
 }
@@ -59,12 +83,34 @@ fn first_wide(row: &[u64]) -> Fit
     Fit::All
 }
 
+// Whether any pattern has more than 32 bits; the same loop.
+fn any_wide(row: &[u64]) -> bool
+    ensures { λ r. ⌜ r ≡ any (unfitPattern 4) (now (row .entry)) ⌝ }
+{
+    let mut found = false;
+    let mut i = 0;
+    while i < row.len() {
+        found = found | (4294967296 <= row[i]);
+        i += 1;
+    }
+    found
+}
+
+fn wide_of(row: &[u64]) -> Fit
+    ensures { λ r. ⌜ r ≡ unfitPatterns 4 (now (row .entry)) ⌝ }
+{
+    if any_wide(row) {
+        return first_wide(row);
+    }
+    Fit::All
+}
+
 // The first pattern of a row that the code cannot hold.
 pub fn unfit_bits(code: u8, row: &[u64]) -> Fit
     ensures { λ r. ⌜ r ≡ unfitPatterns code (now (row .entry)) ⌝ }
 {
     match code {
-        4 => first_wide(row),
+        4 => wide_of(row),
         _ => Fit::All,
     }
 }

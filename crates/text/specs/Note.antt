@@ -9,7 +9,7 @@ use lib.ListN.{length, getD, take, drop, length-append, take-append-drop}
 use lib.Seq.{take-append-seam, drop-drop}
 use lib.Dec.{leb, eqb}
 use borrow.Author.Tests.{leb-false, le-leb, ne-eqb}
-use Rattle.word.specs.Tests.{both}
+use Rattle.word.specs.Tests.{both, and-false}
 use Rattle.refusal.specs.Rows.{pick}
 use Rattle.text.specs.Chars.{note, valueChar}
 use Rattle.text.specs.Runs.{same, same-eq, same-refl, all, more, none}
@@ -63,6 +63,19 @@ unfolding starts
 starts-split u l h =
     let k = both (leb (length u) (length l)) (same (take (length u) l) u) h in
     sym (take-append-drop (length u) l) ∙ ap (λ (r : List ℕ). r ++ drop (length u) l) (same-eq (take (length u) l) u (k .1))
+
+-- the empty list begins every list; and the first bytes can tell that a list does not
+pub starts-none : (u l : List ℕ) → length u ≡ 0 → true ≡ starts u l
+unfolding starts same
+starts-none [] [] h = refl
+starts-none [] (b ∷ l) h = rw (le-leb 0 (suc (length l)) (omega arith))
+starts-none (x ∷ u) l h = absurd (omega arith)
+
+pub starts-other : (u l : List ℕ) → 0 < length u → 0 < length l → (getD l 0 0 ≡ getD u 0 0 → ⊥) → false ≡ starts u l
+unfolding starts same
+starts-other [] l h k n = absurd (omega arith)
+starts-other (x ∷ u) [] h k n = absurd (omega arith)
+starts-other (x ∷ u) (b ∷ l) h k n = rw (ne-eqb b x n) (sym (and-false (leb (suc (length u)) (suc (length l)))))
 
 pub starts-front : (u r : List ℕ) → starts u (u ++ r) ≡ true
 unfolding starts

@@ -99,6 +99,17 @@ module _ (p : ℕ → Bool) where
   unfolding run
   run-none s i h = rw (none s i h) (omega arith)
 
+  -- a turn of one that goes through to the end: w is what was found before
+  pub all-turn : (s : List ℕ) (i : ℕ) (w : Bool) → i < length s → ((w && p (getD s i 0)) && all p (drop (i + 1) s)) ≡ (w && all p (drop i s))
+  unfolding all
+  all-turn s i true h = rw (more s i h)
+  all-turn s i false h = refl
+
+  pub all-through : (s : List ℕ) (i : ℕ) (w : Bool) → length s ≤ i → w ≡ (w && all p (drop i s))
+  unfolding all
+  all-through s i true h = rw (none s i h)
+  all-through s i false h = refl
+
   pub all-more : (s : List ℕ) (i : ℕ) → i < length s → p (getD s i 0) ≡ true → all p (drop (i + 1) s) ≡ all p (drop i s)
   unfolding all
   all-more s i h e = rw (more s i h, e)

@@ -56,18 +56,17 @@ pub fn gap_run(s: &[u8]) -> usize
     i
 }
 
-// Whether all are value characters.
+// Whether all are value characters. The loop has no early way out, so that a compiler can test many at a time.
 pub fn all_value(s: &[u8]) -> bool
     ensures { λ r. ⌜ r ≡ all valueChar (now (s .entry)) ⌝ }
 {
+    let mut ok = true;
     let mut i: usize = 0;
     while i < s.len() {
-        if !value_char(s[i]) {
-            return false;
-        }
+        ok = ok & value_char(s[i]);
         i += 1;
     }
-    true
+    ok
 }
 
 // Whether p stands before k in byte order, a prefix first.
@@ -131,12 +130,18 @@ pub fn rising(p: &[u8], k: &[u8]) -> bool
     is_less(p, k)
 }
 
-// Whether s begins with u.
+// Whether s begins with u. The first byte tells it almost always.
 fn is_start(u: &[u8], s: &[u8]) -> bool
     ensures { λ r. ⌜ r ≡ starts (now (u .entry)) (now (s .entry)) ⌝ }
 {
     let n = u.len();
     if s.len() < n {
+        return false;
+    }
+    if n == 0 {
+        return true;
+    }
+    if s[0] != u[0] {
         return false;
     }
     is_same(&s[..n], u)

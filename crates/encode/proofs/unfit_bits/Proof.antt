@@ -9,5 +9,5 @@ unfit-bits-spec =
     tie.close
     (tie.spec
     (λ c κs. search needs)
-    (λ c. rw (c .before .match .keys1) (c .first-wide .ensures))
+    (λ c. rw (c .before .match .keys1) (c .wide-of .ensures))
     (λ c. holds-patterns _ (c .match .rest .1) _))

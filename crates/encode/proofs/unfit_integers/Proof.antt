@@ -12,6 +12,6 @@ unfit-integers-spec =
     (tie.spec
     (λ c κs. search needs)
     (λ c κs. search needs)
-    (λ c. rw (c .before .match .keys1) (c .first-outside .ensures))
-    (λ c. rw (c .before .match .keys2) (c .first-outside2 .ensures ∙ first-same _ _ magnitude-bounds 0 _))
+    (λ c. rw (c .before .match .keys1) (c .outside-of .ensures))
+    (λ c. rw (c .before .match .keys2) (c .outside-of2 .ensures ∙ first-same _ _ magnitude-bounds 0 _))
     (λ c. let r = c .match .rest in holds-integers _ (r .0 .1) (r .1) _))

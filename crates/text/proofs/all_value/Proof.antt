@@ -1,19 +1,19 @@
--- `text::all_value` meets its contract. The invariant: all pass from here on just where all pass. Assumes nothing.
-use mathlib.Core.Path.{_≡_, refl, sym, _∙_}
+-- `text::all_value` meets its contract. The invariant: what was found before, and all from here on, is all. Assumes nothing.
+use mathlib.Core.Path.{_≡_, refl, _∙_}
+use mathlib.Core.Bool.{_&&_}
 use Prim.Native.Nat.{_≤_, _-_}
 use lib.ListN.{length, drop}
-use borrow.Author.Tests.{not-true, not-false}
 use Rattle.text.specs.Chars.{valueChar}
-use Rattle.text.specs.Runs.{all, all-more, all-end, all-over}
+use Rattle.text.specs.Runs.{all, all-turn, all-through}
 use borrow.Author.Needs.{needs}
 use Rattle.text.proofs.all_value.Statement.{statement}
 use Rattle.text.proofs.all_value.Tie as tie
 
 abbrev Inv-loop : tie.InvT-loop
-Inv-loop s i₀ i = (i ≤ length s) × (all valueChar (drop i s) ≡ all valueChar s)
+Inv-loop s ok₀ i₀ ok i = (i ≤ length s) × ((ok && all valueChar (drop i s)) ≡ all valueChar s)
 
 abbrev μ-loop : tie.MeasureT-loop
-μ-loop s i₀ i = length s - i
+μ-loop s ok₀ i₀ ok i = length s - i
 
 pub all-value-spec : {M : Type 1} → statement M
 all-value-spec =
@@ -24,8 +24,7 @@ all-value-spec =
     (λ c. (search needs, refl))
     (λ c. search needs)
     (λ c κs. search needs)
-    (λ c. all-end valueChar _ _ (c .before .before .before .loop-test .taken) (sym (c .before .value-char .ensures) ∙ not-true _ (c .if1 .taken)) ∙ c .before .before .before .before .loop .inv .1)
     (λ c. search needs)
     (λ c. search needs)
-    (λ c. (search needs, all-more valueChar _ _ (c .before .before .before .loop-test .taken) (sym (c .before .value-char .ensures) ∙ not-false _ (c .if1 .left)) ∙ c .before .before .before .before .loop .inv .1))
-    (λ c. all-over valueChar _ _ (c .loop-test .left) ∙ c .before .loop .inv .1))
+    (λ c. (search needs, rw (c .value-char .ensures) (all-turn valueChar (c .before .before .before .before .before .args .s .now) (c .before .before .before .loop .i) (c .before .before .before .loop .ok) (c .before .before .loop-test .taken)) ∙ c .before .before .before .loop .inv .1))
+    (λ c. all-through valueChar _ _ _ (c .loop-test .left) ∙ c .before .loop .inv .1))

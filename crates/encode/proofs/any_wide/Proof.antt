@@ -1,0 +1,30 @@
+-- `encode::any_wide` meets its contract. The invariant: what was found before, or any from here on, is any. Assumes nothing.
+use mathlib.Core.Path.{_≡_, refl, _∙_}
+use mathlib.Core.Bool.{_||_}
+use Prim.Native.Nat.{_-_}
+use lib.ListN.{length, drop}
+use borrow.Author.Needs.{needs}
+use Rattle.encode.specs.Unfit.{any, unfitPattern, any-turn, any-through}
+use Rattle.encode.proofs.any_wide.Statement.{statement}
+use Rattle.encode.proofs.any_wide.Tie as tie
+
+abbrev Inv-loop : tie.InvT-loop
+Inv-loop row found₀ i₀ found i = (found || any (unfitPattern 4) (drop i row)) ≡ any (unfitPattern 4) row
+
+abbrev μ-loop : tie.MeasureT-loop
+μ-loop row found₀ i₀ found i = length row - i
+
+pub any-wide-spec : {M : Type 1} → statement M
+unfolding unfitPattern
+any-wide-spec =
+    tie.close
+    (tie.spec
+    Inv-loop
+    μ-loop
+    (λ c. refl)
+    (λ c. search needs)
+    (λ c. search needs)
+    (λ c. search needs)
+    (λ c. search needs)
+    (λ c. any-turn (unfitPattern 4) 0 (c .before .before .before .args .row .now) (c .before .before .loop .i) (c .before .before .loop .found) (c .before .loop-test .taken) ∙ c .before .before .loop .inv)
+    (λ c. any-through (unfitPattern 4) (c .before .before .args .row .now) (c .before .loop .i) (c .before .loop .found) (c .loop-test .left) ∙ c .before .loop .inv))

@@ -1,0 +1,25 @@
+-- `encode::outside_of` meets its contract. Where none is found, the row is all good. Assumes nothing.
+use mathlib.Core.Path.{sym, ap₂, _∙_}
+use lib.IntN.{ℤ}
+use mir.Syntax.{w32}
+use mir.Val.{toZ, ofZ}
+use Rattle.word.specs.Signed.{kept}
+use Rattle.encode.specs.Unfit.{firstFrom, outside, any-none}
+use borrow.Author.Needs.{needs}
+use Rattle.encode.proofs.outside_of.Statement.{statement}
+use Rattle.encode.proofs.outside_of.Tie as tie
+
+pub outside-of-spec : {M : Type 1} → statement M
+outside-of-spec =
+    tie.close
+    (tie.spec
+    (λ c κs. search needs)
+    (λ c κs. search needs)
+    (λ c.
+    let s = c .before .before .before in
+    c .first-outside .ensures
+    ∙ ap₂ (λ (l h : ℤ). firstFrom (outside l h) 0 (s .args .row .now)) (kept (s .args .low) (s .fits .low .sfits)) (kept (s .args .high) (s .fits .high .sfits)))
+    (λ c.
+    let s = c .before .before in
+    any-none (outside (toZ w32 (ofZ w32 (s .args .low))) (toZ w32 (ofZ w32 (s .args .high)))) 0 (s .args .row .now) (sym (c .before .any-outside .ensures) ∙ c .if1 .left)
+    ∙ ap₂ (λ (l h : ℤ). firstFrom (outside l h) 0 (s .args .row .now)) (kept (s .args .low) (s .fits .low .sfits)) (kept (s .args .high) (s .fits .high .sfits))))
