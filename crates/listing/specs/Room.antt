@@ -20,7 +20,7 @@ use Rattle.strings.specs.declared.Frame.the-variants.{End, Text, Broken}
 use Rattle.strings.specs.declared.Place.{Place}
 use Rattle.text.specs.Chars.{note}
 use Rattle.text.specs.Runs.{same, same-eq}
-use Rattle.text.specs.Note.{lineLen, linesOf, line-ends}
+use Rattle.text.specs.Note.{lineLen, linesOf, line-ends, starts-fits}
 use Rattle.strings.specs.Strings.{frameOf, placeOf, onText, placesFrom, placesOf, keyIn, valueIn}
 use Rattle.strings.specs.Walks.{Fits, place-fits}
 use Rattle.strings.specs.Spelled.{strsIn}
@@ -35,7 +35,6 @@ use Rattle.lines.specs.Lines.{whose, headLine, traceLine, stringLine}
 use Rattle.listing.specs.Listing.{linesText, valuesOf, stringsText, stringsIn, traceText, tracesText, fileText, roomFor}
 use Rattle.lines.specs.Sizes.{five, length-ended, length-order, length-head, length-trace, length-label, length-line}
 use Rattle.lines.specs.Spaced.{length-spaced}
-use Rattle.listing.specs.Turns.{starts-fits}
 use Rattle.listing.specs.Told.{line-some}
 
 -- ---- numbers

@@ -5,11 +5,9 @@ use mathlib.Core.Bool.{Bool, true, false}
 use mathlib.Core.List.{List, [], _∷_, _++_}
 use Prim.Native.Nat.{ℕ, zero, suc, _+_, _-_, _≤_, _<_}
 use native.Mathlib.Omega.{arith}
-use lib.ListN.{length, take, drop, length-drop}
+use lib.ListN.{length, drop, length-drop}
 use lib.Seq.{drop-drop}
-use lib.Dec.{leb}
-use borrow.Author.Tests.{le-leb, lt-leb, leb-true}
-use Rattle.word.specs.Tests.{both}
+use borrow.Author.Tests.{le-leb, lt-leb}
 use Rattle.word.specs.Part.{part, length-part}
 use Rattle.refusal.specs.declared.Part.{Part}
 use Rattle.strings.specs.declared.Frame.{Frame}
@@ -18,7 +16,7 @@ use Rattle.strings.specs.declared.Place.{Place}
 use Rattle.strings.specs.declared.Found.the-variants.{Nothing, Is}
 use Rattle.strings.specs.declared.Entry.the-variants.{Stop, At}
 use Rattle.text.specs.Runs.{same}
-use Rattle.text.specs.Note.{starts, lineLen, linesOf, line-ends}
+use Rattle.text.specs.Note.{starts, lineLen, linesOf, line-ends, starts-fits}
 use Rattle.strings.specs.Strings.{frameOf, placeOf, onText, entryOf, placesFrom, placesOf, nthOf, keyIn, valueIn}
 use Rattle.strings.specs.Walks.{in-frame, place-next, place-stop, place-bounds}
 use Rattle.lookup.specs.Lists.{In}
@@ -27,10 +25,6 @@ use Rattle.lines.specs.Lines.{stringLine}
 use Rattle.listing.specs.Listing.{linesText, valuesOf, stringsText, traceText, tracesText}
 
 -- ---- the lines of a NOTE: e is where the line from `from` on ends
-pub starts-fits : (u l : List ℕ) → starts u l ≡ true → length u ≤ length l
-unfolding starts
-starts-fits u l h = leb-true (length u) (length l) (both (leb (length u) (length l)) (same (take (length u) l) u) h .0)
-
 module _ (u v : List ℕ) (from e m : ℕ) (told : e ≡ from + lineLen u (drop from v)) (enough : length (drop from v) ≤ m) where
   pub line-on : 0 < length u → e < length v
       → (e + length u ≤ length v) × (length (drop (e + length u) v) ≤ m - 1)

@@ -5,10 +5,10 @@ use mathlib.Core.Bool.{Bool, true, false, _&&_}
 use mathlib.Core.List.{List, [], _∷_, _++_}
 use Prim.Native.Nat.{ℕ, zero, suc, _+_, _-_, _≤_, _<_}
 use native.Mathlib.Omega.{arith}
-use lib.ListN.{length, getD, take, drop, length-append, take-append-drop}
+use lib.ListN.{length, getD, take, drop, length-append, length-drop, take-append-drop}
 use lib.Seq.{take-append-seam, drop-drop}
 use lib.Dec.{leb, eqb}
-use borrow.Author.Tests.{leb-false, le-leb, ne-eqb}
+use borrow.Author.Tests.{leb-true, leb-false, le-leb, ne-eqb}
 use Rattle.word.specs.Tests.{both, and-false}
 use Rattle.refusal.specs.Rows.{pick}
 use Rattle.text.specs.Chars.{note, valueChar}
@@ -63,6 +63,10 @@ unfolding starts
 starts-split u l h =
     let k = both (leb (length u) (length l)) (same (take (length u) l) u) h in
     sym (take-append-drop (length u) l) ∙ ap (λ (r : List ℕ). r ++ drop (length u) l) (same-eq (take (length u) l) u (k .1))
+
+pub starts-fits : (u l : List ℕ) → starts u l ≡ true → length u ≤ length l
+unfolding starts
+starts-fits u l h = leb-true (length u) (length l) (both (leb (length u) (length l)) (same (take (length u) l) u) h .0)
 
 -- the empty list begins every list; and the first bytes can tell that a list does not
 pub starts-none : (u l : List ℕ) → length u ≡ 0 → true ≡ starts u l
@@ -171,16 +175,21 @@ lines-back (suc m) u v = go (leb (length v) (lineLen u v)) refl (lines-back m u 
         ends-cons u (take (lineLen u v) v) (linesOf m u (drop (lineLen u v + length u) v)) (s .0) (s .1) (s .2)
         ∙ rw (i, ← d) (take-append-drop (lineLen u v) v)
 
+lines-whole : (u r : List ℕ) → 0 < length u → lines u 0 (u ++ r) ≡ lines u 0 r
+unfolding lines
+lines-whole [] r h = absurd (omega arith)
+lines-whole (x ∷ xs) r h = let k : suc (length xs) - 1 ≡ length xs = omega arith in rw (starts-front (x ∷ xs) r, k) (lines-skip (x ∷ xs) xs r)
+
 -- ---- turns of the loops
 module _ (u s : List ℕ) (i : ℕ) (h : i < length s) where
-  pub lines-pass : (k : ℕ) → (k ≡ 0 → ⊥) → lines u (k - 1) (drop (i + 1) s) ≡ lines u k (drop i s)
-  unfolding lines
-  lines-pass zero n = absurd (n refl)
-  lines-pass (suc k) n = let q : suc k - 1 ≡ k = omega arith in rw (q, more s i h)
-
-  pub lines-start : starts u (drop i s) ≡ true → lines u (length u - 1) (drop (i + 1) s) ≡ lines u 0 (drop i s)
-  unfolding lines
-  lines-start q = let r = rw (more s i h) at q in rw (more s i h, r)
+  -- a terminator is passed over whole
+  pub lines-start : 0 < length u → starts u (drop i s) ≡ true → (i + length u ≤ length s) × (lines u 0 (drop (i + length u) s) ≡ lines u 0 (drop i s))
+  lines-start some q =
+      let f = starts-fits u (drop i s) q in
+      let l = length-drop i s in
+      let d = drop-drop (length u) i s in
+      let w = lines-whole u (drop (length u) (drop i s)) some in
+      (omega arith, ap (lines u 0) (sym d) ∙ sym w ∙ ap (lines u 0) (sym (starts-split u (drop i s) q)))
 
   pub lines-char : starts u (drop i s) ≡ false → valueChar (getD s i 0) ≡ true → lines u 0 (drop (i + 1) s) ≡ lines u 0 (drop i s)
   unfolding lines
@@ -198,10 +207,9 @@ module _ (u s : List ℕ) (i : ℕ) (h : i < length s) where
   unfolding lineLen
   line-on q = let r = rw (more s i h) at q in rw (more s i h, r) (omega arith)
 
-pub lines-over : (u s : List ℕ) (k i : ℕ) → length s ≤ i → true ≡ lines u k (drop i s)
+pub lines-over : (u s : List ℕ) (i : ℕ) → length s ≤ i → true ≡ lines u 0 (drop i s)
 unfolding lines
-lines-over u s zero i h = rw (none s i h)
-lines-over u s (suc k) i h = rw (none s i h)
+lines-over u s i h = rw (none s i h)
 
 pub line-over : (u s : List ℕ) (i : ℕ) → length s ≤ i → i ≡ i + lineLen u (drop i s)
 unfolding lineLen

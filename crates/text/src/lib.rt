@@ -147,30 +147,21 @@ fn is_start(u: &[u8], s: &[u8]) -> bool
     is_same(&s[..n], u)
 }
 
-// Whether a NOTE's value has only value characters and whole line terminators, matched from the left. A terminator that was met is passed over
-// byte by byte.
+// Whether a NOTE's value has only value characters and whole line terminators, matched from the left. A terminator is passed over whole.
 pub fn all_lines(u: &[u8], s: &[u8]) -> bool
     requires { ⌜ 0 < length (now u) ⌝ }
     ensures { λ r. ⌜ r ≡ lines (now (u .entry)) 0 (now (s .entry)) ⌝ }
 {
     let mut i: usize = 0;
-    let mut k: usize = 0;
     while i < s.len() {
-        let j = i + 1;
-        if k != 0 {
-            k -= 1;
-            i = j;
-            continue;
-        }
         if is_start(u, &s[i..]) {
-            k = u.len() - 1;
-            i = j;
+            i += u.len();
             continue;
         }
         if !value_char(s[i]) {
             return false;
         }
-        i = j;
+        i += 1;
     }
     true
 }
