@@ -1,15 +1,15 @@
 -- The value of a NOTE: "in NOTE also whole line terminators, matched from the left" (document 01, "Strings"). u is the line terminator.
 -- Assumes nothing.
 use mathlib.Core.Path.{_≡_, refl, sym, ap, _∙_}
-use mathlib.Core.Bool.{Bool, true, false, _&&_}
+use mathlib.Core.Bool.{Bool, true, false, not, _&&_}
 use mathlib.Core.List.{List, [], _∷_, _++_}
 use Prim.Native.Nat.{ℕ, zero, suc, _+_, _-_, _≤_, _<_}
 use native.Mathlib.Omega.{arith}
 use lib.ListN.{length, getD, take, drop, length-append, length-drop, take-append-drop}
 use lib.Seq.{take-append-seam, drop-drop}
 use lib.Dec.{leb, eqb}
-use borrow.Author.Tests.{leb-true, leb-false, le-leb, ne-eqb}
-use Rattle.word.specs.Tests.{both, and-false}
+use borrow.Author.Tests.{leb-true, leb-false, le-leb, ne-eqb, not-true}
+use Rattle.word.specs.Tests.{both, and-false, never}
 use Rattle.refusal.specs.Rows.{pick}
 use Rattle.text.specs.Chars.{note, valueChar}
 use Rattle.text.specs.Runs.{same, same-eq, same-refl, all, more, none}
@@ -194,6 +194,18 @@ module _ (u s : List ℕ) (i : ℕ) (h : i < length s) where
   pub lines-char : starts u (drop i s) ≡ false → valueChar (getD s i 0) ≡ true → lines u 0 (drop (i + 1) s) ≡ lines u 0 (drop i s)
   unfolding lines
   lines-char q v = let r = rw (more s i h) at q in rw (more s i h, r, v)
+
+  pub lines-apart : 0 < length u → (not (valueChar (getD u 0 0)) && valueChar (getD s i 0)) ≡ true → lines u 0 (drop (i + 1) s) ≡ lines u 0 (drop i s)
+  lines-apart some q =
+      let a = both (not (valueChar (getD u 0 0))) (valueChar (getD s i 0)) q in
+      let n : getD s i 0 ≡ getD u 0 0 → ⊥ = λ (e : getD s i 0 ≡ getD u 0 0). differ (not-true (valueChar (getD u 0 0)) (a .0)) (ap valueChar (sym e) ∙ a .1) in
+      lines-char (sym (starts-other u (drop i s) some (more-than i s h) (rw (more s i h) n))) (a .1)
+    where
+      differ : {w : Bool} → w ≡ false → w ≡ true → ⊥
+      differ e k = never (sym e ∙ k)
+
+      more-than : (i : ℕ) (s : List ℕ) → i < length s → 0 < length (drop i s)
+      more-than i s h = let l = length-drop i s in omega arith
 
   pub lines-bad : starts u (drop i s) ≡ false → valueChar (getD s i 0) ≡ false → false ≡ lines u 0 (drop i s)
   unfolding lines

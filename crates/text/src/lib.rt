@@ -147,13 +147,19 @@ fn is_start(u: &[u8], s: &[u8]) -> bool
     is_same(&s[..n], u)
 }
 
-// Whether a NOTE's value has only value characters and whole line terminators, matched from the left. A terminator is passed over whole.
+// Whether a NOTE's value has only value characters and whole line terminators, matched from the left. A terminator is passed over whole. A file's
+// terminator starts with no value character, so one is asked for only where a character is none.
 pub fn all_lines(u: &[u8], s: &[u8]) -> bool
     requires { ⌜ 0 < length (now u) ⌝ }
     ensures { λ r. ⌜ r ≡ lines (now (u .entry)) 0 (now (s .entry)) ⌝ }
 {
+    let apart = !value_char(u[0]);
     let mut i: usize = 0;
     while i < s.len() {
+        if apart & value_char(s[i]) {
+            i += 1;
+            continue;
+        }
         if is_start(u, &s[i..]) {
             i += u.len();
             continue;
