@@ -1,5 +1,4 @@
--- The two views agree: an image is accepted exactly where it keeps the rules. And what is refused meets the row that it is refused by, and none
--- before it.
+-- The two views agree: an image is accepted exactly where it keeps the rules. What is refused is in Broken.
 -- Assumes nothing.
 use mathlib.Core.Path.{_≡_, refl, sym, _∙_}
 use mathlib.Core.Bool.{Bool, true, false, _&&_, _||_}
