@@ -38,9 +38,10 @@ use Rattle.afresh.specs.FileOf.{sizes, fileSize}
 use Rattle.afresh.specs.Calls.{after, answersOf, acceptedOf, start-grows, calls-afresh}
 use Rattle.afresh.specs.Stands.{noTrace, file-traces}
 use Rattle.afresh.specs.FileLaws.{file-fronted}
-use Rattle.afresh.specs.Afresh.{lengths, Writable, start-accepted, none-refused, written-afresh, afresh-accepted, accepted-writable}
+use Rattle.afresh.specs.Afresh.{lengths, start-accepted, none-refused, written-afresh, afresh-accepted, accepted-writable}
 use Rattle.afresh.specs.Worked.{units, shot, worked-sizes, worked-good, worked-writable}
 use Rattle.demands.specs.ListReads.{list-file-block}
+use Rattle.demands.specs.GoodLists.{GoodList, writable-is-good, good-is-writable}
 
 -- ---- "a reader that refuses all files, or answers the same for all"
 
@@ -52,11 +53,12 @@ abbrev pub lengthOf : List ℕ → ℕ → ℕ → List ℕ → List Trace → �
 lengthOf xs order slots sheet ts = after (startLeft xs order slots sheet) (startSize slots sheet) ts .1
 
 -- every list that can be written is a file that the reader takes, with as many traces as the list
-pub not-all-files-refused : (xs : List ℕ) (order slots : ℕ) (sheet : List ℕ) (ts : List Trace) → Writable xs order slots sheet ts → 0 < length ts
+pub not-all-files-refused : (xs : List ℕ) (order slots : ℕ) (sheet : List ℕ) (ts : List Trace) → GoodList xs order slots sheet ts → 0 < length ts
     → (checkOf false (bufferOf xs order slots sheet ts) (lengthOf xs order slots sheet ts) ≡ Accepted)
     × (fileAnswer (bufferOf xs order slots sheet ts) (lengthOf xs order slots sheet ts)
     ≡ file.Is (record { high = eqb order 1; m = 4 * slots; n = length ts; strings = 1; lines = 1 }))
-not-all-files-refused xs order slots sheet ts w some =
+not-all-files-refused xs order slots sheet ts g some =
+    let w = good-is-writable g in
     let h = written-afresh xs order slots sheet ts w .holds in
     let s = h .size in
     let m = w .most in (
@@ -69,10 +71,10 @@ two-sizes : fileSize 2 units (shot ∷ shot ∷ []) ≡ 164
 unfolding startSize areaSize stringsOf linesOf linesFrom lineLen keyLen run joined same textSize room needed count fileSize sizes
 two-sizes = refl
 
-two-writable : (xs : List ℕ) → 164 ≤ length xs → Writable xs 0 2 units (shot ∷ shot ∷ [])
-two-writable xs h =
+two-good : (xs : List ℕ) → 164 ≤ length xs → GoodList xs 0 2 units (shot ∷ shot ∷ [])
+two-good xs h =
     let s : fileSize 2 units (shot ∷ shot ∷ []) ≡ 164 = two-sizes in
-    record {
+    writable-is-good (record {
       either = omega arith;
       some = omega arith;
       few = omega arith;
@@ -81,7 +83,7 @@ two-writable xs h =
       slotted = omega arith;
       fits = omega arith;
       most = omega arith;
-    }
+    })
 
 abbrev traces-in : FileAnswer → ℕ
 traces-in (file.Is f) = f .n
@@ -92,24 +94,24 @@ pub not-the-same-for-all : (xs : List ℕ) → 164 ≤ length xs
     ≡ fileAnswer (bufferOf xs 0 2 units (shot ∷ shot ∷ [])) (lengthOf xs 0 2 units (shot ∷ shot ∷ []))
     → ⊥
 not-the-same-for-all xs h e =
-    let a = not-all-files-refused xs 0 1 units (shot ∷ []) (worked-writable xs (omega arith)) (omega arith) .1 in
-    let b = not-all-files-refused xs 0 2 units (shot ∷ shot ∷ []) (two-writable xs h) (omega arith) .1 in
+    let a = not-all-files-refused xs 0 1 units (shot ∷ []) (writable-is-good (worked-writable xs (omega arith))) (omega arith) .1 in
+    let b = not-all-files-refused xs 0 2 units (shot ∷ shot ∷ []) (two-good xs h) (omega arith) .1 in
     let n : _≡_ {A = ℕ} 1 2 = ap traces-in (sym a ∙ e ∙ b) in
     omega arith
 
 -- ---- "a start or an addition that refuses every list": none of the calls for a list that can be written is refused
 
-pub no-good-list-refused : (xs : List ℕ) (order slots : ℕ) (sheet : List ℕ) (ts : List Trace) → Writable xs order slots sheet ts
+pub no-good-list-refused : (xs : List ℕ) (order slots : ℕ) (sheet : List ℕ) (ts : List Trace) → GoodList xs order slots sheet ts
     → (startAnswer xs order slots sheet ≡ To (startSize slots sheet))
     × (answersOf (startLeft xs order slots sheet) (startSize slots sheet) ts ≡ lengths (startSize slots sheet) ts)
-no-good-list-refused xs order slots sheet ts w = (start-accepted xs order slots sheet ts w, none-refused xs order slots sheet ts w)
+no-good-list-refused xs order slots sheet ts g = let w = good-is-writable g in (start-accepted xs order slots sheet ts w, none-refused xs order slots sheet ts w)
 
 -- such a list is document 01's: the start answers 56, the addition 108, in every buffer that has room
 pub a-list-is-written : (xs : List ℕ) → 108 ≤ length xs
     → (startAnswer xs 0 1 units ≡ To 56) × (answersOf (startLeft xs 0 1 units) 56 (shot ∷ []) ≡ To 108 ∷ [])
 unfolding lengths
 a-list-is-written xs h =
-    let r = no-good-list-refused xs 0 1 units (shot ∷ []) (worked-writable xs h) in
+    let r = no-good-list-refused xs 0 1 units (shot ∷ []) (writable-is-good (worked-writable xs h)) in
     let s = worked-sizes .0 in
     let t : traceSize nul lineFeed shot ≡ 52 = omega (arith, worked-sizes .1, worked-sizes .2) in
     (rw s at (r .0), (rw (s, t) at (r .1)))

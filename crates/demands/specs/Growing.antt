@@ -5,12 +5,13 @@
 -- Assumes nothing.
 use mathlib.Core.Path.{_≡_, refl, sym, _∙_}
 use mathlib.Core.Bool.{Bool, false}
-use mathlib.Core.List.{List, [], _∷_}
+use mathlib.Core.List.{List, [], _∷_, _++_}
 use mathlib.Core.Logic.{_⊎_}
 use Prim.Native.Nat.{ℕ, _+_, _*_, _≤_, _<_}
 use native.Mathlib.Omega.{arith}
 use lib.IntN.{ℤ, pos, negsuc}
 use lib.ListN.{length, getD, take, drop}
+use lib.Seq.{length-take-le}
 use lib.Dec.{eqb}
 use Rattle.word.specs.Bytes.{Bytes}
 use Rattle.word.specs.Part.{part}
@@ -39,9 +40,11 @@ use Rattle.growth.specs.StillKeeps.{grown-accepted}
 use Rattle.growth.specs.StillRead as still
 use Rattle.growth.specs.TraceReads.{ReadsAs}
 use Rattle.growth.specs.AllBytes.{grown-are-bytes, start-are-bytes}
-use Rattle.afresh.specs.FileOf.{fileOf, fileSize}
+use Rattle.afresh.specs.FileOf.{fileOf, fileSize, AllGood}
+use Rattle.afresh.specs.Step.{Holds, start-afresh, add-afresh}
 use Rattle.afresh.specs.Calls.{after, answersOf, acceptedOf, after-to, after-refused, after-accepted, start-grows, calls-afresh}
-use Rattle.afresh.specs.Afresh.{lengths, Writable, none-refused, image-afresh, accepted-writable}
+use Rattle.afresh.specs.Afresh.{lengths, none-refused, image-afresh, accepted-writable}
+use Rattle.demands.specs.GoodLists.{GoodList, writable-is-good, good-is-writable}
 use Rattle.demands.specs.Reading.{new-trace-reads-back}
 
 -- ---- "after each accepted addition the file is, byte for byte, the one that the whole list of accepted traces defines when written afresh": `after` are the
@@ -59,22 +62,55 @@ pub past-the-image-nothing-changes : (xs : List ℕ) (order slots : ℕ) (sheet 
     → drop (after (startLeft xs order slots sheet) e calls .1) (after (startLeft xs order slots sheet) e calls .0) ≡ drop (after (startLeft xs order slots sheet) e calls .1) xs
 past-the-image-nothing-changes xs order slots sheet e to calls = start-grows xs order slots sheet e to calls .past
 
+-- the image may also be copied into another buffer between two calls: `Made` has the images that calls hand on, each call with a buffer of its own that holds
+-- the image at its start and has any bytes behind it. (A refused call leaves its buffer as it was, so it hands on the image that it got.)
+pub data Made (order slots : ℕ) (sheet : List ℕ) : List Trace → List ℕ → Type 0 where
+  a-start : (xs : List ℕ) (e : ℕ) → startAnswer xs order slots sheet ≡ To e → Made order slots sheet [] (take e (startLeft xs order slots sheet))
+  an-addition : {ts : List Trace} {f : List ℕ} → Made order slots sheet ts f → (xs : List ℕ) → length f ≤ length xs → take (length f) xs ≡ f → (x : Trace) (end : ℕ)
+      → addAnswer xs (length f) x ≡ To end → Made order slots sheet (ts ++ (x ∷ [])) (take end (addLeft xs (length f) x))
+
+record Image (order slots : ℕ) (sheet : List ℕ) (ts : List Trace) (f : List ℕ) : Type 0 where
+  image : f ≡ fileOf (eqb order 1) slots sheet ts
+  size : length f ≡ fileSize slots sheet ts
+  good : AllGood ts
+  slotted : length ts ≤ slots
+  few : slots ≤ 16383
+
+held-image : {order slots : ℕ} {sheet : List ℕ} {ts : List Trace} {xs : List ℕ} {n : ℕ} → Holds (eqb order 1) slots sheet ts xs n
+    → Image order slots sheet ts (take n xs)
+held-image {xs = xs} {n = n} h =
+    record { image = h .image; size = length-take-le n xs (h .fits) ∙ h .size; good = h .good; slotted = h .slotted; few = h .few }
+
+made-image : {order slots : ℕ} {sheet : List ℕ} (ts : List Trace) (f : List ℕ) → Made order slots sheet ts f → Image order slots sheet ts f
+made-image {order} {slots} {sheet} ts f (a-start xs e to) = held-image {order = order} (start-afresh xs order slots sheet e to)
+made-image {order} {slots} {sheet} us g (an-addition {ts} {f} m xs fits same x end to) =
+    let i = made-image ts f m in
+    let h : Holds (eqb order 1) slots sheet ts xs (length f) =
+    record { image = same ∙ i .image; size = i .size; fits = fits; good = i .good; slotted = i .slotted; few = i .few } in
+    held-image {order = order} (add-afresh (eqb order 1) slots sheet ts xs (length f) x h end to)
+
+-- Rules out an addition that leans on what lies behind the image, or on the buffer of the call before.
+pub byte-for-byte-in-any-buffers : (order slots : ℕ) (sheet : List ℕ) (ts : List Trace) (f : List ℕ) → Made order slots sheet ts f
+    → f ≡ fileOf (eqb order 1) slots sheet ts
+byte-for-byte-in-any-buffers order slots sheet ts f m = made-image ts f m .image
+
 -- "when written afresh": the accepted traces, given alone to a start in any buffer that has room for them, are all accepted and leave the same image
 pub written-afresh-alone : (xs : List ℕ) (order slots : ℕ) (sheet : List ℕ) (e : ℕ) → startAnswer xs order slots sheet ≡ To e → (calls : List Trace)
-    → (ys : List ℕ) → Writable ys order slots sheet (acceptedOf (startLeft xs order slots sheet) e calls)
+    → (ys : List ℕ) → GoodList ys order slots sheet (acceptedOf (startLeft xs order slots sheet) e calls)
     → (answersOf (startLeft ys order slots sheet) (startSize slots sheet) (acceptedOf (startLeft xs order slots sheet) e calls)
     ≡ lengths (startSize slots sheet) (acceptedOf (startLeft xs order slots sheet) e calls))
     × (take (after (startLeft ys order slots sheet) (startSize slots sheet) (acceptedOf (startLeft xs order slots sheet) e calls) .1)
     (after (startLeft ys order slots sheet) (startSize slots sheet) (acceptedOf (startLeft xs order slots sheet) e calls) .0)
     ≡ take (after (startLeft xs order slots sheet) e calls .1) (after (startLeft xs order slots sheet) e calls .0))
-written-afresh-alone xs order slots sheet e to calls ys w =
+written-afresh-alone xs order slots sheet e to calls ys g =
+    let w = good-is-writable g in
     let ts : List Trace = acceptedOf (startLeft xs order slots sheet) e calls in
     (none-refused ys order slots sheet ts w, image-afresh ys order slots sheet ts w .0 ∙ sym (calls-afresh xs order slots sheet e to calls .0))
 
--- the buffer of the calls itself has room for them
+-- they are a good list (GoodLists: document 01's words, without the writers' verdicts), and the buffer of the calls itself has room for them
 pub accepted-are-writable : (xs : List ℕ) (order slots : ℕ) (sheet : List ℕ) (e : ℕ) → startAnswer xs order slots sheet ≡ To e → (calls : List Trace)
-    → Writable xs order slots sheet (acceptedOf (startLeft xs order slots sheet) e calls)
-accepted-are-writable = accepted-writable
+    → GoodList xs order slots sheet (acceptedOf (startLeft xs order slots sheet) e calls)
+accepted-are-writable xs order slots sheet e to calls = writable-is-good (accepted-writable xs order slots sheet e to calls)
 
 -- a refused call is as if it had not been made
 pub refused-calls-leave-no-trace : (calls : List Trace) (xs : List ℕ) (n : ℕ) → after xs n (acceptedOf xs n calls) ≡ after xs n calls

@@ -4,8 +4,13 @@ pub mod WriterRows
 pub mod QuestionRows
 pub mod Answers
 pub mod ListReads
+pub mod GoodLists
 pub mod Reading
 pub mod Growing
 pub mod One
 pub mod Excluded
 pub mod Worked
+pub mod Samples
+pub mod Loss
+pub mod Locations
+pub mod Exported

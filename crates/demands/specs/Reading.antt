@@ -3,18 +3,15 @@
 -- Assumes nothing.
 use mathlib.Core.Path.{_≡_, refl, sym, ap, _∙_}
 use mathlib.Core.Bool.{Bool, true, false}
-use mathlib.Core.List.{List, [], _∷_, _++_, map}
+use mathlib.Core.List.{List, [], _∷_, _++_}
 use mathlib.Core.Logic.{_↔_}
-use Prim.Native.Nat.{ℕ, _+_, _*_, _/_, _%_, _^_, _≤_, _<_}
+use Prim.Native.Nat.{ℕ, _+_, _*_, _≤_, _<_}
 use native.Mathlib.Omega.{arith}
-use lib.IntN.{ℤ, pos, negsuc, natAbs, _-ℤ_}
+use lib.IntN.{ℤ, pos, negsuc}
 use lib.ListN.{length, getD, take}
-use lib.Ieee as ieee
-use lib.Ieee.{Float, Format, binary64, round}
+use lib.Ieee.{Float, binary64, round}
 use Rattle.word.specs.Bytes.{Bytes}
-use Rattle.word.specs.Part.{part}
 use Rattle.word.specs.Round.{round4}
-use Rattle.word.specs.Word.{wordAt}
 use Rattle.refusal.specs.declared.Rule.the-variants.{NoNumber}
 use Rattle.refusal.specs.declared.Part.the-variants.{File}
 use Rattle.refusal.specs.declared.Verdict.the-variants.{Accepted}
@@ -34,25 +31,19 @@ use Rattle.decimal.specs.Agreed.{parts-unique, is-number, no-number, too-long}
 use Rattle.decimal.specs.Marks.{comma}
 use Rattle.double.specs.LocationMarks.{comma-double, comma-location}
 use Rattle.double.specs.Rounded.{text-rounded-once}
-use Rattle.sample.specs.Needed.{width}
-use Rattle.sample.specs.Run.{run}
-use Rattle.decode.specs.Sample.{patternOf, twos, exponentIn, scaled, groupSample, sampleOf, classOf}
-use Rattle.decode.specs.Classes.{valueClass, codeOf, class-ieee}
-use Rattle.encode.specs.Write.{exponentOf}
-use Rattle.encode.specs.Cut.{cut, cut-near, cut-exact}
 use Rattle.sheet.specs.declared.Measured.the-variants.{Size}
-use Rattle.sheet.specs.Lines.{linesOf}
-use Rattle.sheet.specs.Area.{joined, areaSize, stringsOf, measuredOf}
-use Rattle.sheet.specs.Paper.{sheetOf, GoodLines, accepted-lines}
-use Rattle.area.specs.Spelling.{measured-size}
+use Rattle.sheet.specs.Lines.{Line, linesOf}
+use Rattle.sheet.specs.Area.{joined, textSize, areaOf, areaSize, stringsOf, measuredOf}
+use Rattle.sheet.specs.Sizes.{length-area}
+use Rattle.sheet.specs.Paper.{sheetOf, GoodLines, accepted-lines, lines-read, lines-once}
+use Rattle.area.specs.Spelling.{measured-size, good-measured}
 use Rattle.area.specs.Meaning.{Parted, lines-parted}
 use Rattle.head.specs.Head.{highFirst, countOf}
-use Rattle.block.specs.Block.{dataAt, endAt}
 use Rattle.image.specs.Image.{checkOf}
-use Rattle.image.specs.Keeps.{traceAt, Keeps}
+use Rattle.image.specs.Keeps.{Keeps}
 use Rattle.image.specs.Accepted.{accepted-keeps, keeps-accepted}
 use Rattle.reader.specs.declared.FileAnswer.the-variants as file
-use Rattle.reader.specs.Questions.{fileAnswer, codeAt, countAt, ofIntegers, ofBits, dataOf, samplesOf, patternsOf, classesOf, integersAnswer, bitsAnswer, integersLeft, patternsLeft, classesLeft, numberAnswer, doubleAnswer, locationAnswer}
+use Rattle.reader.specs.Questions.{fileAnswer, codeAt, countAt, ofIntegers, ofBits, samplesOf, patternsOf, classesOf, integersAnswer, bitsAnswer, integersLeft, patternsLeft, classesLeft, numberAnswer, doubleAnswer, locationAnswer}
 use Rattle.reader.specs.Listed.{Lists, file-lists, trace-lists, lists-once}
 use Rattle.reader.specs.Answers.{integers-read, bits-read}
 use Rattle.start.specs.declared.Written.the-variants.{To}
@@ -62,7 +53,7 @@ use Rattle.writer.specs.Answers.{addAnswer, addLeft}
 use Rattle.start.specs.StartShown.{started}
 use Rattle.writer.specs.Shown.{added, add-left}
 use Rattle.growth.specs.Answered.{AnswersBy, answered}
-use Rattle.growth.specs.TraceReads.{readBack, ReadsAs}
+use Rattle.growth.specs.TraceReads.{ReadsAs}
 use Rattle.growth.specs.ReadsLast.{reads-last}
 use Rattle.afresh.specs.FileOf.{fileSize}
 use Rattle.afresh.specs.Calls.{after, acceptedOf, start-grows}
@@ -132,25 +123,7 @@ double-rounded-once xs n z ss a key p w x e = text-rounded-once p (valueOfKey ss
 
 -- ---- "its .. samples are the paper's"
 
--- the formats, as figures B-1 to B-5 have them. Rules out "Two's complement in code 3" and "Reversing all ten bytes of a group".
-pub samples-by-format : (high : Bool) (block : List ℕ) (i : ℕ)
-    → (sampleOf 1 high block i ≡ twos 32768 (wordAt 2 high block (2 * i)))
-    × (sampleOf 2 high block i ≡ twos 2147483648 (wordAt 4 high block (4 * i)))
-    × (sampleOf 3 high block i ≡ scaled (wordAt 2 high block (i / 4 * 10) / 2 ^ (4 * (i % 4)) % 16) (wordAt 2 high block (i / 4 * 10 + 2 * (i % 4 + 1))))
-    × (patternOf 4 high block i ≡ wordAt 4 high block (4 * i))
-    × (patternOf 5 high block i ≡ wordAt 8 high block (8 * i))
-unfolding sampleOf patternOf width groupSample exponentIn
-samples-by-format high block i = (refl, refl, refl, refl, refl)
-
--- they are those of the trace's own D bytes from p+B, S of them. Rules out "Using B as the data's file position" and "Taking S from D".
-pub samples-of-the-data : (f : List ℕ) (k : ℕ)
-    → (dataOf f k ≡ part (dataAt (highFirst f) f (traceAt f k)) (endAt (highFirst f) f (traceAt f k)) f)
-    × (samplesOf f k ≡ run (sampleOf (codeAt f k) (highFirst f) (dataOf f k)) 0 (countAt f k))
-    × (patternsOf f k ≡ run (patternOf (codeAt f k) (highFirst f) (dataOf f k)) 0 (countAt f k))
-unfolding dataOf samplesOf patternsOf
-samples-of-the-data f k = (refl, refl, refl)
-
--- and are left in a row of S elements
+-- they are those of the format (Samples), and are left in a row of S elements
 pub integers-are-read : (xs : List ℕ) (n k : ℕ) → checkOf false xs n ≡ Accepted → k < countOf (take n xs) → (row : List ℤ)
     → ofIntegers (codeAt (take n xs) k) ≡ true → length row ≡ countAt (take n xs) k
     → (integersAnswer xs n (pos k) (length row) ≡ Accepted) × (integersLeft xs n (pos k) row ≡ samplesOf (take n xs) k)
@@ -163,19 +136,28 @@ pub bits-are-read : (xs : List ℕ) (n k : ℕ) → checkOf false xs n ≡ Accep
     × (classesLeft xs n (pos k) row classes ≡ classesOf (take n xs) k)
 bits-are-read = bits-read
 
--- classes are IEEE 754's
-pub classes-are-ieee : (f : Format) (n : ℕ) → classOf (codeOf f) n ≡ valueClass f (ieee.ofBits f n)
-classes-are-ieee = class-ieee
-
 -- ---- "what we write reads back as what was given, save the low bits that 20-bit samples cannot hold"
 
--- a sheet that is let through is its lines, one way, and its strings are those lines', NOTE lines joined
+-- a sheet that is let through is the bytes of good lines, of one list of them only, and its strings are those lines': keyword and value of each line before the
+-- first NOTE, and behind them one NOTE whose value is the values of all NOTE lines with the line terminator between (`Parted`). Rules out a writer that
+-- reads a sheet in another way than its lines, loses one, or takes two sheets for one.
 pub strings-are-the-lines : (t u s : List ℕ) (n : ℕ) → measuredOf t u s ≡ Size n
-    → (s ≡ sheetOf (linesOf s)) × GoodLines [] (linesOf s) × (stringsOf u s ≡ joined u (linesOf s)) × Parted u (linesOf s)
+    → (ls : List Line) × (s ≡ sheetOf ls) × GoodLines [] ls × ((ms : List Line) → s ≡ sheetOf ms → GoodLines [] ms → ms ≡ ls)
+    × (stringsOf u s ≡ joined u ls) × Parted u ls
 unfolding stringsOf
 strings-are-the-lines t u s n e =
     let l = accepted-lines s (measured-size t u s n e .0) in
-    (l .0, l .1, refl, lines-parted u (linesOf s) (l .1))
+    (linesOf s, l .0, l .1, λ ms b g. lines-once s ms (linesOf s) b (l .0) g (l .1), refl, lines-parted u (linesOf s) (l .1))
+
+-- and every list of good lines whose area is not too large is let through, as itself
+pub lines-are-let-through : (t u : List ℕ) (ls : List Line) → GoodLines [] ls → length (areaOf false t u (sheetOf ls)) ≤ 65500
+    → (measuredOf t u (sheetOf ls) ≡ Size (length (areaOf false t u (sheetOf ls)))) × (stringsOf u (sheetOf ls) ≡ joined u ls)
+unfolding areaSize stringsOf
+lines-are-let-through t u ls g h =
+    let a : length (areaOf false t u (sheetOf ls)) ≡ round4 (textSize t (joined u ls)) =
+    length-area false t u (sheetOf ls) ∙ ap (λ (ms : List Line). round4 (textSize t (joined u ms))) (lines-read [] ls g) in
+    let m = good-measured t u ls g (omega arith) in
+    (m .0 ∙ ap Size (sym a), m .1)
 
 -- the new trace, on any image that an addition takes. Rules out an addition that writes nothing, or writes what reads otherwise.
 pub new-trace-reads-back : (xs : List ℕ) (n : ℕ) (x : Trace) (end : ℕ) → Bytes xs → addAnswer xs n x ≡ To end
@@ -208,11 +190,3 @@ module _ (xs : List ℕ) (order slots : ℕ) (sheet : List ℕ) (e : ℕ) (to : 
   file-strings-read-back low =
       let s = started xs order slots sheet e to in
       list-file-strings (start-grows xs order slots sheet e to calls .holds) (s .some) (areaSize nul lineFeed sheet, s .sized) most low
-
--- what reads back of samples: codes 1 and 2 as they were, and of code 3 each "differs by less than 2 to the exponent, and by nothing up to 32,767". Rules out
--- rounding, and the loss of a bit that a mantissa holds.
-pub only-low-bits-are-lost : (row : List ℤ)
-    → (readBack 1 row ≡ row) × (readBack 2 row ≡ row) × (readBack 3 row ≡ map cut row)
-    × ((z : ℤ) → natAbs (z -ℤ cut z) < 2 ^ exponentOf z) × ((z : ℤ) → natAbs z ≤ 32767 → cut z ≡ z)
-unfolding readBack
-only-low-bits-are-lost row = (refl, refl, refl, cut-near, cut-exact)

@@ -27,6 +27,7 @@ use Rattle.writer.specs.Answers.{samplesOf}
 pub data Case : Type 0 where
   reads : ℕ → Bool → List ℕ → List ℤ → Case  -- under a code, in an order (true: high first), these bytes are these samples
   writes : ℤ → ℕ → ℤ → Case  -- under code 3 this sample has this exponent and this mantissa
+  stands : ℕ → Bool → List ℤ → List ℕ → Case  -- under a code, in an order, these samples are written as these bytes
   becomes : ℤ → ℤ → Case  -- written under code 3, in either order, this sample reads back as that one
   unwritten : ℕ → List ℤ → ℕ → ℕ → Case  -- these samples are refused under a code, by a number at a place
   number : List ℕ → Bool → ℕ → ℤ → Case  -- this text is a number: minus, coefficient, power
@@ -48,6 +49,7 @@ unfoldable pub Holds : Case → Type 0
 unfolding row-of
 Holds (reads code high block row) = integersRead code high block (row-of (length row)) ≡ row
 Holds (writes z e m) = (exponentOf z ≡ e) × (mantissaOf z ≡ m)
+Holds (stands code high row block) = integersData code high row ≡ block
 Holds (becomes z v) =
     (integersRead 3 false (integersData 3 false (z ∷ row-of 3)) (row-of 4) ≡ v ∷ row-of 3)
     × (integersRead 3 true (integersData 3 true (z ∷ row-of 3)) (row-of 4) ≡ v ∷ row-of 3)
@@ -72,6 +74,9 @@ table =
     ∷ reads 3 false (16 ∷ 242 ∷ 1 ∷ 0 ∷ 254 ∷ 255 ∷ 5 ∷ 0 ∷ 255 ∷ 127 ∷ []) (pos 1 ∷ negsuc 1 ∷ pos 20 ∷ pos 1073709056 ∷ [])
     -- *Writing 100000 in code 3: exponent 2, mantissa 25000
     ∷ writes (pos 100000) 2 (pos 25000)
+    -- so by its bytes: a group of it and three zeros is 02 00 A8 61 and zeros low first, 00 02 61 A8 and zeros high first, filled up to 12 bytes
+    ∷ stands 3 false (pos 100000 ∷ pos 0 ∷ pos 0 ∷ pos 0 ∷ []) (2 ∷ 0 ∷ 168 ∷ 97 ∷ replicate 8 0)
+    ∷ stands 3 true (pos 100000 ∷ pos 0 ∷ pos 0 ∷ pos 0 ∷ []) (0 ∷ 2 ∷ 97 ∷ 168 ∷ replicate 8 0)
     -- *-32769 reads back -32768; *1073741823 reads back 1073709056
     ∷ becomes (negsuc 32768) (negsuc 32767)
     ∷ becomes (pos 1073741823) (pos 1073709056)
@@ -95,4 +100,4 @@ table =
 pub worked-values : AllHold table
 unfolding AllHold Holds table row-of lowFirst valueOf wordAt lowBytes bytesOf needed width samples.run patternOf twos exponentIn ones scaled groupSample sampleOf integersThere integersRead firstFrom unfitInteger unfitIntegers smallest exponentOf mantissaOf onesBits exponentsOf wordsOf groupBytes groups filledUp integersData samplesOf fitting unfit numberOf partsOf judged decimalOf powerOf value worth past has run
 worked-values =
-    (refl, (refl, (refl, (refl, (refl, ((refl, refl), ((refl, refl), ((refl, refl), (refl, (refl, (refl, (refl, (refl, (refl, (refl, (refl, (refl, tt)))))))))))))))))
+    (refl, (refl, (refl, (refl, (refl, ((refl, refl), (refl, (refl, ((refl, refl), ((refl, refl), (refl, (refl, (refl, (refl, (refl, (refl, (refl, (refl, (refl, tt)))))))))))))))))))

@@ -1,0 +1,200 @@
+-- The lists that can be written, in document 01's words alone and without the writers' verdicts ("What we write", rows 24 to 31): the start's inputs, sheets as
+-- lists of lines, samples as their codes hold them, and the file that the list defines, which has to fit. Theorem: these are exactly the lists of which no call is
+-- refused (`Writable` of afresh says the same by the writers' own tests).
+-- Assumes nothing.
+use mathlib.Core.Path.{_≡_, refl, sym, ap, _∙_}
+use mathlib.Core.Bool.{Bool, true, false}
+use mathlib.Core.List.{List, [], _∷_}
+use mathlib.Core.Logic.{_↔_}
+use Prim.Native.Nat.{ℕ, zero, suc, _+_, _*_, _%_, _≤_, _<_}
+use native.Mathlib.Omega.{arith}
+use lib.IntN.{ℤ, pos, negsuc, natAbs}
+use lib.Signed.{mag}
+use lib.ListN.{length, getD}
+use lib.Dec.{ltb, leb, eqb}
+use borrow.Author.Tests.{lt-leb, le-ltb, leb-false, eq-eqb, eqb-true}
+use Rattle.word.specs.Tests.{never}
+use Rattle.word.specs.Round.{round4}
+use Rattle.encode.specs.declared.Fit.the-variants.{All}
+use Rattle.encode.specs.Unfit.{firstFrom, outside, unfitInteger, unfitPattern, unfitIntegers, unfitPatterns, all-good, first-none}
+use Rattle.encode.specs.Back.{reach, fit-reach}
+use Rattle.sheet.specs.declared.Measured.the-variants.{Size}
+use Rattle.sheet.specs.Lines.{Line}
+use Rattle.sheet.specs.Area.{joined, stringsOf, textSize, areaOf, areaSize}
+use Rattle.sheet.specs.Sizes.{length-area}
+use Rattle.sheet.specs.Paper.{sheetOf, GoodLines, accepted-lines, lines-read}
+use Rattle.area.specs.Spelling.{measured-size, good-measured}
+use Rattle.layout.specs.Layout.{nul, lineFeed, Trace, Samples, Samples.integers, Samples.patterns, fitting, unfit}
+use Rattle.afresh.specs.FileOf.{fileOf, fileSize, Measures, Good, AllGood}
+use Rattle.afresh.specs.FileLaws.{length-file}
+use Rattle.afresh.specs.Afresh.{Writable}
+
+-- ---- "Strings come as a sheet, lines of text ended by 0Ah: keyword (as above), tab, value"; "An area is at most 65,500 bytes"
+
+pub record GoodSheet (sheet : List ℕ) : Type 0 where
+  pub lines : List Line
+  pub bytes : sheet ≡ sheetOf lines
+  pub good : GoodLines [] lines
+  pub small : length (areaOf false nul lineFeed sheet) ≤ 65500
+
+sheet-good : (sheet : List ℕ) → Measures sheet → GoodSheet sheet
+sheet-good sheet m =
+    let b = measured-size nul lineFeed sheet (m .0) (m .1) in
+    let l = accepted-lines sheet (b .0) in
+    let a = length-area false nul lineFeed sheet in
+    record { lines = _; bytes = l .0; good = l .1; small = omega (arith, a, b .1, b .2) }
+
+sheet-measured : (sheet : List ℕ) → GoodSheet sheet → Measures sheet
+unfolding areaSize stringsOf
+sheet-measured sheet g =
+    let ls = g .lines in
+    let a : length (areaOf false nul lineFeed (sheetOf ls)) ≡ round4 (textSize nul (joined lineFeed ls)) =
+    length-area false nul lineFeed (sheetOf ls) ∙ ap (λ (ms : List Line). round4 (textSize nul (joined lineFeed ms))) (lines-read [] ls (g .good)) in
+    let s : length (areaOf false nul lineFeed (sheetOf ls)) ≤ 65500 = rw (g .bytes) at (g .small) in
+    let m = good-measured nul lineFeed ls (g .good) (omega arith) in
+    (round4 (textSize nul (joined lineFeed ls)), rw (g .bytes) (m .0))
+
+-- ---- samples that their code holds: 28 and 29 are not met
+
+pub data Held : ℕ → Samples → Type 0 where
+  -- "outside code 1's range": -32,768 to 32,767
+  one : {row : List ℤ} → ((k : ℕ) → k < length row → mag (getD row k (pos 0)) < 32768) → Held 1 (integers row)
+  two : {row : List ℤ} → Held 2 (integers row)
+  -- "count not a multiple of 4 under code 3"; "of magnitude 2^30 or more"
+  three : {row : List ℤ} → length row % 4 ≡ 0 → ((k : ℕ) → k < length row → natAbs (getD row k (pos 0)) < 1073741824) → Held 3 (integers row)
+  -- "a pattern over 32 bits under code 4"
+  four : {row : List ℕ} → ((k : ℕ) → k < length row → getD row k 0 < 4294967296) → Held 4 (patterns row)
+  five : {row : List ℕ} → Held 5 (patterns row)
+
+-- each is good, so all are
+each-good : {A : Type 0} (bad : A → Bool) (d : A) (i : ℕ) (xs : List A) → ((k : ℕ) → k < length xs → bad (getD xs k d) ≡ false) → firstFrom bad i xs ≡ All
+unfolding firstFrom
+each-good bad d i [] h = refl
+each-good bad d i (x ∷ xs) h = rw (h 0 (omega arith)) (each-good bad d (i + 1) xs (λ k l. h (suc k) (omega arith)))
+
+in-16 : (z : ℤ) → mag z < 32768 → unfitInteger 1 z ≡ false
+unfolding unfitInteger outside
+in-16 (pos n) h = le-ltb 32767 n (omega arith)
+in-16 (negsuc n) h = rw (le-ltb 32767 n (omega arith))
+
+in-30 : (z : ℤ) → natAbs z < 1073741824 → unfitInteger 3 z ≡ false
+unfolding unfitInteger
+in-30 z h = lt-leb 1073741824 (natAbs z) h
+
+out-30 : (z : ℤ) → unfitInteger 3 z ≡ false → natAbs z < 1073741824
+unfolding unfitInteger
+out-30 z h = leb-false 1073741824 (natAbs z) h
+
+in-32 : (n : ℕ) → n < 4294967296 → unfitPattern 4 n ≡ false
+unfolding unfitPattern
+in-32 n h = lt-leb 4294967296 n h
+
+out-32 : (n : ℕ) → unfitPattern 4 n ≡ false → n < 4294967296
+unfolding unfitPattern
+out-32 n h = leb-false 4294967296 n h
+
+two-holds : (z : ℤ) → unfitInteger 2 z ≡ false
+unfolding unfitInteger
+two-holds z = refl
+
+five-holds : (n : ℕ) → unfitPattern 5 n ≡ false
+unfolding unfitPattern
+five-holds n = refl
+
+all-held : (code : ℕ) (s : Samples) → Held code s → (fitting code s ≡ true) × (unfit code s ≡ All)
+unfolding fitting unfit unfitIntegers unfitPatterns
+all-held code s (one {row} h) = (refl, each-good (unfitInteger 1) (pos 0) 0 row (λ k l. in-16 (getD row k (pos 0)) (h k l)))
+all-held code s (two {row}) = (refl, each-good (unfitInteger 2) (pos 0) 0 row (λ k l. two-holds (getD row k (pos 0))))
+all-held code s (three {row} w h) = (eq-eqb (length row % 4) 0 w, each-good (unfitInteger 3) (pos 0) 0 row (λ k l. in-30 (getD row k (pos 0)) (h k l)))
+all-held code s (four {row} h) = (refl, each-good (unfitPattern 4) 0 0 row (λ k l. in-32 (getD row k 0) (h k l)))
+all-held code s (five {row}) = (refl, each-good (unfitPattern 5) 0 0 row (λ k l. five-holds (getD row k 0)))
+
+held : (code : ℕ) (s : Samples) → fitting code s ≡ true → unfit code s ≡ All → Held code s
+unfolding fitting unfit unfitIntegers unfitPatterns reach
+held zero (integers row) a h = never a
+held (suc zero) (integers row) a h = one (fit-reach row h)
+held (suc (suc zero)) (integers row) a h = two
+held (suc (suc (suc zero))) (integers row) a h =
+    three (eqb-true (length row % 4) 0 a) (λ k l. out-30 (getD row k (pos 0)) (all-good (unfitInteger 3) (pos 0) 0 row h k l))
+held (suc (suc (suc (suc zero)))) (integers row) a h = never a
+held (suc (suc (suc (suc (suc zero))))) (integers row) a h = never a
+held (suc (suc (suc (suc (suc (suc code)))))) (integers row) a h = never a
+held zero (patterns row) a h = never a
+held (suc zero) (patterns row) a h = never a
+held (suc (suc zero)) (patterns row) a h = never a
+held (suc (suc (suc zero))) (patterns row) a h = never a
+held (suc (suc (suc (suc zero)))) (patterns row) a h = four (λ k l. out-32 (getD row k 0) (all-good (unfitPattern 4) 0 0 row h k l))
+held (suc (suc (suc (suc (suc zero))))) (patterns row) a h = five
+held (suc (suc (suc (suc (suc (suc code)))))) (patterns row) a h = never a
+
+-- ---- traces and lists
+
+pub record GoodTrace (x : Trace) : Type 0 where
+  pub strings : GoodSheet (x .sheet)
+  pub samples : Held (x .code) (x .samples)
+
+abbrev pub GoodTraces : List Trace → Type 0
+GoodTraces [] = Unit {0}
+GoodTraces (x ∷ ts) = GoodTrace x × GoodTraces ts
+
+-- "Starting takes byte order (0 low first, 1 high first), pointer slots and the file's sheet": 1 to 16,383 slots, no more traces than slots, and the file that the
+-- list defines within the buffer and the maximum
+pub record GoodList (xs : List ℕ) (order slots : ℕ) (sheet : List ℕ) (ts : List Trace) : Type 0 where
+  pub either : order ≤ 1
+  pub some : 1 ≤ slots
+  pub few : slots ≤ 16383
+  pub strings : GoodSheet sheet
+  pub traces : GoodTraces ts
+  pub slotted : length ts ≤ slots
+  pub fits : length (fileOf (eqb order 1) slots sheet ts) ≤ length xs
+  pub most : length (fileOf (eqb order 1) slots sheet ts) ≤ 67108864
+
+trace-good : (x : Trace) → Good x → GoodTrace x
+trace-good x g = record { strings = sheet-good (x .sheet) (g .measures); samples = held (x .code) (x .samples) (g .kind) (g .held) }
+
+good-trace : (x : Trace) → GoodTrace x → Good x
+good-trace x g =
+    let h = all-held (x .code) (x .samples) (g .samples) in
+    record { measures = sheet-measured (x .sheet) (g .strings); kind = h .0; held = h .1 }
+
+traces-good : (ts : List Trace) → AllGood ts → GoodTraces ts
+traces-good [] g = tt
+traces-good (x ∷ ts) g = (trace-good x (g .0), traces-good ts (g .1))
+
+good-traces : (ts : List Trace) → GoodTraces ts → AllGood ts
+good-traces [] g = tt
+good-traces (x ∷ ts) g = (good-trace x (g .0), good-traces ts (g .1))
+
+pub writable-is-good : {xs : List ℕ} {order slots : ℕ} {sheet : List ℕ} {ts : List Trace} → Writable xs order slots sheet ts → GoodList xs order slots sheet ts
+writable-is-good {xs} {order} {slots} {sheet} {ts} w =
+    let l = length-file (eqb order 1) slots sheet ts (w .slotted) (w .good) in
+    record {
+      either = w .either;
+      some = w .some;
+      few = w .few;
+      strings = sheet-good sheet (w .measures);
+      traces = traces-good ts (w .good);
+      slotted = w .slotted;
+      fits = omega (arith, l, w .fits);
+      most = omega (arith, l, w .most);
+    }
+
+pub good-is-writable : {xs : List ℕ} {order slots : ℕ} {sheet : List ℕ} {ts : List Trace} → GoodList xs order slots sheet ts → Writable xs order slots sheet ts
+good-is-writable {xs} {order} {slots} {sheet} {ts} g =
+    let all = good-traces ts (g .traces) in
+    let l = length-file (eqb order 1) slots sheet ts (g .slotted) all in
+    record {
+      either = g .either;
+      some = g .some;
+      few = g .few;
+      measures = sheet-measured sheet (g .strings);
+      good = all;
+      slotted = g .slotted;
+      fits = omega (arith, l, g .fits);
+      most = omega (arith, l, g .most);
+    }
+
+-- Rules out a writer with a test of its own, and a description of good lists that only repeats the writers'.
+pub writable-exactly-when-good : (xs : List ℕ) (order slots : ℕ) (sheet : List ℕ) (ts : List Trace)
+    → Writable xs order slots sheet ts ↔ GoodList xs order slots sheet ts
+writable-exactly-when-good xs order slots sheet ts = (writable-is-good, good-is-writable)
