@@ -14,3 +14,4 @@ pub mod Samples
 pub mod Loss
 pub mod Locations
 pub mod Exported
+pub mod Ignored

@@ -15,15 +15,16 @@ use borrow.Author.Tests.{eq-eqb, ne-eqb}
 use Rattle.word.specs.Bytes.{Bytes}
 use Rattle.word.specs.Part.{part}
 use Rattle.word.specs.Word.{wordAt}
-use Rattle.word.specs.WordLaws.{word-byte, word-joined, word-part, word-small, word-take}
+use Rattle.word.specs.WordLaws.{word-byte, word-joined, word-part, word-small}
 use Rattle.sample.specs.Needed.{needed, width}
-use Rattle.sample.specs.Run.{run, run-same}
-use Rattle.decode.specs.Sample.{patternOf, exponentIn, groupSample, sampleOf, integersAsked, bitsAsked, classBy, classOf}
-use Rattle.decode.specs.SampleLaws.{twos-plus, twos-minus, scaled-plus, scaled-minus, sample-needed}
+use Rattle.sample.specs.Run.{run}
+use Rattle.decode.specs.Sample.{patternOf, exponentIn, groupSample, sampleOf, classBy, classOf}
+use Rattle.decode.specs.SampleLaws.{twos-plus, twos-minus, scaled-plus, scaled-minus}
 use Rattle.decode.specs.Classes.{valueClass, codeOf, class-ieee}
 use Rattle.head.specs.Head.{highFirst}
 use Rattle.block.specs.Block.{pointerOf, blockSize, dataSize, sampleCount, formatCode, endAt}
 use Rattle.reader.specs.Questions.{dataOf, samplesOf, patternsOf, classesOf}
+use Rattle.ignored.specs.Data.{samples-same, patterns-same, classes-same}
 
 -- ---- whole numbers: what each byte weighs, low byte first (`false`) and high byte first (`true`)
 
@@ -140,29 +141,11 @@ samples-of-the-data f k h p b d s c eh ep eb ed es ec = rw (← eh, ← ep, ← 
 pub words-of-the-data : (w : ℕ) (h : Bool) (a e : ℕ) (f : List ℕ) (at : ℕ) → a + at + w ≤ e → wordAt w h (part a e f) at ≡ wordAt w h f (a + at)
 words-of-the-data = word-part
 
--- ---- "D may exceed this; the rest is ignored": blocks that agree in the needed bytes have the same samples, and the same patterns
-
-pattern-needed : (code : ℕ) (high : Bool) (block : List ℕ) (n s i : ℕ) → bitsAsked code ≡ true → i < s → needed code s ≤ n
-    → patternOf code high (take n block) i ≡ patternOf code high block i
-unfolding patternOf width needed
-pattern-needed zero high block n s i a l h = let z : _≡_ {A = ℕ} 0 1 = cc in absurd (omega arith)
-pattern-needed (suc zero) high block n s i a l h = let z : _≡_ {A = ℕ} 0 1 = cc in absurd (omega arith)
-pattern-needed (suc (suc zero)) high block n s i a l h = let z : _≡_ {A = ℕ} 0 1 = cc in absurd (omega arith)
-pattern-needed (suc (suc (suc zero))) high block n s i a l h = let z : _≡_ {A = ℕ} 0 1 = cc in absurd (omega arith)
-pattern-needed (suc (suc (suc (suc zero)))) high block n s i a l h = word-take 4 high n block (4 * i) (omega arith)
-pattern-needed (suc (suc (suc (suc (suc zero))))) high block n s i a l h = word-take 8 high n block (8 * i) (omega arith)
-pattern-needed (suc (suc (suc (suc (suc (suc code)))))) high block n s i a l h = let z : _≡_ {A = ℕ} 0 1 = cc in absurd (omega arith)
+-- ---- "D may exceed this; the rest is ignored": blocks that agree in the needed bytes have the same samples, patterns and classes
 
 pub rest-of-the-data-ignored : (code : ℕ) (high : Bool) (block other : List ℕ) (s : ℕ) → take (needed code s) block ≡ take (needed code s) other
-    → (integersAsked code s ≡ true → run (sampleOf code high block) 0 s ≡ run (sampleOf code high other) 0 s)
-    × (bitsAsked code ≡ true → run (patternOf code high block) 0 s ≡ run (patternOf code high other) 0 s)
-rest-of-the-data-ignored code high block other s e = (
-  λ a. run-same (sampleOf code high block) (sampleOf code high other) 0 s (λ i p l.
-      sym (sample-needed code high block (needed code s) s i a (omega arith) (omega arith))
-      ∙ ap (λ (r : List ℕ). sampleOf code high r i) e
-      ∙ sample-needed code high other (needed code s) s i a (omega arith) (omega arith)),
-  λ a. run-same (patternOf code high block) (patternOf code high other) 0 s (λ i p l.
-      sym (pattern-needed code high block (needed code s) s i a (omega arith) (omega arith))
-      ∙ ap (λ (r : List ℕ). patternOf code high r i) e
-      ∙ pattern-needed code high other (needed code s) s i a (omega arith) (omega arith)),
-)
+    → ((code ≡ 3 → s % 4 ≡ 0) → run (sampleOf code high block) 0 s ≡ run (sampleOf code high other) 0 s)
+    × (run (patternOf code high block) 0 s ≡ run (patternOf code high other) 0 s)
+    × (run (λ i. classOf code (patternOf code high block i)) 0 s ≡ run (λ i. classOf code (patternOf code high other i)) 0 s)
+rest-of-the-data-ignored code high block other s e =
+    (samples-same code high block other s e, patterns-same code high block other s e, classes-same code high block other s e)

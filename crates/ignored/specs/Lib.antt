@@ -1,0 +1,4 @@
+pub mod Areas
+pub mod Images
+pub mod Data
+pub mod Reads

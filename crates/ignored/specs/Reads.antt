@@ -1,0 +1,247 @@
+-- Images that are alike where it counts (Images) get the same answer from the check and from every question: refusals, places, strings, numbers and samples.
+-- Assumes nothing.
+use mathlib.Core.Path.{_≡_, refl, sym, ap, ap₂, _∙_}
+use mathlib.Core.Bool.{Bool, true, false}
+use mathlib.Core.List.{List, []}
+use Prim.Native.Nat.{ℕ, zero, suc, _+_, _≤_, _<_}
+use native.Mathlib.Omega.{arith}
+use lib.IntN.{ℤ, pos, negsuc}
+use lib.ListN.{length, take}
+use lib.Dec.{eqb}
+use borrow.Author.Tests.{le-ltb, ne-eqb}
+use Rattle.word.specs.Part.{part}
+use Rattle.refusal.specs.Rows.{first, pick}
+use Rattle.refusal.specs.declared.Refusal.{Refusal}
+use Rattle.refusal.specs.declared.Verdict.{Verdict}
+use Rattle.refusal.specs.declared.Verdict.the-variants.{Accepted, Refused}
+use Rattle.strings.specs.declared.Place.{Place}
+use Rattle.strings.specs.Strings.{placesOf, nthOf, findOf, valueFound}
+use Rattle.decimal.specs.declared.NumberAnswer.the-variants as number
+use Rattle.decimal.specs.Number.{numberOf}
+use Rattle.double.specs.declared.DoubleAnswer.the-variants as double
+use Rattle.double.specs.declared.LocationAnswer.the-variants as location
+use Rattle.double.specs.Double.{doubleOf}
+use Rattle.double.specs.Location.{locationOf}
+use Rattle.head.specs.Head.{highFirst, roomOf, countOf, stringEnd}
+use Rattle.block.specs.Block.{sampleCount, formatCode, dataAt, endAt, traceBlockOf}
+use Rattle.image.specs.Image.{checkOf}
+use Rattle.image.specs.Keeps.{traceAt, stringsEnd}
+use Rattle.reader.specs.declared.Whose.{Whose}
+use Rattle.reader.specs.declared.Whose.the-variants.{Whole, One, Nobody}
+use Rattle.reader.specs.declared.Area.{Area}
+use Rattle.reader.specs.declared.Area.the-variants.{Outside, From}
+use Rattle.reader.specs.declared.StringAnswer.{StringAnswer}
+use Rattle.reader.specs.declared.StringAnswer.the-variants as string
+use Rattle.reader.specs.declared.FileAnswer.the-variants as file
+use Rattle.reader.specs.declared.TraceAnswer.the-variants as trace
+use Rattle.reader.specs.declared.CountAnswer.the-variants as count
+use Rattle.reader.specs.Questions.{asked, noTrace, whoseOf, areaOf, areaAsked, onArea, onTrace, fileAnswer, traceAnswer, placesIn, countAnswer, there, nthAnswer, findAnswer, keywordAnswer, yesOrNo, valueThere, valueAnswer, onString, numberAnswer, doubleAnswer, locationAnswer, codeAt, countAt, dataOf, integersRows, bitsRows, integersAnswer, bitsAnswer, samplesOf, patternsOf, classesOf, integersLeft, patternsLeft, classesLeft, kept, traceNumber}
+use Rattle.reader.specs.Reach.{checked, whose-trace, some-trace, area-fits, trace-blocked}
+use Rattle.reader.specs.Listed.{found-value}
+use Rattle.reader.specs.Answers.{integers-accepted, bits-accepted}
+use Rattle.ignored.specs.Areas.{SameAt, places-same, texts-same, find-same, value-same}
+use Rattle.ignored.specs.Images.{AlikeStrings, AlikeTrace, Alike, part-long, same-order, same-room, same-traces, same-size, same-pointer, same-block, same-data, same-count, same-code, same-end, same-image}
+use Rattle.ignored.specs.Data.{samples-same, patterns-same, classes-same}
+
+module _ {f g : List ℕ} (a : Alike f g) where
+  -- ---- blocks
+  block-same : (k : ℕ) → k < countOf f → traceBlockOf (highFirst f) f k ≡ traceBlockOf (highFirst g) g k
+  unfolding traceBlockOf
+  block-same k low =
+      let t = a .traces k low in
+      rw (same-block a t, same-data a t, same-count a t, same-code a t, same-pointer a k low, same-order a)
+
+  at-same : (k : ℕ) → k < countOf f → traceAt f k ≡ traceAt g k
+  at-same k low = same-pointer a k low ∙ ap (λ (o : Bool). Rattle.block.specs.Block.pointerOf o g k) (same-order a)
+
+  code-same : (k : ℕ) → k < countOf f → codeAt f k ≡ codeAt g k
+  code-same k low = same-code a (a .traces k low) ∙ ap (formatCode g) (at-same k low)
+
+  count-same : (k : ℕ) → k < countOf f → countAt f k ≡ countAt g k
+  count-same k low = same-count a (a .traces k low) ∙ ap₂ (λ (o : Bool) (p : ℕ). sampleCount o g p) (same-order a) (at-same k low)
+
+  begin-same : (k : ℕ) → k < countOf f → dataAt (highFirst f) f (traceAt f k) ≡ dataAt (highFirst g) g (traceAt g k)
+  begin-same k low = rw (same-block a (a .traces k low), at-same k low, same-order a)
+
+  on-trace : {A : Type 0} (none : A) (p q : ℕ → A) → ((k : ℕ) → k < countOf f → p k ≡ q k) → (z : ℤ)
+      → onTrace (whoseOf z (countOf f)) none p ≡ onTrace (whoseOf z (countOf g)) none q
+  on-trace none p q h z = rw (← same-traces a) (go (whoseOf z (countOf f)) refl)
+    where
+      go : (w : Whose) → whoseOf z (countOf f) ≡ w → onTrace w none p ≡ onTrace w none q
+      go (One k) e = h k (whose-trace z (countOf f) k e .1)
+      go Whole e = refl
+      go Nobody e = refl
+
+  -- ---- strings
+  places-alike : (x e : ℕ) → AlikeStrings f g x e → placesIn f x e ≡ placesIn g x e
+  unfolding placesIn
+  places-alike x e s =
+      places-same (highFirst f) (stringEnd f) (part x e f) (part x e g) x (part-long x e f g (a .size)) s
+      ∙ ap₂ (λ (o : Bool) (t : List ℕ). placesOf o t (part x e g) x) (same-order a) (a .string-end)
+
+  texts-alike : (x e : ℕ) → x ≤ e → e ≤ length f → AlikeStrings f g x e → SameAt f g (placesIn f x e)
+  unfolding placesIn
+  texts-alike x e low fits s = texts-same (highFirst f) (stringEnd f) f g x e low fits s
+
+  find-alike : (x e : ℕ) (key : List ℕ) → x ≤ e → e ≤ length f → AlikeStrings f g x e → findOf f (placesIn f x e) key ≡ findOf g (placesIn g x e) key
+  find-alike x e key low fits s =
+      find-same f g (placesIn f x e) key (texts-alike x e low fits s) ∙ ap (λ (ps : List Place). findOf g ps key) (places-alike x e s)
+
+  value-alike : (x e : ℕ) (key : List ℕ) → x ≤ e → e ≤ length f → AlikeStrings f g x e
+      → valueFound f (findOf f (placesIn f x e) key) ≡ valueFound g (findOf g (placesIn g x e) key)
+  value-alike x e key low fits s =
+      value-same f g (placesIn f x e) key (texts-alike x e low fits s) ∙ ap (λ (ps : List Place). valueFound g (findOf g ps key)) (places-alike x e s)
+
+  -- ---- in an accepted image the area of each part lies in it
+  module _ (ok : Rattle.image.specs.Image.imageOf false f ≡ Accepted) where
+    file-strings : AlikeStrings f g (32 + roomOf f) (traceAt f 0)
+    file-strings =
+        let some = some-trace f ok in
+        let z : stringsEnd f ≡ traceAt f 0 = rw (ne-eqb (countOf f) 0 (omega arith)) in
+        rw z at (a .strings)
+
+    on-area : {A : Type 0} (none : A) (p q : ℕ → ℕ → A) → ((x e : ℕ) → x ≤ e → e ≤ length f → AlikeStrings f g x e → p x e ≡ q x e) → (z : ℤ)
+        → onArea (areaAsked f z) none p ≡ onArea (areaAsked g z) none q
+    unfolding areaOf
+    on-area none p q h z = rw (← same-traces a) (go (whoseOf z (countOf f)) refl)
+      where
+        go : (w : Whose) → whoseOf z (countOf f) ≡ w → onArea (areaOf f w) none p ≡ onArea (areaOf g w) none q
+        go Whole e =
+            let b = area-fits f ok z (32 + roomOf f) (traceAt f 0) (rw e) in
+            h (32 + roomOf f) (traceAt f 0) (b .0) (b .1) file-strings ∙ ap₂ q (ap (λ (m : ℕ). 32 + m) (same-room a)) (at-same 0 (some-trace f ok))
+        go (One k) e =
+            let low = whose-trace z (countOf f) k e .1 in
+            let b = area-fits f ok z (traceAt f k + 32) (dataAt (highFirst f) f (traceAt f k)) (rw e) in
+            h (traceAt f k + 32) (dataAt (highFirst f) f (traceAt f k)) (b .0) (b .1) (a .traces k low .strings)
+            ∙ ap₂ q (ap (λ (m : ℕ). m + 32) (at-same k low)) (begin-same k low)
+        go Nobody e = refl
+
+    -- ---- samples
+    end-same : (k : ℕ) → k < countOf f → endAt (highFirst f) f (traceAt f k) ≡ endAt (highFirst g) g (traceAt g k)
+    end-same k low = same-end a (a .traces k low) ∙ ap₂ (λ (o : Bool) (p : ℕ). endAt o g p) (same-order a) (at-same k low)
+
+    module _ (k : ℕ) (low : k < countOf f) where
+      abbrev block : List ℕ
+      block = part (dataAt (highFirst f) f (traceAt f k)) (endAt (highFirst f) f (traceAt f k)) g
+
+      integers-alike : samplesOf f k ≡ samplesOf g k
+      unfolding samplesOf dataOf
+      integers-alike =
+          samples-same (codeAt f k) (highFirst f) (dataOf f k) block (countAt f k) (a .traces k low .samples) (trace-blocked f ok k low .groups)
+          ∙ rw (code-same k low, count-same k low, begin-same k low, end-same k low, same-order a)
+
+      patterns-alike : patternsOf f k ≡ patternsOf g k
+      unfolding patternsOf dataOf
+      patterns-alike =
+          patterns-same (codeAt f k) (highFirst f) (dataOf f k) block (countAt f k) (a .traces k low .samples)
+          ∙ rw (code-same k low, count-same k low, begin-same k low, end-same k low, same-order a)
+
+      classes-alike : classesOf f k ≡ classesOf g k
+      unfolding classesOf dataOf
+      classes-alike =
+          classes-same (codeAt f k) (highFirst f) (dataOf f k) block (countAt f k) (a .traces k low .samples)
+          ∙ rw (code-same k low, count-same k low, begin-same k low, end-same k low, same-order a)
+
+-- ---- the answers. Rules out a question that looks at a byte which document 01 says is ignored.
+
+through-area : {A B : Type 0} (h : A → B) (w : Area) (none : A) (p : ℕ → ℕ → A) → h (onArea w none p) ≡ onArea w (h none) (λ x e. h (p x e))
+through-area h Outside none p = refl
+through-area h (From x e) none p = refl
+
+module _ (xs ys : List ℕ) (n : ℕ) (fx : n ≤ length xs) (fy : n ≤ length ys) (a : Alike (take n xs) (take n ys)) where
+  pub alike-check : (grow : Bool) → checkOf grow xs n ≡ checkOf grow ys n
+  unfolding checkOf
+  alike-check grow = rw (le-ltb (length xs) n fx, le-ltb (length ys) n fy, same-image a grow)
+
+  on-check : {A : Type 0} (bad : Refusal → A) (p q : A) → (Rattle.image.specs.Image.imageOf false (take n xs) ≡ Accepted → p ≡ q)
+      → asked bad (checkOf false xs n) p ≡ asked bad (checkOf false ys n) q
+  on-check bad p q h = rw (← alike-check false) (go (checkOf false xs n) refl)
+    where
+      go : (v : Verdict) → checkOf false xs n ≡ v → asked bad v p ≡ asked bad v q
+      go Accepted e = h (checked xs n e .image)
+      go (Refused r) e = refl
+
+  pub alike-file : fileAnswer xs n ≡ fileAnswer ys n
+  unfolding fileAnswer
+  alike-file = on-check file.Refused _ _ (λ ok. rw (same-order a, same-room a, same-traces a, same-size a, a .line-size))
+
+  pub alike-trace : (z : ℤ) → traceAnswer xs n z ≡ traceAnswer ys n z
+  unfolding traceAnswer
+  alike-trace z = on-check trace.Refused _ _ (λ ok. on-trace a _ _ _ (λ k low. ap trace.Is (block-same a k low)) z)
+
+  pub alike-count : (z : ℤ) → countAnswer xs n z ≡ countAnswer ys n z
+  unfolding countAnswer
+  alike-count z = on-check count.Refused _ _ (λ ok. on-area a ok _ _ _ (λ x e low fits s. ap (λ (ps : List Place). count.Is (length ps)) (places-alike a x e s)) z)
+
+  pub alike-nth : (z : ℤ) (i : ℕ) → nthAnswer xs n z i ≡ nthAnswer ys n z i
+  unfolding nthAnswer
+  alike-nth z i = on-check string.Refused _ _ (λ ok. on-area a ok _ _ _ (λ x e low fits s. ap (λ (ps : List Place). there (nthOf ps i)) (places-alike a x e s)) z)
+
+  pub alike-find : (z : ℤ) (key : List ℕ) → findAnswer xs n z key ≡ findAnswer ys n z key
+  unfolding findAnswer
+  alike-find z key = on-check string.Refused _ _ (λ ok. on-area a ok _ _ _ (λ x e low fits s. ap there (find-alike a x e key low fits s)) z)
+
+  pub alike-keyword : (z : ℤ) (key : List ℕ) → keywordAnswer xs n z key ≡ keywordAnswer ys n z key
+  unfolding keywordAnswer
+  alike-keyword z key = ap yesOrNo (alike-find z key)
+
+  through-check : {A B : Type 0} (h : A → B) (bad : Refusal → A) (v : Verdict) (p : A) → h (asked bad v p) ≡ asked (λ r. h (bad r)) v (h p)
+  through-check h bad Accepted p = refl
+  through-check h bad (Refused r) p = refl
+
+  pub alike-value : (z : ℤ) (key : List ℕ) → valueAnswer xs n z key ≡ valueAnswer ys n z key
+  unfolding valueAnswer findAnswer
+  alike-value z key =
+      let f : List ℕ = take n xs in
+      let g : List ℕ = take n ys in
+      through-check (valueThere f) string.Refused (checkOf false xs n) _
+      ∙ on-check (λ r. []) _ _
+      (λ ok.
+      through-area (valueThere f) (areaAsked f z) (string.Refused noTrace) _
+      ∙ on-area a ok [] _ _
+      (λ x e low fits s. found-value f (findOf f (placesIn f x e) key) ∙ value-alike a x e key low fits s ∙ sym (found-value g (findOf g (placesIn g x e) key))) z
+      ∙ sym (through-area (valueThere g) (areaAsked g z) (string.Refused noTrace) _))
+      ∙ sym (through-check (valueThere g) string.Refused (checkOf false ys n) _)
+
+  pub alike-number : (z : ℤ) (key : List ℕ) → numberAnswer xs n z key ≡ numberAnswer ys n z key
+  unfolding numberAnswer
+  alike-number z key = rw (alike-find z key, alike-value z key)
+
+  pub alike-double : (z : ℤ) (key : List ℕ) → doubleAnswer xs n z key ≡ doubleAnswer ys n z key
+  unfolding doubleAnswer
+  alike-double z key = rw (alike-find z key, alike-value z key)
+
+  pub alike-location : (z : ℤ) (key : List ℕ) → locationAnswer xs n z key ≡ locationAnswer ys n z key
+  unfolding locationAnswer
+  alike-location z key = rw (alike-find z key, alike-value z key)
+
+  pub alike-integers : (z : ℤ) (s : ℕ) → integersAnswer xs n z s ≡ integersAnswer ys n z s
+  unfolding integersAnswer integersRows
+  alike-integers z s = on-check Refused _ _ (λ ok. on-trace a _ _ _ (λ k low. rw (code-same a k low, count-same a k low)) z)
+
+  pub alike-bits : (z : ℤ) (s c : ℕ) → bitsAnswer xs n z s c ≡ bitsAnswer ys n z s c
+  unfolding bitsAnswer bitsRows
+  alike-bits z s c = on-check Refused _ _ (λ ok. on-trace a _ _ _ (λ k low. rw (code-same a k low, count-same a k low)) z)
+
+  -- a lent row that was filled is filled with the same
+  kept-same : {A : Type 0} (v w : Verdict) (p q old : A) → v ≡ w → (v ≡ Accepted → p ≡ q) → kept v p old ≡ kept w q old
+  kept-same Accepted w p q old e h = rw (← e) (h refl)
+  kept-same (Refused r) w p q old e h = rw (← e)
+
+  pub alike-integers-left : (z : ℤ) (row : List ℤ) → integersLeft xs n z row ≡ integersLeft ys n z row
+  unfolding integersLeft
+  alike-integers-left z row =
+      kept-same _ _ _ _ row (alike-integers z (length row))
+      (λ e. (let k = integers-accepted xs n z (length row) e .0 in rw (k .number) (integers-alike a (checked xs n (k .accepted) .image) (k .k) (k .low))))
+
+  pub alike-patterns-left : (z : ℤ) (row classes : List ℕ) → patternsLeft xs n z row classes ≡ patternsLeft ys n z row classes
+  unfolding patternsLeft
+  alike-patterns-left z row classes =
+      kept-same _ _ _ _ row (alike-bits z (length row) (length classes))
+      (λ e. (let k = bits-accepted xs n z (length row) (length classes) e .0 in rw (k .number) (patterns-alike a (checked xs n (k .accepted) .image) (k .k) (k .low))))
+
+  pub alike-classes-left : (z : ℤ) (row classes : List ℕ) → classesLeft xs n z row classes ≡ classesLeft ys n z row classes
+  unfolding classesLeft
+  alike-classes-left z row classes =
+      kept-same _ _ _ _ classes (alike-bits z (length row) (length classes))
+      (λ e. (let k = bits-accepted xs n z (length row) (length classes) e .0 in rw (k .number) (classes-alike a (checked xs n (k .accepted) .image) (k .k) (k .low))))
