@@ -32,10 +32,16 @@ abbrev pub AlikeStrings : List ℕ → List ℕ → ℕ → ℕ → Type 0
 AlikeStrings f g a e =
     take (usedOf (highFirst f) (stringEnd f) (part a e f)) (part a e f) ≡ take (usedOf (highFirst f) (stringEnd f) (part a e f)) (part a e g)
 
+-- of the file block bytes 0 to 8 stand alone: order, revision, M, N, the length of the string terminator; of a trace block bytes 0 to 12: 4422h, B, D, S, the code
+abbrev pub fileFront : ℕ
+fileFront = 9
+
+abbrev pub traceFront : ℕ
+traceFront = 13
+
 -- the trace that stands at p in f
 pub record AlikeTrace (f g : List ℕ) (p : ℕ) : Type 0 where
-  -- 4422h, B, D, S and the code
-  pub head : part p (p + 13) f ≡ part p (p + 13) g
+  pub head : part p (p + traceFront) f ≡ part p (p + traceFront) g
   pub strings : AlikeStrings f g (p + 32) (dataAt (highFirst f) f p)
   -- the needed bytes of its data
   pub samples : take (needed (formatCode f p) (sampleCount (highFirst f) f p)) (part (dataAt (highFirst f) f p) (endAt (highFirst f) f p) f)
@@ -43,8 +49,8 @@ pub record AlikeTrace (f g : List ℕ) (p : ℕ) : Type 0 where
 
 pub record Alike (f g : List ℕ) : Type 0 where
   pub size : length f ≡ length g
-  -- bytes 0 to 8: order, revision, M, N, the length of the string terminator; its characters; the length of the line terminator; its characters
-  pub front : take 9 f ≡ take 9 g
+  pub front : take fileFront f ≡ take fileFront g
+  -- the characters of the string terminator; the length of the line terminator, and its characters
   pub string-end : stringEnd f ≡ stringEnd g
   pub line-size : getD f 11 0 ≡ getD g 11 0
   pub line-end : lineEnd f ≡ lineEnd g
@@ -68,15 +74,15 @@ part-long a e f g n =
 -- ---- what the blocks say
 
 module _ {f g : List ℕ} (a : Alike f g) where
-  front-byte : (i : ℕ) → i < 9 → getD f i 0 ≡ getD g i 0
-  front-byte i h = sym (getD-take 9 f i 0 h) ∙ ap (λ (l : List ℕ). getD l i 0) (a .front) ∙ getD-take 9 g i 0 h
+  front-byte : (i : ℕ) → i < fileFront → getD f i 0 ≡ getD g i 0
+  front-byte i h = sym (getD-take fileFront f i 0 h) ∙ ap (λ (l : List ℕ). getD l i 0) (a .front) ∙ getD-take fileFront g i 0 h
 
   pub same-order : highFirst f ≡ highFirst g
   unfolding highFirst
   same-order = ap (λ (b : ℕ). eqb b 58) (front-byte 0 (omega arith))
 
-  same-word : (at : ℕ) → at + 2 ≤ 9 → wordAt 2 (highFirst f) f at ≡ wordAt 2 (highFirst g) g at
-  same-word at h = front-word 2 9 (highFirst f) f g at h (a .front) ∙ ap (λ (o : Bool). wordAt 2 o g at) same-order
+  same-word : (at : ℕ) → at + 2 ≤ fileFront → wordAt 2 (highFirst f) f at ≡ wordAt 2 (highFirst g) g at
+  same-word at h = front-word 2 fileFront (highFirst f) f g at h (a .front) ∙ ap (λ (o : Bool). wordAt 2 o g at) same-order
 
   same-revision : revisionOf f ≡ revisionOf g
   unfolding revisionOf
@@ -109,24 +115,24 @@ module _ {f g : List ℕ} (a : Alike f g) where
   module _ {p : ℕ} (t : AlikeTrace f g p) where
     pub same-mark : markAt (highFirst f) f p ≡ markAt (highFirst f) g p
     unfolding markAt
-    same-mark = let z : p + 0 ≡ p = omega arith in rw z at (part-word 2 p (p + 13) (highFirst f) f g 0 (omega arith) (t .head))
+    same-mark = let z : p + 0 ≡ p = omega arith in rw z at (part-word 2 p (p + traceFront) (highFirst f) f g 0 (omega arith) (t .head))
 
     pub same-block : blockSize (highFirst f) f p ≡ blockSize (highFirst f) g p
     unfolding blockSize
-    same-block = part-word 2 p (p + 13) (highFirst f) f g 2 (omega arith) (t .head)
+    same-block = part-word 2 p (p + traceFront) (highFirst f) f g 2 (omega arith) (t .head)
 
     pub same-data : dataSize (highFirst f) f p ≡ dataSize (highFirst f) g p
     unfolding dataSize
-    same-data = part-word 4 p (p + 13) (highFirst f) f g 4 (omega arith) (t .head)
+    same-data = part-word 4 p (p + traceFront) (highFirst f) f g 4 (omega arith) (t .head)
 
     pub same-count : sampleCount (highFirst f) f p ≡ sampleCount (highFirst f) g p
     unfolding sampleCount
-    same-count = part-word 4 p (p + 13) (highFirst f) f g 8 (omega arith) (t .head)
+    same-count = part-word 4 p (p + traceFront) (highFirst f) f g 8 (omega arith) (t .head)
 
     pub same-code : formatCode f p ≡ formatCode g p
     unfolding formatCode
     same-code =
-        sym (getD-part 0 12 p (p + 13) f (omega arith)) ∙ ap (λ (l : List ℕ). getD l 12 0) (t .head) ∙ getD-part 0 12 p (p + 13) g (omega arith)
+        sym (getD-part 0 12 p (p + traceFront) f (omega arith)) ∙ ap (λ (l : List ℕ). getD l 12 0) (t .head) ∙ getD-part 0 12 p (p + traceFront) g (omega arith)
 
     pub same-end : endAt (highFirst f) f p ≡ endAt (highFirst f) g p
     unfolding endAt
