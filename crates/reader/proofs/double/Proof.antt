@@ -18,7 +18,7 @@ double-spec =
     (tie.spec
     (λ c κs. search needs)
     (λ c. search needs)
-    (λ c. rw (sym (handed (λ (z : ℤ). findAnswer (c .before .before .before .before .before .before .args .buffer .now) (c .before .before .before .before .before .before .args .length) z (c .before .before .before .before .before .before .args .key .now)) (c .before .before .before .before .before .before .args .part) (c .before .before .before .before .before .before .fits .part .sfits) (c .before .before .before .find .ensures)) ∙ c .before .s .given .1))
+    (λ c. rw (sym (handed (λ (z : ℤ). findAnswer (c .before .before .before .before .before .before .args .buffer .now) (c .before .before .before .before .before .before .args .n) z (c .before .before .before .before .before .before .args .key .now)) (c .before .before .before .before .before .before .args .part) (c .before .before .before .before .before .before .fits .part .sfits) (c .before .before .before .find .ensures)) ∙ c .before .s .given .1))
     (λ c κs. rw (c .before .find .ensures) (find-lent _ _ _ _))
     (λ c κs. search needs)
-    (λ c. c .double .ensures ∙ value-made double.Refused doubleOf _ _ _ _ _ _ (handed (λ (z : ℤ). findAnswer (c .before .before .before .before .before .before .args .buffer .now) (c .before .before .before .before .before .before .args .length) z (c .before .before .before .before .before .before .args .key .now)) (c .before .before .before .before .before .before .args .part) (c .before .before .before .before .before .before .fits .part .sfits) (c .before .before .before .find .ensures)) (c .before .value-at .ensures) (answered double.Refused (c .before .before .before .find .result) (c .before .before .match .keys2))))
+    (λ c. c .double .ensures ∙ value-made double.Refused doubleOf _ _ _ _ _ _ (handed (λ (z : ℤ). findAnswer (c .before .before .before .before .before .before .args .buffer .now) (c .before .before .before .before .before .before .args .n) z (c .before .before .before .before .before .before .args .key .now)) (c .before .before .before .before .before .before .args .part) (c .before .before .before .before .before .before .fits .part .sfits) (c .before .before .before .find .ensures)) (c .before .value-at .ensures) (answered double.Refused (c .before .before .before .find .result) (c .before .before .match .keys2))))

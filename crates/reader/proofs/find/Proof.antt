@@ -21,5 +21,5 @@ find-spec =
     (λ c κs. let r = reached _ _ _ _ _ (sym (c .before .before .before .before .before .open-area .ensures) ∙ c .before .before .before .o2 .given .1) in (omega (arith, r .known .size, r .known .least), r .good))
     (λ c κs. let r = reached _ _ _ _ _ (sym (c .before .before .before .before .before .before .open-area .ensures) ∙ c .before .before .before .before .o2 .given .1) in (r .low, r .end))
     (λ c κs. search needs)
-    (λ c. find-bad _ _ _ _ _ (sym (handed (λ (z : ℤ). openedOf (c .before .before .before .before .before .before .args .buffer .now) (c .before .before .before .before .before .before .args .length) z) (c .before .before .before .before .before .before .args .part) (c .before .before .before .before .before .before .fits .part .sfits) (c .before .before .before .open-area .ensures)) ∙ c .before .o .given .1))
-    (λ c. find-told _ _ _ _ _ _ _ (sym (handed (λ (z : ℤ). openedOf (c .before .before .before .before .before .before .before .before .before .before .before .args .buffer .now) (c .before .before .before .before .before .before .before .before .before .before .before .args .length) z) (c .before .before .before .before .before .before .before .before .before .before .before .args .part) (c .before .before .before .before .before .before .before .before .before .before .before .fits .part .sfits) (c .before .before .before .before .before .before .before .before .open-area .ensures)) ∙ c .before .before .before .before .before .before .o2 .given .1) (c .before .before .before .is-high .ensures) (c .before .before .terminator .ensures) _ _ _ (c .before .find .ensures) (c .there .ensures)))
+    (λ c. find-bad _ _ _ _ _ (sym (handed (λ (z : ℤ). openedOf (c .before .before .before .before .before .before .args .buffer .now) (c .before .before .before .before .before .before .args .n) z) (c .before .before .before .before .before .before .args .part) (c .before .before .before .before .before .before .fits .part .sfits) (c .before .before .before .open-area .ensures)) ∙ c .before .o .given .1))
+    (λ c. find-told _ _ _ _ _ _ _ (sym (handed (λ (z : ℤ). openedOf (c .before .before .before .before .before .before .before .before .before .before .before .args .buffer .now) (c .before .before .before .before .before .before .before .before .before .before .before .args .n) z) (c .before .before .before .before .before .before .before .before .before .before .before .args .part) (c .before .before .before .before .before .before .before .before .before .before .before .fits .part .sfits) (c .before .before .before .before .before .before .before .before .open-area .ensures)) ∙ c .before .before .before .before .before .before .o2 .given .1) (c .before .before .before .is-high .ensures) (c .before .before .terminator .ensures) _ _ _ (c .before .find .ensures) (c .there .ensures)))

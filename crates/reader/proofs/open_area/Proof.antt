@@ -25,5 +25,5 @@ open-area-spec =
     (λ c. search needs)
     (λ c κs. search needs)
     (λ c. search needs)
-    (λ c. rw ((sym (c .before .before .before .before .before .before .before .check .ensures) ∙ c .before .before .before .before .before .enum-told .given .1), (sym (handed (λ (z : ℤ). areaAsked (take (c .before .before .before .before .before .before .before .before .before .args .length) (c .before .before .before .before .before .before .before .before .before .args .buffer .now)) z) (c .before .before .before .before .before .before .before .before .before .args .part) (c .before .before .before .before .before .before .before .before .before .fits .part .sfits) (c .before .before .before .area-of .ensures)) ∙ c .before .enum-told2 .given .1), c .no-trace .ensures))
-    (λ c. rw ((sym (c .before .before .before .before .before .before .before .check .ensures) ∙ c .before .before .before .before .before .enum-told .given .1), (sym (handed (λ (z : ℤ). areaAsked (take (c .before .before .before .before .before .before .before .before .before .args .length) (c .before .before .before .before .before .before .before .before .before .args .buffer .now)) z) (c .before .before .before .before .before .before .before .before .before .args .part) (c .before .before .before .before .before .before .before .before .before .fits .part .sfits) (c .before .before .before .area-of .ensures)) ∙ c .before .w .given .1))))
+    (λ c. rw ((sym (c .before .before .before .before .before .before .before .check .ensures) ∙ c .before .before .before .before .before .enum-told .given .1), (sym (handed (λ (z : ℤ). areaAsked (take (c .before .before .before .before .before .before .before .before .before .args .n) (c .before .before .before .before .before .before .before .before .before .args .buffer .now)) z) (c .before .before .before .before .before .before .before .before .before .args .part) (c .before .before .before .before .before .before .before .before .before .fits .part .sfits) (c .before .before .before .area-of .ensures)) ∙ c .before .enum-told2 .given .1), c .no-trace .ensures))
+    (λ c. rw ((sym (c .before .before .before .before .before .before .before .check .ensures) ∙ c .before .before .before .before .before .enum-told .given .1), (sym (handed (λ (z : ℤ). areaAsked (take (c .before .before .before .before .before .before .before .before .before .args .n) (c .before .before .before .before .before .before .before .before .before .args .buffer .now)) z) (c .before .before .before .before .before .before .before .before .before .args .part) (c .before .before .before .before .before .before .before .before .before .fits .part .sfits) (c .before .before .before .area-of .ensures)) ∙ c .before .w .given .1))))

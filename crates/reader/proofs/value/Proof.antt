@@ -14,4 +14,4 @@ value-spec =
     (tie.spec
     (λ c κs. search needs)
     (λ c κs. rw (c .find .ensures) (find-lent _ _ _ _))
-    (λ c. c .value-at .ensures ∙ value-told _ _ _ _ _ (handed (λ (z : ℤ). findAnswer (c .before .before .before .before .args .buffer .now) (c .before .before .before .before .args .length) z (c .before .before .before .before .args .key .now)) (c .before .before .before .before .args .part) (c .before .before .before .before .fits .part .sfits) (c .before .find .ensures))))
+    (λ c. c .value-at .ensures ∙ value-told _ _ _ _ _ (handed (λ (z : ℤ). findAnswer (c .before .before .before .before .args .buffer .now) (c .before .before .before .before .args .n) z (c .before .before .before .before .args .key .now)) (c .before .before .before .before .args .part) (c .before .before .before .before .fits .part .sfits) (c .before .find .ensures))))

@@ -15,6 +15,6 @@ add-integers-spec =
     (λ c. search needs)
     (λ c κs. sym (c .before .before .before .before .opened .ensures) ∙ c .before .before .o2 .given .1)
     (λ c. search needs)
-    (λ c. add-shut (c .before .before .before .before .before .before .before .args .buffer .now) (c .before .before .before .before .before .before .before .args .length) (ofIntegers (c .before .before .before .before .before .before .before .args .sheet .now) (c .before .before .before .before .before .before .before .args .code) (c .before .before .before .before .before .before .before .args .row .now)) _ (sym (c .before .before .before .opened .ensures) ∙ c .before .o .given .1))
+    (λ c. add-shut (c .before .before .before .before .before .before .before .args .buffer .now) (c .before .before .before .before .before .before .before .args .n) (ofIntegers (c .before .before .before .before .before .before .before .args .sheet .now) (c .before .before .before .before .before .before .before .args .code) (c .before .before .before .before .before .before .before .args .row .now)) _ (sym (c .before .before .before .opened .ensures) ∙ c .before .o .given .1))
     (λ c. search needs)
     (λ c. search needs))
