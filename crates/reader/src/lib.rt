@@ -15,10 +15,11 @@ ghost use mathlib.Core.Path.{_≡_};
 ghost use mathlib.Core.Bool.{false};
 ghost use Prim.Native.Nat.{_≤_};
 ghost use lib.ListN.{length};
+ghost use Rattle.word.specs.Part.{PartOf};
 ghost use Rattle.refusal.specs.declared.Verdict.the-variants.{Accepted};
 ghost use Rattle.head.specs.Head.{countOf};
 ghost use Rattle.image.specs.Image.{imageOf};
-ghost use Rattle.reader.specs.Questions.{noTrace, areaAsked, fileAnswer, traceAnswer, countAnswer, nthAnswer, findAnswer, keywordAnswer, valueThere, valueAnswer, numberAnswer, doubleAnswer, locationAnswer, whoseOf};
+ghost use Rattle.reader.specs.Questions.{noTrace, areaAsked, fileAnswer, traceAnswer, countAnswer, nthAnswer, findAnswer, keywordAnswer, valueThere, valueAnswer, spanThere, spanAnswer, numberAnswer, doubleAnswer, locationAnswer, whoseOf};
 ghost use Rattle.reader.specs.Leaves.{openedOf, Within};
 
 // Whom a part number names.
@@ -258,6 +259,7 @@ pub fn keyword(buffer: &[u8], n: usize, part: i32, key: &[u8]) -> KeywordAnswer
 fn value_at<'a>(buffer: &'a [u8], s: StringAnswer) -> &'a [u8]
     requires { ⌜ Within (length (now buffer)) s ⌝ }
     ensures { λ r. ⌜ now r ≡ valueThere (now (buffer .entry)) s ⌝ }
+    ensures own { λ r. ⌜ PartOf (buffer .entry) (spanThere s) r ⌝ }
 {
     match s {
         StringAnswer::There(p) => {
@@ -265,14 +267,21 @@ fn value_at<'a>(buffer: &'a [u8], s: StringAnswer) -> &'a [u8]
             let to = p.end;
             &buffer[from..to]
         }
-        StringAnswer::Absent => &buffer[..0],
-        StringAnswer::Refused(_) => &buffer[..0],
+        StringAnswer::Absent => {
+            let start = 0; // for a no
+            &buffer[start..start]
+        }
+        StringAnswer::Refused(_) => {
+            let start = 0; // for a refusal
+            &buffer[start..start]
+        }
     }
 }
 
 // "the other answers the value as the caller's own bytes, not a copy, and for a no or a refusal the empty part".
 pub fn value<'a>(buffer: &'a [u8], n: usize, part: i32, key: &[u8]) -> &'a [u8]
     ensures { λ r. ⌜ now r ≡ valueAnswer (now (buffer .entry)) n part (now (key .entry)) ⌝ }
+    ensures own { λ r. ⌜ PartOf (buffer .entry) (spanAnswer (now (buffer .entry)) n part (now (key .entry))) r ⌝ }
 {
     value_at(buffer, find(buffer, n, part, key))
 }
