@@ -131,7 +131,7 @@ module _ (high : Bool) (slots : ℕ) (sheet : List ℕ) (ts : List Trace) (some 
   file-keeps grow none =
       let low = size-low slots sheet ts in
       record {
-        length = (omega (arith, long), omega (arith, long));
+        extent = (omega (arith, long), omega (arith, long));
         first = front .first;
         revision = front .revision;
         room = (rw (front .room) (omega arith), rw (front .room) (omega arith), rw (front .room) (omega (arith, long)));

@@ -54,39 +54,52 @@ fn register(buffer: &mut [u8], high: bool, n: u16, at: usize)
 }
 
 // The terminators are taken out of the file first: the end of the buffer is then lent, and they stand at its start.
-pub fn grow_integers(
-    buffer: &mut [u8],
-    length: usize,
-    sheet: &[u8],
-    size: usize,
-    code: u8,
-    row: &[i32],
-)
-    requires { ⌜ Growing (now buffer) length (now sheet) size (ofIntegers (now sheet) code (now row)) ⌝ }
-    ensures { λ _. ⌜ now (buffer .exit) ≡ grown (now (buffer .entry)) length (ofIntegers (now (sheet .entry)) code (now (row .entry))) ⌝ }
+pub fn grow_integers(buffer: &mut [u8], n: usize, sheet: &[u8], size: usize, code: u8, row: &[i32])
+    requires { ⌜ Growing (now buffer) n (now sheet) size (ofIntegers (now sheet) code (now row)) ⌝ }
+    ensures { λ _. ⌜ now (buffer .exit) ≡ grown (now (buffer .entry)) n (ofIntegers (now (sheet .entry)) code (now (row .entry))) ⌝ }
 {
-    let b = head::file_block(&buffer[..length]);
-    let at = word::round_up(length);
+    let b = head::file_block(&buffer[..n]);
+    let at = word::round_up(n);
     let t = [buffer[9], buffer[10]];
     let u = [buffer[12], buffer[13]];
-    let m = word::wide(buffer[8]);
-    let n = word::wide(buffer[11]);
-    word::zeros(buffer, length, at); // the gap
-    lend_integers(buffer, at, b.high, &t[..m], &u[..n], sheet, size, code, row);
+    let t_len = word::wide(buffer[8]);
+    let u_len = word::wide(buffer[11]);
+    word::zeros(buffer, n, at); // the gap
+    lend_integers(
+        buffer,
+        at,
+        b.high,
+        &t[..t_len],
+        &u[..u_len],
+        sheet,
+        size,
+        code,
+        row,
+    );
     register(buffer, b.high, b.n as u16, at); // only now is the trace one of the file's
 }
 
-pub fn grow_bits(buffer: &mut [u8], length: usize, sheet: &[u8], size: usize, code: u8, row: &[u64])
-    requires { ⌜ Growing (now buffer) length (now sheet) size (ofPatterns (now sheet) code (now row)) ⌝ }
-    ensures { λ _. ⌜ now (buffer .exit) ≡ grown (now (buffer .entry)) length (ofPatterns (now (sheet .entry)) code (now (row .entry))) ⌝ }
+pub fn grow_bits(buffer: &mut [u8], n: usize, sheet: &[u8], size: usize, code: u8, row: &[u64])
+    requires { ⌜ Growing (now buffer) n (now sheet) size (ofPatterns (now sheet) code (now row)) ⌝ }
+    ensures { λ _. ⌜ now (buffer .exit) ≡ grown (now (buffer .entry)) n (ofPatterns (now (sheet .entry)) code (now (row .entry))) ⌝ }
 {
-    let b = head::file_block(&buffer[..length]);
-    let at = word::round_up(length);
+    let b = head::file_block(&buffer[..n]);
+    let at = word::round_up(n);
     let t = [buffer[9], buffer[10]];
     let u = [buffer[12], buffer[13]];
-    let m = word::wide(buffer[8]);
-    let n = word::wide(buffer[11]);
-    word::zeros(buffer, length, at);
-    lend_bits(buffer, at, b.high, &t[..m], &u[..n], sheet, size, code, row);
+    let t_len = word::wide(buffer[8]);
+    let u_len = word::wide(buffer[11]);
+    word::zeros(buffer, n, at);
+    lend_bits(
+        buffer,
+        at,
+        b.high,
+        &t[..t_len],
+        &u[..u_len],
+        sheet,
+        size,
+        code,
+        row,
+    );
     register(buffer, b.high, b.n as u16, at);
 }

@@ -6,6 +6,7 @@ use refusal::Rule;
 ghost use mathlib.Core.Path.{_≡_};
 ghost use Prim.Native.Nat.{_+_, _<_, _≤_};
 ghost use lib.ListN.{length, take, drop};
+ghost use Rattle.word.specs.Part.{PartOf, RestOf};
 ghost use Rattle.text.specs.Runs.{run};
 ghost use Rattle.decimal.specs.Run.{isOf};
 ghost use Rattle.decimal.specs.Number.{has, past, worth, value, Room, signed, powerOf, partsAre, decimalOf, noNumber, tooLong, judged, tailOf, numberOf};
@@ -54,15 +55,17 @@ pub fn run(kind: Kind, s: &[u8]) -> usize
     i
 }
 
-// The first n bytes, or all where there are fewer; and what is behind them.
+// The first n bytes, or all where there are fewer; and what is behind them. Both are the caller's own bytes, not a copy.
 fn front(s: &[u8], n: usize) -> &[u8]
     ensures { λ r. ⌜ now r ≡ take n (now (s .entry)) ⌝ }
+    ensures own { λ r. ⌜ PartOf (s .entry) (0, n) r ⌝ }
 {
     if n <= s.len() { &s[..n] } else { s }
 }
 
 pub fn behind(s: &[u8], n: usize) -> &[u8]
     ensures { λ r. ⌜ now r ≡ drop n (now (s .entry)) ⌝ }
+    ensures own { λ r. ⌜ RestOf (s .entry) r ⌝ }
 {
     if n <= s.len() { &s[n..] } else { &s[s.len()..] }
 }
@@ -79,6 +82,7 @@ fn has(s: &[u8], b: u8) -> bool
 
 fn past(s: &[u8], b: u8) -> &[u8]
     ensures { λ r. ⌜ now r ≡ past b (now (s .entry)) ⌝ }
+    ensures own { λ r. ⌜ RestOf (s .entry) r ⌝ }
 {
     if has(s, b) { behind(s, 1) } else { s }
 }

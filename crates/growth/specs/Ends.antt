@@ -48,8 +48,8 @@ apart-among (c ∷ t) u h b m =
 
 pub keeps-terminators : {grow : Bool} {f : List ℕ} → Keeps grow f → Terminators (stringEnd f) (lineEnd f)
 keeps-terminators {grow} {f} h =
-    let t = terminator-size f 8 (omega (arith, h .length .0)) (h .string-end) in
-    let u = terminator-size f 11 (omega (arith, h .length .0)) (h .line-end) in
+    let t = terminator-size f 8 (omega (arith, h .extent .0)) (h .string-end) in
+    let u = terminator-size f 11 (omega (arith, h .extent .0)) (h .line-end) in
     record {
       t-low = t .0;
       t-high = t .1;

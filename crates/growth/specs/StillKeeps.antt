@@ -186,7 +186,7 @@ module _ {f g : List ℕ} {x : Trace} (w : Grows f g x) where
       let l = longer w in
       let s = o .strings in
       record {
-        length = (omega (arith, o .length .0), w .most);
+        extent = (omega (arith, o .extent .0), w .most);
         first = rw (low-kept w, second-kept w) (o .first);
         revision = revision-kept w ∙ o .revision;
         room = rw (room-kept w) (o .room .0, o .room .1, omega (arith, o .room .2));
@@ -204,7 +204,7 @@ module _ {f g : List ℕ} {x : Trace} (w : Grows f g x) where
 pub keeps-any : (grow : Bool) {f : List ℕ} → Keeps false f → Keeps grow f
 keeps-any grow h =
     record {
-      length = h .length;
+      extent = h .extent;
       first = h .first;
       revision = h .revision;
       room = h .room;

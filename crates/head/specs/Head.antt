@@ -42,6 +42,10 @@ countOf f = wordAt 2 (highFirst f) f 6
 unfoldable pub terminatorAt : List ℕ → ℕ → List ℕ
 terminatorAt f at = part (at + 1) (at + 1 + getD f at 0) f
 
+-- from where to where its characters stand
+abbrev pub terminatorSpan : List ℕ → ℕ → ℕ × ℕ
+terminatorSpan f at = (at + 1, at + 1 + getD f at 0)
+
 abbrev pub stringEnd : List ℕ → List ℕ
 stringEnd f = terminatorAt f 8
 

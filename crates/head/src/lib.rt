@@ -1,6 +1,6 @@
 // The file block (document 01, "The file block", rows 2 to 7): byte order, revision, pointer room, count and the two terminators.
 // Head has the definitions, HeadLaws what an image that passes the rows has. Stands on `text`, `word`, `refusal`.
-// f is the image, the first `length` bytes of the lent buffer; `grow` says that an addition asks.
+// f is the image, the first `n` bytes of the lent buffer; `grow` says that an addition asks.
 use refusal::Part;
 use refusal::Refusal;
 use refusal::Rule;
@@ -9,9 +9,10 @@ ghost use mathlib.Core.Path.{_≡_};
 ghost use mathlib.Core.Bool.{true};
 ghost use Prim.Native.Nat.{_+_, _≤_};
 ghost use lib.ListN.{length};
+ghost use Rattle.word.specs.Part.{PartOf};
 ghost use Rattle.text.specs.Chars.{control};
 ghost use Rattle.head.specs.Head.{known, highFirst, terminatorAt, goodTerminator, lacks, apart, badRoom, badCount, badLines, refused, headOf};
-ghost use Rattle.head.specs.Head.{fileBlockOf};
+ghost use Rattle.head.specs.Head.{terminatorSpan, fileBlockOf};
 
 // ---- the file block
 
@@ -53,10 +54,11 @@ fn is_good(f: &[u8], at: usize) -> bool
     false
 }
 
-// A good terminator's characters.
+// A good terminator's characters, as the caller's own bytes.
 pub fn terminator(f: &[u8], at: usize) -> &[u8]
     requires { ⌜ (at + 3 ≤ length (now f)) × (goodTerminator (now f) at ≡ true) ⌝ }
     ensures { λ r. ⌜ now r ≡ terminatorAt (now (f .entry)) at ⌝ }
+    ensures own { λ r. ⌜ PartOf (f .entry) (terminatorSpan (now (f .entry)) at) r ⌝ }
 {
     let from = at + 1;
     let to = from + word::wide(f[at]);

@@ -175,7 +175,7 @@ pub image-keeps : (grow : Bool) (f : List ℕ) → Bytes f → 32 ≤ length f �
 image-keeps grow f by low most e =
     let h = image-headed grow f e in
     record {
-      length = (low, most);
+      extent = (low, most);
       first = first-bytes f (h .first);
       revision = h .revision;
       room = (h .room .0, h .room .1, h .fits);
@@ -248,4 +248,4 @@ pub keeps-accepted : (grow : Bool) (xs : List ℕ) (n : ℕ) → n ≤ length xs
 unfolding checkOf
 keeps-accepted grow xs n fits h =
     let s : length (take n xs) ≡ n = length-take-le n xs fits in
-    rw (length-accepts (length xs) n (omega (arith, h .length .0)) (omega (arith, h .length .1)) fits) (keeps-image grow (take n xs) h)
+    rw (length-accepts (length xs) n (omega (arith, h .extent .0)) (omega (arith, h .extent .1)) fits) (keeps-image grow (take n xs) h)

@@ -57,7 +57,7 @@ restOf high t u f m n =
 unfoldable pub imageOf : Bool → List ℕ → Verdict
 imageOf grow f = andThen (headOf grow f) (restOf (highFirst f) (stringEnd f) (lineEnd f) f (roomOf f) (countOf f))
 
--- "length under 32, over the maximum, or over the buffer"; the image is the first `length` bytes
+-- "length under 32, over the maximum, or over the buffer"; the image is the first n bytes
 abbrev pub badLength : ℕ → ℕ → Bool
 badLength size n = ltb n 32 || (ltb 67108864 n || ltb size n)
 

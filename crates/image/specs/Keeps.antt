@@ -53,10 +53,10 @@ pub record KeepsTrace (f : List ℕ) (k : ℕ) : Type 0 where
 
 -- a file has a trace; an image that an addition takes (`grow`) may have none
 pub record Keeps (grow : Bool) (f : List ℕ) : Type 0 where
-  pub length : (32 ≤ lib.ListN.length f) × (lib.ListN.length f ≤ 67108864)
+  pub extent : (32 ≤ length f) × (length f ≤ 67108864)
   pub first : ((getD f 0 0 ≡ 85) × (getD f 1 0 ≡ 58)) ⊎ ((getD f 0 0 ≡ 58) × (getD f 1 0 ≡ 85))
   pub revision : revisionOf f ≡ 1
-  pub room : (4 ≤ roomOf f) × (roomOf f % 4 ≡ 0) × (32 + roomOf f ≤ lib.ListN.length f)
+  pub room : (4 ≤ roomOf f) × (roomOf f % 4 ≡ 0) × (32 + roomOf f ≤ length f)
   pub some : countOf f ≡ 0 → grow ≡ true
   pub count : 4 * countOf f ≤ roomOf f
   pub string-end : KeepsTerminator f 8

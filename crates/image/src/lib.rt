@@ -1,6 +1,6 @@
 // The check of a whole file (document 01, rows 1 to 17, in the order of its table). Image has the walk, Keeps the rules in no order; Accepted proves
 // that an image is accepted exactly where it keeps the rules, Broken that a refusal is the first row met. Stands on `head`, `block`, `strings`.
-// f is the image, the first `length` bytes of the lent buffer; t and u are its terminators, `grow` says that an addition asks.
+// f is the image, the first `n` bytes of the lent buffer; t and u are its terminators, `grow` says that an addition asks.
 use refusal::Part;
 use refusal::Refusal;
 use refusal::Rule;
@@ -103,11 +103,11 @@ fn image(f: &[u8], grow: bool) -> Verdict
 }
 
 // The check of a file: the first row met, or accepted. `grow` says that an addition asks, which also takes an image with N=0.
-pub fn check(buffer: &[u8], length: usize, grow: bool) -> Verdict
-    ensures { λ r. ⌜ r ≡ checkOf grow (now (buffer .entry)) length ⌝ }
+pub fn check(buffer: &[u8], n: usize, grow: bool) -> Verdict
+    ensures { λ r. ⌜ r ≡ checkOf grow (now (buffer .entry)) n ⌝ }
 {
-    if (length < 32) | ((67108864 < length) | (buffer.len() < length)) {
+    if (n < 32) | ((67108864 < n) | (buffer.len() < n)) {
         return head::refusing(Rule::Length, 0);
     }
-    image(&buffer[..length], grow)
+    image(&buffer[..n], grow)
 }

@@ -7,8 +7,8 @@ use strings::Place;
 ghost use mathlib.Core.Path.{_≡_};
 ghost use Prim.Native.Nat.{_+_, _≤_, _<_};
 ghost use lib.ListN.{length};
-ghost use Rattle.word.specs.Part.{part};
-ghost use Rattle.strings.specs.Strings.{keyLen, entryOf, placesOf, nthOf, findOf, keyFound, valueFound};
+ghost use Rattle.word.specs.Part.{part, PartOf};
+ghost use Rattle.strings.specs.Strings.{keyLen, entryOf, placesOf, nthOf, findOf, keyFound, valueFound, keySpan, valueSpan};
 
 // How many bytes stand before the first separator.
 fn key_len(s: &[u8]) -> usize
@@ -129,10 +129,14 @@ pub fn find(f: &[u8], a: usize, e: usize, high: bool, t: &[u8], key: &[u8]) -> F
 pub fn nth_key<'a>(f: &'a [u8], a: usize, e: usize, high: bool, t: &[u8], i: usize) -> &'a [u8]
     requires { ⌜ (a ≤ e) × (e ≤ length (now f)) ⌝ }
     ensures { λ r. ⌜ now r ≡ keyFound (now (f .entry)) (nthOf (placesOf high (now (t .entry)) (part a e (now (f .entry))) a) i) ⌝ }
+    ensures own { λ r. ⌜ PartOf (f .entry) (keySpan (nthOf (placesOf high (now (t .entry)) (part a e (now (f .entry))) a) i)) r ⌝ }
 {
     let s = nth(f, a, e, high, t, i);
     match s {
-        Found::Nothing => &f[..0],
+        Found::Nothing => {
+            let start = 0; // no i-th keyword
+            &f[start..start]
+        }
         Found::Is(p) => {
             let from = p.key;
             let to = p.gap; // behind the keyword's last character
@@ -141,14 +145,18 @@ pub fn nth_key<'a>(f: &'a [u8], a: usize, e: usize, high: bool, t: &[u8], i: usi
     }
 }
 
-// The i-th string's value.
+// The i-th string's value, likewise.
 pub fn nth_value<'a>(f: &'a [u8], a: usize, e: usize, high: bool, t: &[u8], i: usize) -> &'a [u8]
     requires { ⌜ (a ≤ e) × (e ≤ length (now f)) ⌝ }
     ensures { λ r. ⌜ now r ≡ valueFound (now (f .entry)) (nthOf (placesOf high (now (t .entry)) (part a e (now (f .entry))) a) i) ⌝ }
+    ensures own { λ r. ⌜ PartOf (f .entry) (valueSpan (nthOf (placesOf high (now (t .entry)) (part a e (now (f .entry))) a) i)) r ⌝ }
 {
     let s = nth(f, a, e, high, t, i);
     match s {
-        Found::Nothing => &f[..0],
+        Found::Nothing => {
+            let start = 0; // no i-th value
+            &f[start..start]
+        }
         Found::Is(p) => {
             let from = p.value; // behind the separators
             let to = p.end;
@@ -157,14 +165,18 @@ pub fn nth_value<'a>(f: &'a [u8], a: usize, e: usize, high: bool, t: &[u8], i: u
     }
 }
 
-// The value of a keyword.
+// The value of a keyword, likewise.
 pub fn value<'a>(f: &'a [u8], a: usize, e: usize, high: bool, t: &[u8], key: &[u8]) -> &'a [u8]
     requires { ⌜ (a ≤ e) × (e ≤ length (now f)) ⌝ }
     ensures { λ r. ⌜ now r ≡ valueFound (now (f .entry)) (findOf (now (f .entry)) (placesOf high (now (t .entry)) (part a e (now (f .entry))) a) (now (key .entry))) ⌝ }
+    ensures own { λ r. ⌜ PartOf (f .entry) (valueSpan (findOf (now (f .entry)) (placesOf high (now (t .entry)) (part a e (now (f .entry))) a) (now (key .entry)))) r ⌝ }
 {
     let s = find(f, a, e, high, t, key);
     match s {
-        Found::Nothing => &f[..0],
+        Found::Nothing => {
+            let start = 0; // no such keyword
+            &f[start..start]
+        }
         Found::Is(p) => {
             let from = p.value;
             let to = p.end; // before the terminator

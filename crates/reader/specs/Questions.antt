@@ -143,6 +143,15 @@ valueThere f (string.Refused r) = []
 unfoldable pub valueAnswer : List ℕ → ℕ → ℤ → List ℕ → List ℕ
 valueAnswer xs n z key = valueThere (take n xs) (findAnswer xs n z key)
 
+-- from where to where that stands in the buffer: for a no or a refusal from 0 to 0
+abbrev pub spanThere : StringAnswer → ℕ × ℕ
+spanThere (string.There s) = (s .value, s .end)
+spanThere string.Absent = (0, 0)
+spanThere (string.Refused r) = (0, 0)
+
+unfoldable pub spanAnswer : List ℕ → ℕ → ℤ → List ℕ → ℕ × ℕ
+spanAnswer xs n z key = spanThere (findAnswer xs n z key)
+
 -- ---- numbers in values: of the value, which is the empty text where the keyword is absent
 
 abbrev pub onString : {A : Type 0} → (Refusal → A) → StringAnswer → A → A

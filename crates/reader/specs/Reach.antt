@@ -9,9 +9,10 @@ use lib.IntN.{ℤ, pos, negsuc}
 use lib.ListN.{length, take}
 use lib.Seq.{length-take-le}
 use lib.Dec.{ltb}
+use denote.Ref.{RefT}
 use borrow.Author.Tests.{ltb-true}
 use Rattle.refusal.specs.Verdicts.{refused-not}
-use Rattle.word.specs.Part.{part-take}
+use Rattle.word.specs.Part.{part-take, PartOf}
 use Rattle.refusal.specs.Rows.{pick}
 use Rattle.refusal.specs.declared.Rule.the-variants.{Length}
 use Rattle.refusal.specs.declared.Refusal.{Refusal}
@@ -39,7 +40,7 @@ use Rattle.reader.specs.declared.Opened.the-variants as opened
 use Rattle.reader.specs.declared.TraceAnswer.the-variants as trace
 use Rattle.reader.specs.declared.StringAnswer.{StringAnswer}
 use Rattle.reader.specs.declared.StringAnswer.the-variants as string
-use Rattle.reader.specs.Questions.{asked, noTrace, whoseOf, areaOf, areaAsked, onArea, onTrace, placesIn, there, nthAnswer, findAnswer, traceAnswer, valueThere, valueAnswer, onString}
+use Rattle.reader.specs.Questions.{asked, noTrace, whoseOf, areaOf, areaAsked, onArea, onTrace, placesIn, there, nthAnswer, findAnswer, traceAnswer, valueThere, valueAnswer, spanThere, spanAnswer, onString}
 use Rattle.reader.specs.Leaves.{openedOf, onOpened, nth-opened, find-opened, Within, Fits}
 
 -- ---- an accepted check
@@ -201,6 +202,12 @@ value-within xs n (string.Refused r) h = refl
 pub value-told : (xs : List ℕ) (n : ℕ) (z : ℤ) (key : List ℕ) (s : StringAnswer) → s ≡ findAnswer xs n z key → valueThere xs s ≡ valueAnswer xs n z key
 unfolding valueAnswer
 value-told xs n z key s e = ap (λ (r : StringAnswer). valueThere xs r) e ∙ value-within xs n (findAnswer xs n z key) (find-within xs n z key)
+
+-- where it stands is where the answer stands
+pub span-told : {b r : RefT (List ℕ)} (xs : List ℕ) (n : ℕ) (z : ℤ) (key : List ℕ) (s : StringAnswer) → s ≡ findAnswer xs n z key → PartOf b (spanThere s) r
+    → PartOf b (spanAnswer xs n z key) r
+unfolding spanAnswer
+span-told xs n z key s e h = rw e at h
 
 -- and what is made of it is the answer, unless the string was refused
 pub value-made : {A : Type 0} (bad : Refusal → A) (g : List ℕ → A) (xs : List ℕ) (n : ℕ) (z : ℤ) (key : List ℕ) (s : StringAnswer) (v : List ℕ)

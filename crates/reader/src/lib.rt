@@ -1,6 +1,6 @@
 // The questions on a file: blocks, strings, keywords and numbers in values (document 01, rows 18, 20 to 23). Questions has the definitions, those of
 // samples too; Listed, Answers, First, Same and Reach are the second view. Every question checks the whole file first; its answer is one of the image,
-// the first `length` bytes of the lent buffer. A part is -1 for the file, else the trace. Stands on `image`, `lookup`, `double` and what they stand on.
+// the first `n` bytes of the lent buffer. A part is -1 for the file, else the trace. Stands on `image`, `lookup`, `double` and what they stand on.
 use block::TraceBlock;
 use decimal::NumberAnswer;
 use double::DoubleAnswer;
@@ -15,10 +15,11 @@ ghost use mathlib.Core.Path.{_≡_};
 ghost use mathlib.Core.Bool.{false};
 ghost use Prim.Native.Nat.{_≤_};
 ghost use lib.ListN.{length};
+ghost use Rattle.word.specs.Part.{PartOf};
 ghost use Rattle.refusal.specs.declared.Verdict.the-variants.{Accepted};
 ghost use Rattle.head.specs.Head.{countOf};
 ghost use Rattle.image.specs.Image.{imageOf};
-ghost use Rattle.reader.specs.Questions.{noTrace, areaAsked, fileAnswer, traceAnswer, countAnswer, nthAnswer, findAnswer, keywordAnswer, valueThere, valueAnswer, numberAnswer, doubleAnswer, locationAnswer, whoseOf};
+ghost use Rattle.reader.specs.Questions.{noTrace, areaAsked, fileAnswer, traceAnswer, countAnswer, nthAnswer, findAnswer, keywordAnswer, valueThere, valueAnswer, spanThere, spanAnswer, numberAnswer, doubleAnswer, locationAnswer, whoseOf};
 ghost use Rattle.reader.specs.Leaves.{openedOf, Within};
 
 // Whom a part number names.
@@ -133,14 +134,14 @@ enum Opened {
     Bad(Refusal),
 }
 
-fn open_area(buffer: &[u8], length: usize, part: i32) -> Opened
-    ensures { λ r. ⌜ r ≡ openedOf (now (buffer .entry)) length part ⌝ }
+fn open_area(buffer: &[u8], n: usize, part: i32) -> Opened
+    ensures { λ r. ⌜ r ≡ openedOf (now (buffer .entry)) n part ⌝ }
 {
-    let v = image::check(buffer, length, false);
+    let v = image::check(buffer, n, false);
     if let Verdict::Refused(r) = v {
         return Opened::Bad(r);
     }
-    let w = area_of(&buffer[..length], part);
+    let w = area_of(&buffer[..n], part);
     match w {
         Area::Outside => Opened::Bad(no_trace()),
         Area::From(a, e) => Opened::From(a, e),
@@ -150,36 +151,36 @@ fn open_area(buffer: &[u8], length: usize, part: i32) -> Opened
 // ---- blocks
 
 // The file block.
-pub fn file_block(buffer: &[u8], length: usize) -> FileAnswer
-    ensures { λ r. ⌜ r ≡ fileAnswer (now (buffer .entry)) length ⌝ }
+pub fn file_block(buffer: &[u8], n: usize) -> FileAnswer
+    ensures { λ r. ⌜ r ≡ fileAnswer (now (buffer .entry)) n ⌝ }
 {
-    let v = image::check(buffer, length, false);
+    let v = image::check(buffer, n, false);
     if let Verdict::Refused(r) = v {
         return FileAnswer::Refused(r);
     }
-    let f = &buffer[..length];
+    let f = &buffer[..n];
     let b = head::file_block(f);
     let high = b.high;
     let m = b.m;
-    let n = b.n;
+    let count = b.n;
     FileAnswer::Is(FileFacts {
         high,
         m,
-        n,
+        n: count,
         strings: word::wide(f[8]),
         lines: word::wide(f[11]),
     })
 }
 
 // The trace block of a trace; -1, the file, is none.
-pub fn trace_block(buffer: &[u8], length: usize, trace: i32) -> TraceAnswer
-    ensures { λ r. ⌜ r ≡ traceAnswer (now (buffer .entry)) length trace ⌝ }
+pub fn trace_block(buffer: &[u8], n: usize, trace: i32) -> TraceAnswer
+    ensures { λ r. ⌜ r ≡ traceAnswer (now (buffer .entry)) n trace ⌝ }
 {
-    let v = image::check(buffer, length, false);
+    let v = image::check(buffer, n, false);
     if let Verdict::Refused(r) = v {
         return TraceAnswer::Refused(r);
     }
-    let f = &buffer[..length];
+    let f = &buffer[..n];
     let w = whose_in(f, trace);
     match w {
         Whose::One(k) => TraceAnswer::Is(block::trace_block(f, head::is_high(f), k)),
@@ -191,14 +192,14 @@ pub fn trace_block(buffer: &[u8], length: usize, trace: i32) -> TraceAnswer
 // ---- strings
 
 // How many strings a part has.
-pub fn string_count(buffer: &[u8], length: usize, part: i32) -> CountAnswer
-    ensures { λ r. ⌜ r ≡ countAnswer (now (buffer .entry)) length part ⌝ }
+pub fn string_count(buffer: &[u8], n: usize, part: i32) -> CountAnswer
+    ensures { λ r. ⌜ r ≡ countAnswer (now (buffer .entry)) n part ⌝ }
 {
-    let o = open_area(buffer, length, part);
+    let o = open_area(buffer, n, part);
     match o {
         Opened::Bad(r) => CountAnswer::Refused(r),
         Opened::From(a, e) => {
-            let f = &buffer[..length];
+            let f = &buffer[..n];
             CountAnswer::Is(lookup::count(f, a, e, head::is_high(f), head::terminator(f, 8)))
         }
     }
@@ -215,38 +216,38 @@ fn there(s: Found) -> StringAnswer
 }
 
 // The i-th string of a part, counted from 0; past the last there is none.
-pub fn string(buffer: &[u8], length: usize, part: i32, i: usize) -> StringAnswer
-    ensures { λ r. ⌜ r ≡ nthAnswer (now (buffer .entry)) length part i ⌝ }
+pub fn string(buffer: &[u8], n: usize, part: i32, i: usize) -> StringAnswer
+    ensures { λ r. ⌜ r ≡ nthAnswer (now (buffer .entry)) n part i ⌝ }
 {
-    let o = open_area(buffer, length, part);
+    let o = open_area(buffer, n, part);
     match o {
         Opened::Bad(r) => StringAnswer::Refused(r),
         Opened::From(a, e) => {
-            let f = &buffer[..length];
+            let f = &buffer[..n];
             there(lookup::nth(f, a, e, head::is_high(f), head::terminator(f, 8), i))
         }
     }
 }
 
 // The string with a keyword. Any bytes may be asked for.
-pub fn find(buffer: &[u8], length: usize, part: i32, key: &[u8]) -> StringAnswer
-    ensures { λ r. ⌜ r ≡ findAnswer (now (buffer .entry)) length part (now (key .entry)) ⌝ }
+pub fn find(buffer: &[u8], n: usize, part: i32, key: &[u8]) -> StringAnswer
+    ensures { λ r. ⌜ r ≡ findAnswer (now (buffer .entry)) n part (now (key .entry)) ⌝ }
 {
-    let o = open_area(buffer, length, part);
+    let o = open_area(buffer, n, part);
     match o {
         Opened::Bad(r) => StringAnswer::Refused(r),
         Opened::From(a, e) => {
-            let f = &buffer[..length];
+            let f = &buffer[..n];
             there(lookup::find(f, a, e, head::is_high(f), head::terminator(f, 8), key))
         }
     }
 }
 
 // "A keyword question is two calls: one answers yes, no or the refusal".
-pub fn keyword(buffer: &[u8], length: usize, part: i32, key: &[u8]) -> KeywordAnswer
-    ensures { λ r. ⌜ r ≡ keywordAnswer (now (buffer .entry)) length part (now (key .entry)) ⌝ }
+pub fn keyword(buffer: &[u8], n: usize, part: i32, key: &[u8]) -> KeywordAnswer
+    ensures { λ r. ⌜ r ≡ keywordAnswer (now (buffer .entry)) n part (now (key .entry)) ⌝ }
 {
-    let s = find(buffer, length, part, key);
+    let s = find(buffer, n, part, key);
     match s {
         StringAnswer::There(_) => KeywordAnswer::Yes,
         StringAnswer::Absent => KeywordAnswer::No,
@@ -258,6 +259,7 @@ pub fn keyword(buffer: &[u8], length: usize, part: i32, key: &[u8]) -> KeywordAn
 fn value_at<'a>(buffer: &'a [u8], s: StringAnswer) -> &'a [u8]
     requires { ⌜ Within (length (now buffer)) s ⌝ }
     ensures { λ r. ⌜ now r ≡ valueThere (now (buffer .entry)) s ⌝ }
+    ensures own { λ r. ⌜ PartOf (buffer .entry) (spanThere s) r ⌝ }
 {
     match s {
         StringAnswer::There(p) => {
@@ -265,44 +267,51 @@ fn value_at<'a>(buffer: &'a [u8], s: StringAnswer) -> &'a [u8]
             let to = p.end;
             &buffer[from..to]
         }
-        StringAnswer::Absent => &buffer[..0],
-        StringAnswer::Refused(_) => &buffer[..0],
+        StringAnswer::Absent => {
+            let start = 0; // for a no
+            &buffer[start..start]
+        }
+        StringAnswer::Refused(_) => {
+            let start = 0; // for a refusal
+            &buffer[start..start]
+        }
     }
 }
 
 // "the other answers the value as the caller's own bytes, not a copy, and for a no or a refusal the empty part".
-pub fn value<'a>(buffer: &'a [u8], length: usize, part: i32, key: &[u8]) -> &'a [u8]
-    ensures { λ r. ⌜ now r ≡ valueAnswer (now (buffer .entry)) length part (now (key .entry)) ⌝ }
+pub fn value<'a>(buffer: &'a [u8], n: usize, part: i32, key: &[u8]) -> &'a [u8]
+    ensures { λ r. ⌜ now r ≡ valueAnswer (now (buffer .entry)) n part (now (key .entry)) ⌝ }
+    ensures own { λ r. ⌜ PartOf (buffer .entry) (spanAnswer (now (buffer .entry)) n part (now (key .entry))) r ⌝ }
 {
-    value_at(buffer, find(buffer, length, part, key))
+    value_at(buffer, find(buffer, n, part, key))
 }
 
 // ---- numbers in values; an absent keyword has the empty value, which is no number and no location
 
-pub fn number(buffer: &[u8], length: usize, part: i32, key: &[u8]) -> NumberAnswer
-    ensures { λ r. ⌜ r ≡ numberAnswer (now (buffer .entry)) length part (now (key .entry)) ⌝ }
+pub fn number(buffer: &[u8], n: usize, part: i32, key: &[u8]) -> NumberAnswer
+    ensures { λ r. ⌜ r ≡ numberAnswer (now (buffer .entry)) n part (now (key .entry)) ⌝ }
 {
-    let s = find(buffer, length, part, key);
+    let s = find(buffer, n, part, key);
     if let StringAnswer::Refused(r) = s {
         return NumberAnswer::Refused(r);
     }
     decimal::number(value_at(buffer, s))
 }
 
-pub fn double(buffer: &[u8], length: usize, part: i32, key: &[u8]) -> DoubleAnswer
-    ensures { λ r. ⌜ r ≡ doubleAnswer (now (buffer .entry)) length part (now (key .entry)) ⌝ }
+pub fn double(buffer: &[u8], n: usize, part: i32, key: &[u8]) -> DoubleAnswer
+    ensures { λ r. ⌜ r ≡ doubleAnswer (now (buffer .entry)) n part (now (key .entry)) ⌝ }
 {
-    let s = find(buffer, length, part, key);
+    let s = find(buffer, n, part, key);
     if let StringAnswer::Refused(r) = s {
         return DoubleAnswer::Refused(r);
     }
     double::double(value_at(buffer, s))
 }
 
-pub fn location(buffer: &[u8], length: usize, part: i32, key: &[u8]) -> LocationAnswer
-    ensures { λ r. ⌜ r ≡ locationAnswer (now (buffer .entry)) length part (now (key .entry)) ⌝ }
+pub fn location(buffer: &[u8], n: usize, part: i32, key: &[u8]) -> LocationAnswer
+    ensures { λ r. ⌜ r ≡ locationAnswer (now (buffer .entry)) n part (now (key .entry)) ⌝ }
 {
-    let s = find(buffer, length, part, key);
+    let s = find(buffer, n, part, key);
     if let StringAnswer::Refused(r) = s {
         return LocationAnswer::Refused(r);
     }

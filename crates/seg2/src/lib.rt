@@ -23,114 +23,109 @@ ghost use Rattle.face.specs.Face.{verdictOf, fileOf, traceOf, countOf, stringOf
 
 // ---- questions
 
-// Whether the first `length` bytes of the buffer are a file that keeps the rules; if not, the first row of the table that it meets.
+// Whether the first `n` bytes of the buffer are a file that keeps the rules; if not, the first row of the table that it meets.
 #[no_mangle]
-pub extern "C" fn seg2_check(buffer: &[u8], length: usize) -> Seg2Verdict
-    ensures { λ r. ⌜ r ≡ verdictOf (checkOf false (now (buffer .entry)) length) ⌝ }
+pub extern "C" fn seg2_check(buffer: &[u8], n: usize) -> Seg2Verdict
+    ensures { λ r. ⌜ r ≡ verdictOf (checkOf false (now (buffer .entry)) n) ⌝ }
 {
-    face::told(image::check(buffer, length, false))
+    face::told(image::check(buffer, n, false))
 }
 
 // The file block.
 #[no_mangle]
-pub extern "C" fn seg2_file_block(buffer: &[u8], length: usize) -> Seg2File
-    ensures { λ r. ⌜ r ≡ fileOf (fileAnswer (now (buffer .entry)) length) ⌝ }
+pub extern "C" fn seg2_file_block(buffer: &[u8], n: usize) -> Seg2File
+    ensures { λ r. ⌜ r ≡ fileOf (fileAnswer (now (buffer .entry)) n) ⌝ }
 {
-    face::file_told(reader::file_block(buffer, length))
+    face::file_told(reader::file_block(buffer, n))
 }
 
 // A trace's block.
 #[no_mangle]
-pub extern "C" fn seg2_trace_block(buffer: &[u8], length: usize, trace: i32) -> Seg2Trace
-    ensures { λ r. ⌜ r ≡ traceOf (traceAnswer (now (buffer .entry)) length trace) ⌝ }
+pub extern "C" fn seg2_trace_block(buffer: &[u8], n: usize, trace: i32) -> Seg2Trace
+    ensures { λ r. ⌜ r ≡ traceOf (traceAnswer (now (buffer .entry)) n trace) ⌝ }
 {
-    face::trace_told(reader::trace_block(buffer, length, trace))
+    face::trace_told(reader::trace_block(buffer, n, trace))
 }
 
 // How many strings the file (part -1) or a trace has.
 #[no_mangle]
-pub extern "C" fn seg2_string_count(buffer: &[u8], length: usize, part: i32) -> Seg2Count
-    ensures { λ r. ⌜ r ≡ countOf (countAnswer (now (buffer .entry)) length part) ⌝ }
+pub extern "C" fn seg2_string_count(buffer: &[u8], n: usize, part: i32) -> Seg2Count
+    ensures { λ r. ⌜ r ≡ countOf (countAnswer (now (buffer .entry)) n part) ⌝ }
 {
-    face::count_told(reader::string_count(buffer, length, part))
+    face::count_told(reader::string_count(buffer, n, part))
 }
 
 // The string with an index, counted from 0.
 #[no_mangle]
-pub extern "C" fn seg2_string(buffer: &[u8], length: usize, part: i32, index: usize) -> Seg2String
-    ensures { λ r. ⌜ r ≡ stringOf (nthAnswer (now (buffer .entry)) length part index) ⌝ }
+pub extern "C" fn seg2_string(buffer: &[u8], n: usize, part: i32, index: usize) -> Seg2String
+    ensures { λ r. ⌜ r ≡ stringOf (nthAnswer (now (buffer .entry)) n part index) ⌝ }
 {
-    face::string_told(reader::string(buffer, length, part, index))
+    face::string_told(reader::string(buffer, n, part, index))
 }
 
 // Whether a keyword is there: one of the two calls of a keyword question.
 #[no_mangle]
-pub extern "C" fn seg2_keyword(buffer: &[u8], length: usize, part: i32, key: &[u8]) -> Seg2Keyword
-    ensures { λ r. ⌜ r ≡ keywordOf (keywordAnswer (now (buffer .entry)) length part (now (key .entry))) ⌝ }
+pub extern "C" fn seg2_keyword(buffer: &[u8], n: usize, part: i32, key: &[u8]) -> Seg2Keyword
+    ensures { λ r. ⌜ r ≡ keywordOf (keywordAnswer (now (buffer .entry)) n part (now (key .entry))) ⌝ }
 {
-    face::keyword_told(reader::keyword(buffer, length, part, key))
+    face::keyword_told(reader::keyword(buffer, n, part, key))
 }
 
 // A keyword's value: the other one.
 #[no_mangle]
-pub extern "C" fn seg2_value(buffer: &[u8], length: usize, part: i32, key: &[u8]) -> Seg2Value
-    ensures { λ r. ⌜ r ≡ valueOf (findAnswer (now (buffer .entry)) length part (now (key .entry))) ⌝ }
+pub extern "C" fn seg2_value(buffer: &[u8], n: usize, part: i32, key: &[u8]) -> Seg2Value
+    ensures { λ r. ⌜ r ≡ valueOf (findAnswer (now (buffer .entry)) n part (now (key .entry))) ⌝ }
 {
-    face::value_told(reader::find(buffer, length, part, key))
+    face::value_told(reader::find(buffer, n, part, key))
 }
 
 // The number that a keyword's value is.
 #[no_mangle]
-pub extern "C" fn seg2_number(buffer: &[u8], length: usize, part: i32, key: &[u8]) -> Seg2Number
-    ensures { λ r. ⌜ r ≡ decimalOf (numberAnswer (now (buffer .entry)) length part (now (key .entry))) ⌝ }
+pub extern "C" fn seg2_number(buffer: &[u8], n: usize, part: i32, key: &[u8]) -> Seg2Number
+    ensures { λ r. ⌜ r ≡ decimalOf (numberAnswer (now (buffer .entry)) n part (now (key .entry))) ⌝ }
 {
-    face::number_told(reader::number(buffer, length, part, key))
+    face::number_told(reader::number(buffer, n, part, key))
 }
 
 // The double that a keyword's value is.
 #[no_mangle]
-pub extern "C" fn seg2_double(buffer: &[u8], length: usize, part: i32, key: &[u8]) -> Seg2Double
-    ensures { λ r. ⌜ r ≡ doubleOf (doubleAnswer (now (buffer .entry)) length part (now (key .entry))) ⌝ }
+pub extern "C" fn seg2_double(buffer: &[u8], n: usize, part: i32, key: &[u8]) -> Seg2Double
+    ensures { λ r. ⌜ r ≡ doubleOf (doubleAnswer (now (buffer .entry)) n part (now (key .entry))) ⌝ }
 {
-    face::double_told(reader::double(buffer, length, part, key))
+    face::double_told(reader::double(buffer, n, part, key))
 }
 
 // The location that a keyword's value is.
 #[no_mangle]
-pub extern "C" fn seg2_location(buffer: &[u8], length: usize, part: i32, key: &[u8]) -> Seg2Location
-    ensures { λ r. ⌜ r ≡ locationOf (locationAnswer (now (buffer .entry)) length part (now (key .entry))) ⌝ }
+pub extern "C" fn seg2_location(buffer: &[u8], n: usize, part: i32, key: &[u8]) -> Seg2Location
+    ensures { λ r. ⌜ r ≡ locationOf (locationAnswer (now (buffer .entry)) n part (now (key .entry))) ⌝ }
 {
-    face::location_told(reader::location(buffer, length, part, key))
+    face::location_told(reader::location(buffer, n, part, key))
 }
 
 // The samples of a trace of code 1 to 3, into a row of as many.
 #[no_mangle]
-pub extern "C" fn seg2_integers(
-    buffer: &[u8],
-    length: usize,
-    trace: i32,
-    row: &mut [i32],
-) -> Seg2Verdict
-    ensures answer { λ r. ⌜ r ≡ verdictOf (integersAnswer (now (buffer .entry)) length trace (lib.ListN.length (now (row .entry)))) ⌝ }
-    ensures row { λ _. ⌜ now (row .exit) ≡ integersLeft (now (buffer .entry)) length trace (now (row .entry)) ⌝ }
+pub extern "C" fn seg2_integers(buffer: &[u8], n: usize, trace: i32, row: &mut [i32]) -> Seg2Verdict
+    ensures answer { λ r. ⌜ r ≡ verdictOf (integersAnswer (now (buffer .entry)) n trace (length (now (row .entry)))) ⌝ }
+    ensures row { λ _. ⌜ now (row .exit) ≡ integersLeft (now (buffer .entry)) n trace (now (row .entry)) ⌝ }
 {
-    face::told(traces::integers(buffer, length, trace, row))
+    face::told(traces::integers(buffer, n, trace, row))
 }
 
 // The bit patterns and the classes of the samples of a trace of code 4 or 5, into two rows of as many.
 #[no_mangle]
 pub extern "C" fn seg2_bits(
     buffer: &[u8],
-    length: usize,
+    n: usize,
     trace: i32,
     row: &mut [u64],
     classes: &mut [u8],
 ) -> Seg2Verdict
-    ensures answer { λ r. ⌜ r ≡ verdictOf (bitsAnswer (now (buffer .entry)) length trace (lib.ListN.length (now (row .entry))) (lib.ListN.length (now (classes .entry)))) ⌝ }
-    ensures row { λ _. ⌜ now (row .exit) ≡ patternsLeft (now (buffer .entry)) length trace (now (row .entry)) (now (classes .entry)) ⌝ }
-    ensures classes { λ _. ⌜ now (classes .exit) ≡ classesLeft (now (buffer .entry)) length trace (now (row .entry)) (now (classes .entry)) ⌝ }
+    ensures answer { λ r. ⌜ r ≡ verdictOf (bitsAnswer (now (buffer .entry)) n trace (length (now (row .entry))) (length (now (classes .entry)))) ⌝ }
+    ensures row { λ _. ⌜ now (row .exit) ≡ patternsLeft (now (buffer .entry)) n trace (now (row .entry)) (now (classes .entry)) ⌝ }
+    ensures classes { λ _. ⌜ now (classes .exit) ≡ classesLeft (now (buffer .entry)) n trace (now (row .entry)) (now (classes .entry)) ⌝ }
 {
-    face::told(traces::bits(buffer, length, trace, row, classes))
+    face::told(traces::bits(buffer, n, trace, row, classes))
 }
 
 // ---- writing
@@ -144,32 +139,32 @@ pub extern "C" fn seg2_start(buffer: &mut [u8], order: u32, slots: u32, sheet: &
     face::length_told(start::start(buffer, order as usize, slots as usize, sheet))
 }
 
-// A trace of integers (codes 1 to 3) behind the image that the buffer's first `length` bytes are.
+// A trace of integers (codes 1 to 3) behind the image that the buffer's first `n` bytes are.
 #[no_mangle]
 pub extern "C" fn seg2_add_integers(
     buffer: &mut [u8],
-    length: usize,
+    n: usize,
     sheet: &[u8],
     code: u32,
     row: &[i32],
 ) -> Seg2Length
-    ensures answer { λ r. ⌜ r ≡ lengthOf (addAnswer (now (buffer .entry)) length (ofIntegers (now (sheet .entry)) code (now (row .entry)))) ⌝ }
-    ensures left { λ _. ⌜ now (buffer .exit) ≡ addLeft (now (buffer .entry)) length (ofIntegers (now (sheet .entry)) code (now (row .entry))) ⌝ }
+    ensures answer { λ r. ⌜ r ≡ lengthOf (addAnswer (now (buffer .entry)) n (ofIntegers (now (sheet .entry)) code (now (row .entry)))) ⌝ }
+    ensures left { λ _. ⌜ now (buffer .exit) ≡ addLeft (now (buffer .entry)) n (ofIntegers (now (sheet .entry)) code (now (row .entry))) ⌝ }
 {
-    face::length_told(writer::add_integers(buffer, length, sheet, code, row))
+    face::length_told(writer::add_integers(buffer, n, sheet, code, row))
 }
 
 // A trace of bit patterns (codes 4 and 5).
 #[no_mangle]
 pub extern "C" fn seg2_add_bits(
     buffer: &mut [u8],
-    length: usize,
+    n: usize,
     sheet: &[u8],
     code: u32,
     row: &[u64],
 ) -> Seg2Length
-    ensures answer { λ r. ⌜ r ≡ lengthOf (addAnswer (now (buffer .entry)) length (ofPatterns (now (sheet .entry)) code (now (row .entry)))) ⌝ }
-    ensures left { λ _. ⌜ now (buffer .exit) ≡ addLeft (now (buffer .entry)) length (ofPatterns (now (sheet .entry)) code (now (row .entry))) ⌝ }
+    ensures answer { λ r. ⌜ r ≡ lengthOf (addAnswer (now (buffer .entry)) n (ofPatterns (now (sheet .entry)) code (now (row .entry)))) ⌝ }
+    ensures left { λ _. ⌜ now (buffer .exit) ≡ addLeft (now (buffer .entry)) n (ofPatterns (now (sheet .entry)) code (now (row .entry))) ⌝ }
 {
-    face::length_told(writer::add_bits(buffer, length, sheet, code, row))
+    face::length_told(writer::add_bits(buffer, n, sheet, code, row))
 }

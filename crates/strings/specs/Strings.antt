@@ -166,3 +166,12 @@ keyFound f (Is s) = keyIn f s
 unfoldable pub valueFound : List ℕ → Found → List ℕ
 valueFound f Nothing = []
 valueFound f (Is s) = valueIn f s
+
+-- from where to where that stands in f; nothing stands from 0 to 0
+unfoldable pub keySpan : Found → ℕ × ℕ
+keySpan Nothing = (0, 0)
+keySpan (Is s) = (s .key, s .gap)
+
+unfoldable pub valueSpan : Found → ℕ × ℕ
+valueSpan Nothing = (0, 0)
+valueSpan (Is s) = (s .value, s .end)

@@ -71,14 +71,14 @@ fn integers_of(f: &[u8], t: TraceBlock, row: &mut [i32]) -> Verdict
 }
 
 // The samples of a trace of code 1 to 3, into a row of S numbers.
-pub fn integers(buffer: &[u8], length: usize, trace: i32, row: &mut [i32]) -> Verdict
-    ensures answer { λ r. ⌜ r ≡ integersAnswer (now (buffer .entry)) length trace (lib.ListN.length (now (row .entry))) ⌝ }
-    ensures row { λ _. ⌜ now (row .exit) ≡ integersLeft (now (buffer .entry)) length trace (now (row .entry)) ⌝ }
+pub fn integers(buffer: &[u8], n: usize, trace: i32, row: &mut [i32]) -> Verdict
+    ensures answer { λ r. ⌜ r ≡ integersAnswer (now (buffer .entry)) n trace (length (now (row .entry))) ⌝ }
+    ensures row { λ _. ⌜ now (row .exit) ≡ integersLeft (now (buffer .entry)) n trace (now (row .entry)) ⌝ }
 {
-    let a = reader::trace_block(buffer, length, trace);
+    let a = reader::trace_block(buffer, n, trace);
     match a {
         TraceAnswer::Refused(r) => Verdict::Refused(r),
-        TraceAnswer::Is(t) => integers_of(&buffer[..length], t, row),
+        TraceAnswer::Is(t) => integers_of(&buffer[..n], t, row),
     }
 }
 
@@ -108,20 +108,14 @@ fn bits_of(f: &[u8], t: TraceBlock, row: &mut [u64], classes: &mut [u8]) -> Verd
 }
 
 // The bit patterns of a trace of code 4 or 5 and their classes, into two rows of S elements.
-pub fn bits(
-    buffer: &[u8],
-    length: usize,
-    trace: i32,
-    row: &mut [u64],
-    classes: &mut [u8],
-) -> Verdict
-    ensures answer { λ r. ⌜ r ≡ bitsAnswer (now (buffer .entry)) length trace (lib.ListN.length (now (row .entry))) (lib.ListN.length (now (classes .entry))) ⌝ }
-    ensures row { λ _. ⌜ now (row .exit) ≡ patternsLeft (now (buffer .entry)) length trace (now (row .entry)) (now (classes .entry)) ⌝ }
-    ensures classes { λ _. ⌜ now (classes .exit) ≡ classesLeft (now (buffer .entry)) length trace (now (row .entry)) (now (classes .entry)) ⌝ }
+pub fn bits(buffer: &[u8], n: usize, trace: i32, row: &mut [u64], classes: &mut [u8]) -> Verdict
+    ensures answer { λ r. ⌜ r ≡ bitsAnswer (now (buffer .entry)) n trace (length (now (row .entry))) (length (now (classes .entry))) ⌝ }
+    ensures row { λ _. ⌜ now (row .exit) ≡ patternsLeft (now (buffer .entry)) n trace (now (row .entry)) (now (classes .entry)) ⌝ }
+    ensures classes { λ _. ⌜ now (classes .exit) ≡ classesLeft (now (buffer .entry)) n trace (now (row .entry)) (now (classes .entry)) ⌝ }
 {
-    let a = reader::trace_block(buffer, length, trace);
+    let a = reader::trace_block(buffer, n, trace);
     match a {
         TraceAnswer::Refused(r) => Verdict::Refused(r),
-        TraceAnswer::Is(t) => bits_of(&buffer[..length], t, row, classes),
+        TraceAnswer::Is(t) => bits_of(&buffer[..n], t, row, classes),
     }
 }

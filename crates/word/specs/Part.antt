@@ -1,11 +1,12 @@
--- A part of a list: what `&f[a..e]` is of the slice f. Its laws hold for elements of any type.
+-- A part of a list: what `&f[a..e]` is of the slice f. Its laws hold for elements of any type. And a part of a lent slice, with its place in memory.
 -- Assumes nothing.
-use mathlib.Core.Path.{_≡_, _∙_}
+use mathlib.Core.Path.{_≡_, sym, _∙_}
 use mathlib.Core.List.{List, [], _∷_, _++_}
 use Prim.Native.Nat.{ℕ, zero, suc, _+_, _-_, _≤_, _<_}
 use native.Mathlib.Numerals.{add-one}
 use native.Mathlib.Omega.{arith}
 use lib.ListN.{length, getD, take, drop, length-drop}
+use denote.Ref.{RefT}
 use lib.Seq.{length-take-le, take-all, take-nil, take-take, take-add, take-at, drop-at, drop-cons, drop-drop, getD-take, getD-drop}
 
 module _ {A : Type 0} where
@@ -22,6 +23,9 @@ module _ {A : Type 0} where
 
   pub length-part : (a e : ℕ) (f : List A) → e ≤ length f → length (part a e f) ≡ e - a
   length-part a e f h = length-take-le (e - a) (drop a f) (simp length-drop (omega arith))
+
+  pub part-front : (n : ℕ) (f : List A) → part 0 n f ≡ take n f
+  part-front n f = let z : n - 0 ≡ n = omega arith in rw z
 
   pub part-rest : (a : ℕ) (f : List A) → part a (length f) f ≡ drop a f
   part-rest a f = take-all (length f - a) (drop a f) (simp length-drop (omega arith))
@@ -63,3 +67,22 @@ module _ {A : Type 0} where
   -- what stands between a front and a back
   pub part-among : (p q r : List A) (a e : ℕ) → length p ≡ a → length q + a ≡ e → part a e (p ++ (q ++ r)) ≡ q
   part-among p q r a e h k = rw (drop-at p (q ++ r) a h) (take-at q r (e - a) (omega arith))
+
+-- ---- a part of a lent slice
+
+-- r is the part of b from p .0 up to p .1: b's own bytes, where they stand in the caller's memory, and not a copy of them
+pub record PartOf (b : RefT (List ℕ)) (p : ℕ × ℕ) (r : RefT (List ℕ)) : Type 0 where
+  pub bytes : r .now ≡ part (p .0) (p .1) (b .now)
+  pub block : r .ptr .0 ≡ b .ptr .0
+  pub place : r .ptr .1 ≡ b .ptr .1 + p .0
+
+-- r is what b ends with: as many bytes as it has
+abbrev pub RestOf : RefT (List ℕ) → RefT (List ℕ) → Type 0
+RestOf b r = PartOf b (length (b .now) - length (r .now), length (b .now)) r
+
+-- what `&b[n..]` is, and b itself
+pub rest-from : {b r : RefT (List ℕ)} (n : ℕ) → n ≤ length (b .now) → r .now ≡ drop n (b .now) → r .ptr .0 ≡ b .ptr .0 → r .ptr .1 ≡ b .ptr .1 + n → RestOf b r
+rest-from {b} {r} n h e k p =
+    let l : length (r .now) ≡ length (b .now) - n = rw e (length-drop n (b .now)) in
+    let a : length (b .now) - length (r .now) ≡ n = omega (arith, l) in
+    rw a (record { bytes = e ∙ sym (part-rest n (b .now)); block = k; place = p })

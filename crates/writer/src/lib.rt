@@ -19,14 +19,14 @@ ghost use Rattle.writer.specs.Answers.{openedOf, onFit, samplesOf, addAn
 // ---- adding a trace
 
 // Rows 1 to 17 and 24 to 27: the size of the new trace's area, or the first of them that is met.
-fn opened(buffer: &[u8], length: usize, sheet: &[u8]) -> Measured
-    ensures { λ r. ⌜ r ≡ openedOf (now (buffer .entry)) length (now (sheet .entry)) ⌝ }
+fn opened(buffer: &[u8], n: usize, sheet: &[u8]) -> Measured
+    ensures { λ r. ⌜ r ≡ openedOf (now (buffer .entry)) n (now (sheet .entry)) ⌝ }
 {
-    let v = image::check(buffer, length, true);
+    let v = image::check(buffer, n, true);
     if let Verdict::Refused(r) = v {
         return Measured::Refused(r);
     }
-    let f = &buffer[..length];
+    let f = &buffer[..n];
     let b = head::file_block(f);
     if b.m < 4 * b.n + 4 {
         return Measured::Refused(Refusal {
@@ -82,25 +82,25 @@ fn bits_fit(code: u32, row: &[u64]) -> Verdict
 }
 
 // Where the data of a trace behind so many bytes ends.
-fn end_of(length: usize, size: usize, code: u8, count: u32) -> usize
-    requires { ⌜ (length ≤ 67108864) × (size ≤ 65500) ⌝ }
-    ensures { λ r. ⌜ r ≡ round4 length + (32 + size + room code count) ⌝ }
+fn end_of(n: usize, size: usize, code: u8, count: u32) -> usize
+    requires { ⌜ (n ≤ 67108864) × (size ≤ 65500) ⌝ }
+    ensures { λ r. ⌜ r ≡ round4 n + (32 + size + room code count) ⌝ }
 {
-    word::round_up(length) + (32 + size + sample::room(code, count))
+    word::round_up(n) + (32 + size + sample::room(code, count))
 }
 
 // Rows 28 to 30, and the trace where none is met.
 fn integers_behind(
     buffer: &mut [u8],
-    length: usize,
+    n: usize,
     sheet: &[u8],
     size: usize,
     code: u32,
     row: &[i32],
 ) -> Written
-    requires { ⌜ openedOf (now buffer) length (now sheet) ≡ Measured.Size size ⌝ }
-    ensures answer { λ r. ⌜ r ≡ addAnswer (now (buffer .entry)) length (ofIntegers (now (sheet .entry)) code (now (row .entry))) ⌝ }
-    ensures left { λ _. ⌜ now (buffer .exit) ≡ addLeft (now (buffer .entry)) length (ofIntegers (now (sheet .entry)) code (now (row .entry))) ⌝ }
+    requires { ⌜ openedOf (now buffer) n (now sheet) ≡ Measured.Size size ⌝ }
+    ensures answer { λ r. ⌜ r ≡ addAnswer (now (buffer .entry)) n (ofIntegers (now (sheet .entry)) code (now (row .entry))) ⌝ }
+    ensures left { λ _. ⌜ now (buffer .exit) ≡ addLeft (now (buffer .entry)) n (ofIntegers (now (sheet .entry)) code (now (row .entry))) ⌝ }
 {
     let v = integers_fit(code, row);
     if let Verdict::Refused(r) = v {
@@ -110,25 +110,25 @@ fn integers_behind(
         return start::refusing(Rule::NoRoom, 0);
     }
     let c = code as u8;
-    let end = end_of(length, size, c, row.len() as u32);
+    let end = end_of(n, size, c, row.len() as u32);
     if (buffer.len() < end) | (67108864 < end) {
         return start::refusing(Rule::NoRoom, 0);
     }
-    append::grow_integers(buffer, length, sheet, size, c, row);
+    append::grow_integers(buffer, n, sheet, size, c, row);
     Written::To(end)
 }
 
 fn bits_behind(
     buffer: &mut [u8],
-    length: usize,
+    n: usize,
     sheet: &[u8],
     size: usize,
     code: u32,
     row: &[u64],
 ) -> Written
-    requires { ⌜ openedOf (now buffer) length (now sheet) ≡ Measured.Size size ⌝ }
-    ensures answer { λ r. ⌜ r ≡ addAnswer (now (buffer .entry)) length (ofPatterns (now (sheet .entry)) code (now (row .entry))) ⌝ }
-    ensures left { λ _. ⌜ now (buffer .exit) ≡ addLeft (now (buffer .entry)) length (ofPatterns (now (sheet .entry)) code (now (row .entry))) ⌝ }
+    requires { ⌜ openedOf (now buffer) n (now sheet) ≡ Measured.Size size ⌝ }
+    ensures answer { λ r. ⌜ r ≡ addAnswer (now (buffer .entry)) n (ofPatterns (now (sheet .entry)) code (now (row .entry))) ⌝ }
+    ensures left { λ _. ⌜ now (buffer .exit) ≡ addLeft (now (buffer .entry)) n (ofPatterns (now (sheet .entry)) code (now (row .entry))) ⌝ }
 {
     let v = bits_fit(code, row);
     if let Verdict::Refused(r) = v {
@@ -138,40 +138,34 @@ fn bits_behind(
         return start::refusing(Rule::NoRoom, 0);
     }
     let c = code as u8;
-    let end = end_of(length, size, c, row.len() as u32);
+    let end = end_of(n, size, c, row.len() as u32);
     if (buffer.len() < end) | (67108864 < end) {
         return start::refusing(Rule::NoRoom, 0);
     }
-    append::grow_bits(buffer, length, sheet, size, c, row);
+    append::grow_bits(buffer, n, sheet, size, c, row);
     Written::To(end)
 }
 
-// A trace of integers (codes 1 to 3) behind the image that the buffer's first `length` bytes are: a file, or a start's image without traces.
-pub fn add_integers(
-    buffer: &mut [u8],
-    length: usize,
-    sheet: &[u8],
-    code: u32,
-    row: &[i32],
-) -> Written
-    ensures answer { λ r. ⌜ r ≡ addAnswer (now (buffer .entry)) length (ofIntegers (now (sheet .entry)) code (now (row .entry))) ⌝ }
-    ensures left { λ _. ⌜ now (buffer .exit) ≡ addLeft (now (buffer .entry)) length (ofIntegers (now (sheet .entry)) code (now (row .entry))) ⌝ }
+// A trace of integers (codes 1 to 3) behind the image that the buffer's first `n` bytes are: a file, or a start's image without traces.
+pub fn add_integers(buffer: &mut [u8], n: usize, sheet: &[u8], code: u32, row: &[i32]) -> Written
+    ensures answer { λ r. ⌜ r ≡ addAnswer (now (buffer .entry)) n (ofIntegers (now (sheet .entry)) code (now (row .entry))) ⌝ }
+    ensures left { λ _. ⌜ now (buffer .exit) ≡ addLeft (now (buffer .entry)) n (ofIntegers (now (sheet .entry)) code (now (row .entry))) ⌝ }
 {
-    let o = opened(&buffer[..], length, sheet);
+    let o = opened(&buffer[..], n, sheet);
     match o {
         Measured::Refused(r) => Written::Refused(r),
-        Measured::Size(size) => integers_behind(buffer, length, sheet, size, code, row),
+        Measured::Size(size) => integers_behind(buffer, n, sheet, size, code, row),
     }
 }
 
 // A trace of bit patterns (codes 4 and 5).
-pub fn add_bits(buffer: &mut [u8], length: usize, sheet: &[u8], code: u32, row: &[u64]) -> Written
-    ensures answer { λ r. ⌜ r ≡ addAnswer (now (buffer .entry)) length (ofPatterns (now (sheet .entry)) code (now (row .entry))) ⌝ }
-    ensures left { λ _. ⌜ now (buffer .exit) ≡ addLeft (now (buffer .entry)) length (ofPatterns (now (sheet .entry)) code (now (row .entry))) ⌝ }
+pub fn add_bits(buffer: &mut [u8], n: usize, sheet: &[u8], code: u32, row: &[u64]) -> Written
+    ensures answer { λ r. ⌜ r ≡ addAnswer (now (buffer .entry)) n (ofPatterns (now (sheet .entry)) code (now (row .entry))) ⌝ }
+    ensures left { λ _. ⌜ now (buffer .exit) ≡ addLeft (now (buffer .entry)) n (ofPatterns (now (sheet .entry)) code (now (row .entry))) ⌝ }
 {
-    let o = opened(&buffer[..], length, sheet);
+    let o = opened(&buffer[..], n, sheet);
     match o {
         Measured::Refused(r) => Written::Refused(r),
-        Measured::Size(size) => bits_behind(buffer, length, sheet, size, code, row),
+        Measured::Size(size) => bits_behind(buffer, n, sheet, size, code, row),
     }
 }

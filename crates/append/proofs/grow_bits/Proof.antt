@@ -25,13 +25,73 @@ grow-bits-spec =
     (λ c κs. search needs)
     (λ c. search needs)
     (λ c κs. search needs)
-    (λ c κs. let g = c .before .before .before .before .before .before .before .before .before .before .before .before .before .before .before .pre .plain in omega (arith, g .round, c .before .before .before .before .before .before .before .before .before .round-up .ensures))
-    (λ c. let g = c .before .before .before .before .before .before .before .before .before .before .before .before .before .before .before .before .before .before .before .pre .plain in omega (arith, g .string, c .before .before .before .before .before .before .before .wide .ensures .0))
-    (λ c. let g = c .before .before .before .before .before .before .before .before .before .before .before .before .before .before .before .before .before .before .before .before .pre .plain in sym (length-take-le _ _ (omega (arith, g .string, c .before .before .before .before .before .before .before .before .wide .ensures .0))))
-    (λ c. let g = c .before .before .before .before .before .before .before .before .before .before .before .before .before .before .before .before .before .before .before .before .pre .plain in omega (arith, g .line, c .before .before .before .before .before .before .wide2 .ensures .0))
-    (λ c. let g = c .before .before .before .before .before .before .before .before .before .before .before .before .before .before .before .before .before .before .before .before .before .pre .plain in sym (length-take-le _ _ (omega (arith, g .line, c .before .before .before .before .before .before .before .wide2 .ensures .0))))
-    (λ c κs. rw (c .before .before .before .before .before .before .before .before .before .before .before .before .before .before .before .round-up .ensures) (ready (c .before .before .before .before .before .before .before .before .before .before .before .before .before .before .before .before .before .before .before .before .before .args .buffer .now) _ (c .before .before .before .before .before .before .before .before .before .before .before .before .before .before .before .before .before .before .before .before .before .args .length) (c .before .before .before .before .before .before .before .before .before .before .before .before .before .before .before .before .before .before .before .before .before .args .sheet .now) (c .before .before .before .before .before .before .before .before .before .before .before .before .before .before .before .before .before .before .before .before .before .args .size) (ofPatterns (c .before .before .before .before .before .before .before .before .before .before .before .before .before .before .before .before .before .before .before .before .before .args .sheet .now) (c .before .before .before .before .before .before .before .before .before .before .before .before .before .before .before .before .before .before .before .before .before .args .code) (c .before .before .before .before .before .before .before .before .before .before .before .before .before .before .before .before .before .before .before .before .before .args .row .now)) _ _ _ (c .before .before .before .before .before .before .before .before .before .before .before .before .before .before .before .before .before .before .before .before .before .pre) (c .before .before .before .before .before .zeros .ensures) (rw (c .before .before .before .before .before .before .before .before .before .wide .ensures .0) (c .before .before .before .before .before .before .before .before .before .before .before .before .before .before .before .before .before .before .before .before .before .pre .plain .string-end)) (rw (c .before .before .before .before .before .before .before .wide2 .ensures .0) (c .before .before .before .before .before .before .before .before .before .before .before .before .before .before .before .before .before .before .before .before .before .pre .plain .line-end))))
-    (λ c. let g = c .before .before .before .before .before .before .before .before .before .before .before .before .before .before .before .before .before .before .before .before .before .before .before .before .before .before .pre .plain in omega (arith, g .few, block-count _ _ (c .before .before .before .before .before .before .before .before .before .before .before .before .before .before .before .before .before .before .before .before .before .file-block .ensures)))
-    (λ c κs. let g = c .before .before .before .before .before .before .before .before .before .before .before .before .before .before .before .before .before .before .before .before .before .before .before .before .before .before .pre .plain in let k = block-count _ _ (c .before .before .before .before .before .before .before .before .before .before .before .before .before .before .before .before .before .before .before .before .before .file-block .ensures) in rw (c .before .before .before .before .lend-bits .ensures, length-put, c .before .before .before .before .before .before .before .before .before .before .zeros .ensures, length-put) (omega (arith, g .slot, block-count _ _ (c .before .before .before .before .before .before .before .before .before .before .before .before .before .before .before .before .before .before .before .before .before .file-block .ensures)), omega (arith, g .few, block-count _ _ (c .before .before .before .before .before .before .before .before .before .before .before .before .before .before .before .before .before .before .before .before .before .file-block .ensures)), omega (arith, g .most, c .before .before .before .before .before .before .before .before .before .before .before .before .before .before .before .before .before .before .before .before .round-up .ensures)))
+    (λ c κs.
+    let at-round-up = c .before .before .before .before .before .before .before .before .before in
+    let start = at-round-up .before .before .before .before .before .before in
+    let g = start .pre .plain in
+    omega (arith, g .round, at-round-up .round-up .ensures))
+    (λ c.
+    let at-wide = c .before .before .before .before .before .before .before in
+    let start = at-wide .before .before .before .before .before .before .before .before .before .before .before .before in
+    let g = start .pre .plain in
+    omega (arith, g .string, at-wide .wide .ensures .0))
+    (λ c.
+    let at-wide = c .before .before .before .before .before .before .before .before in
+    let start = at-wide .before .before .before .before .before .before .before .before .before .before .before .before in
+    let g = start .pre .plain in
+    sym (length-take-le _ _ (omega (arith, g .string, at-wide .wide .ensures .0))))
+    (λ c.
+    let at-wide2 = c .before .before .before .before .before .before in
+    let start = at-wide2 .before .before .before .before .before .before .before .before .before .before .before .before .before .before in
+    let g = start .pre .plain in
+    omega (arith, g .line, at-wide2 .wide2 .ensures .0))
+    (λ c.
+    let at-wide2 = c .before .before .before .before .before .before .before in
+    let start = at-wide2 .before .before .before .before .before .before .before .before .before .before .before .before .before .before in
+    let g = start .pre .plain in
+    sym (length-take-le _ _ (omega (arith, g .line, at-wide2 .wide2 .ensures .0))))
+    (λ c κs.
+    let at-zeros = c .before .before .before .before .before in
+    let at-wide2 = at-zeros .before .before in
+    let at-wide = at-wide2 .before .before in
+    let at-round-up = at-wide .before .before .before .before .before .before in
+    let start = at-round-up .before .before .before .before .before .before in
+    let args = start .args in
+    rw (at-round-up .round-up .ensures) (ready (args .buffer .now) _ (args .n) (args .sheet .now) (args .size)
+    (ofPatterns (args .sheet .now) (args .code) (args .row .now)) _ _ _ (start .pre) (at-zeros .zeros .ensures)
+    (rw (at-wide .wide .ensures .0) (start .pre .plain .string-end)) (rw (at-wide2 .wide2 .ensures .0) (start .pre .plain .line-end))))
+    (λ c.
+    let at-zeros = c .before .before .before .before .before .before .before .before .before .before in
+    let at-file-block = at-zeros .before .before .before .before .before .before .before .before .before .before .before in
+    let start = at-file-block .before .before .before .before .before in
+    let g = start .pre .plain in
+    omega (arith, g .few, block-count _ _ (at-file-block .file-block .ensures)))
+    (λ c κs.
+    let at-lend-bits = c .before .before .before .before in
+    let at-zeros = at-lend-bits .before .before .before .before .before .before in
+    let at-round-up = at-zeros .before .before .before .before .before .before .before .before .before .before in
+    let at-file-block = at-round-up .before in
+    let start = at-file-block .before .before .before .before .before in
+    let g = start .pre .plain in
+    let k = block-count _ _ (at-file-block .file-block .ensures) in
+    rw (at-lend-bits .lend-bits .ensures, length-put, at-zeros .zeros .ensures, length-put) (
+      omega (arith, g .slot, block-count _ _ (at-file-block .file-block .ensures)),
+      omega
+          (arith, g .few, block-count _ _ (at-file-block .file-block .ensures)),
+      omega (arith, g .most, at-round-up .round-up .ensures),
+    ))
     (λ c. search needs)
-    (λ c. rw (c .before .before .register .ensures, c .before .before .before .before .before .before .before .lend-bits .ensures, c .before .before .before .before .before .before .before .before .before .before .before .before .before .zeros .ensures, c .before .before .before .before .before .before .before .before .before .before .before .before .before .before .before .before .before .before .before .before .before .before .before .round-up .ensures) (grown-put (c .before .before .before .before .before .before .before .before .before .before .before .before .before .before .before .before .before .before .before .before .before .before .before .before .before .before .before .before .before .args .buffer .now) (c .before .before .before .before .before .before .before .before .before .before .before .before .before .before .before .before .before .before .before .before .before .before .before .before .before .before .before .before .before .args .length) (ofPatterns (c .before .before .before .before .before .before .before .before .before .before .before .before .before .before .before .before .before .before .before .before .before .before .before .before .before .before .before .before .before .args .sheet .now) (c .before .before .before .before .before .before .before .before .before .before .before .before .before .before .before .before .before .before .before .before .before .before .before .before .before .before .before .before .before .args .code) (c .before .before .before .before .before .before .before .before .before .before .before .before .before .before .before .before .before .before .before .before .before .before .before .before .before .before .before .before .before .args .row .now)) _ _ _ _ (block-high _ _ (c .before .before .before .before .before .before .before .before .before .before .before .before .before .before .before .before .before .before .before .before .before .before .before .before .file-block .ensures)) (rw (c .before .before .before .before .before .before .before .before .before .before .before .before .before .before .before .before .before .wide .ensures .0) (c .before .before .before .before .before .before .before .before .before .before .before .before .before .before .before .before .before .before .before .before .before .before .before .before .before .before .before .before .before .pre .plain .string-end)) (rw (c .before .before .before .before .before .before .before .before .before .before .before .before .before .before .before .wide2 .ensures .0) (c .before .before .before .before .before .before .before .before .before .before .before .before .before .before .before .before .before .before .before .before .before .before .before .before .before .before .before .before .before .pre .plain .line-end)) (block-count _ _ (c .before .before .before .before .before .before .before .before .before .before .before .before .before .before .before .before .before .before .before .before .before .before .before .before .file-block .ensures)))))
+    (λ c.
+    let at-register = c .before .before in
+    let at-lend-bits = at-register .before .before .before .before .before in
+    let at-zeros = at-lend-bits .before .before .before .before .before .before in
+    let at-wide2 = at-zeros .before .before in
+    let at-wide = at-wide2 .before .before in
+    let at-round-up = at-wide .before .before .before .before .before .before in
+    let at-file-block = at-round-up .before in
+    let start = at-file-block .before .before .before .before .before in
+    let args = start .args in
+    rw (at-register .register .ensures, at-lend-bits .lend-bits .ensures, at-zeros .zeros .ensures, at-round-up .round-up .ensures)
+    (grown-put (args .buffer .now) (args .n) (ofPatterns (args .sheet .now) (args .code) (args .row .now)) _ _ _ _
+    (block-high _ _ (at-file-block .file-block .ensures)) (rw (at-wide .wide .ensures .0) (start .pre .plain .string-end))
+    (rw (at-wide2 .wide2 .ensures .0) (start .pre .plain .line-end)) (block-count _ _ (at-file-block .file-block .ensures)))))

@@ -1,8 +1,9 @@
 -- `decimal::front` meets its contract. Assumes nothing.
-use mathlib.Core.Path.{sym}
+use mathlib.Core.Path.{refl, sym, _∙_}
 use native.Mathlib.Omega.{arith}
 use borrow.Author.Needs.{needs}
 use lib.Seq.{length-take-le, take-all}
+use Rattle.word.specs.Part.{part-front}
 use Rattle.decimal.proofs.front.Statement.{statement}
 use Rattle.decimal.proofs.front.Tie as tie
 
@@ -11,5 +12,10 @@ front-spec =
     tie.close
     (tie.spec
     (λ c. sym (length-take-le _ _ (omega arith)))
-    (λ c. search needs)
-    (λ c. sym (take-all (c .before .args .n) (c .before .args .s .now) (omega arith))))
+    (λ c.
+    let a = c .before .before .args in
+    (refl, record { bytes = sym (part-front (a .n) (a .s .now)); block = refl; place = omega arith }))
+    (λ c.
+    let a = c .before .args in
+    let e = sym (take-all (a .n) (a .s .now) (omega arith)) in
+    (e, record { bytes = e ∙ sym (part-front (a .n) (a .s .now)); block = refl; place = omega arith })))

@@ -1,6 +1,8 @@
 -- `decimal::past` meets its contract. Assumes nothing.
-use mathlib.Core.Path.{sym, _∙_}
+use mathlib.Core.Path.{refl, sym, _∙_}
+use native.Mathlib.Omega.{arith}
 use borrow.Author.Needs.{needs}
+use Rattle.word.specs.Part.{rest-from}
 use Rattle.decimal.specs.Number.{past-has, past-not}
 use Rattle.decimal.proofs.past.Statement.{statement}
 use Rattle.decimal.proofs.past.Tie as tie
@@ -11,5 +13,5 @@ past-spec =
     (tie.spec
     (λ c κs. search needs)
     (λ c κs. search needs)
-    (λ c. c .behind .ensures ∙ sym (past-has _ _ (sym (c .before .before .has .ensures) ∙ c .before .if1 .taken)))
-    (λ c. sym (past-not _ _ (sym (c .before .has .ensures) ∙ c .if1 .left))))
+    (λ c. (c .behind .ensures .0 ∙ sym (past-has _ _ (sym (c .before .before .has .ensures) ∙ c .before .if1 .taken)), c .behind .ensures .1))
+    (λ c. (sym (past-not _ _ (sym (c .before .has .ensures) ∙ c .if1 .left)), rest-from 0 (omega arith) refl refl (omega arith))))

@@ -14,4 +14,4 @@ is-bad-lines-spec =
     (λ c κs. search needs)
     (λ c κs. (search needs, (sym (c .before .before .is-good .ensures) ∙ not-false _ (c .before .if1 .left))))
     (λ c κs. search needs)
-    (λ c. rw ((sym (c .before .before .before .before .is-good .ensures) ∙ not-false _ (c .before .before .before .if1 .left)), c .is-apart .ensures, c .before .before .terminator .ensures, c .before .terminator2 .ensures)))
+    (λ c. rw ((sym (c .before .before .before .before .is-good .ensures) ∙ not-false _ (c .before .before .before .if1 .left)), c .is-apart .ensures, c .before .before .terminator .ensures .0, c .before .terminator2 .ensures .0)))

@@ -15,6 +15,14 @@ check-spec =
     (tie.spec
     (λ c κs. search needs)
     (λ c. c .refusing .ensures ∙ rw (c .before .if1 .taken))
-    (λ c. let l = long-enough (length (c .before .before .before .args .buffer .now)) (c .before .before .before .args .length) (c .before .if1 .left) in sym (length-take-le _ _ (l .2)))
-    (λ c κs. let l = long-enough (length (c .before .before .before .args .buffer .now)) (c .before .before .before .args .length) (c .before .if1 .left) in rw (length-take-le (c .before .before .before .args .length) (c .before .before .before .args .buffer .now) (l .2)) (l .0))
+    (λ c.
+    let start = c .before .before .before in
+    let args = start .args in
+    let l = long-enough (length (args .buffer .now)) (args .n) (c .before .if1 .left) in
+    sym (length-take-le _ _ (l .2)))
+    (λ c κs.
+    let start = c .before .before .before in
+    let args = start .args in
+    let l = long-enough (length (args .buffer .now)) (args .n) (c .before .if1 .left) in
+    rw (length-take-le (args .n) (args .buffer .now) (l .2)) (l .0))
     (λ c. c .image .ensures ∙ rw (c .before .before .if1 .left)))

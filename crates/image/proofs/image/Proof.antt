@@ -28,5 +28,5 @@ image-spec =
     let m = room-read _ _ (c .before .before .before .before .is-high .ensures) _ (c .before .before .before .word2 .ensures .0) in
     let n = count-read _ _ (c .before .before .before .before .is-high .ensures) _ (c .before .before .word22 .ensures .0) in
     let g = good-most _ _ (h .lines) in
-    (omega (arith, h .fits), omega (arith, h .count), omega (arith, g .0, length-terminator (c .before .before .before .before .before .before .before .before .before .args .f .now) 11 (omega arith) (h .lines), ap length (c .terminator2 .ensures))))
-    (λ c. c .rest .ensures ∙ rw (sym (c .before .before .before .before .before .before .before .before .head .ensures) ∙ c .before .before .before .before .before .before .enum-told .given .1, ← c .before .before .before .before .before .is-high .ensures, ← c .before .before .terminator .ensures, ← c .before .terminator2 .ensures, room-read _ _ (c .before .before .before .before .before .is-high .ensures) _ (c .before .before .before .before .word2 .ensures .0), count-read _ _ (c .before .before .before .before .before .is-high .ensures) _ (c .before .before .before .word22 .ensures .0))))
+    (omega (arith, h .fits), omega (arith, h .count), omega (arith, g .0, length-terminator (c .before .before .before .before .before .before .before .before .before .args .f .now) 11 (omega arith) (h .lines), ap length (c .terminator2 .ensures .0))))
+    (λ c. c .rest .ensures ∙ rw (sym (c .before .before .before .before .before .before .before .before .head .ensures) ∙ c .before .before .before .before .before .before .enum-told .given .1, ← c .before .before .before .before .before .is-high .ensures, ← c .before .before .terminator .ensures .0, ← c .before .terminator2 .ensures .0, room-read _ _ (c .before .before .before .before .before .is-high .ensures) _ (c .before .before .before .before .word2 .ensures .0), count-read _ _ (c .before .before .before .before .before .is-high .ensures) _ (c .before .before .before .word22 .ensures .0))))

@@ -16,6 +16,21 @@ keyword-spec =
     (λ c. search needs)
     (λ c. search needs)
     (λ c. search needs)
-    (λ c. rw (sym (handed (λ (z : ℤ). findAnswer (c .before .before .before .before .before .args .buffer .now) (c .before .before .before .before .before .args .length) z (c .before .before .before .before .before .args .key .now)) (c .before .before .before .before .before .args .part) (c .before .before .before .before .before .fits .part .sfits) (c .before .before .find .ensures)) ∙ c .enum-told .given .1))
-    (λ c. rw (sym (handed (λ (z : ℤ). findAnswer (c .before .before .before .before .before .args .buffer .now) (c .before .before .before .before .before .args .length) z (c .before .before .before .before .before .args .key .now)) (c .before .before .before .before .before .args .part) (c .before .before .before .before .before .fits .part .sfits) (c .before .before .find .ensures)) ∙ c .enum-told2 .given .1))
-    (λ c. rw (sym (handed (λ (z : ℤ). findAnswer (c .before .before .before .before .before .before .args .buffer .now) (c .before .before .before .before .before .before .args .length) z (c .before .before .before .before .before .before .args .key .now)) (c .before .before .before .before .before .before .args .part) (c .before .before .before .before .before .before .fits .part .sfits) (c .before .before .before .find .ensures)) ∙ c .before .s .given .1)))
+    (λ c.
+    let at-find = c .before .before in
+    let start = at-find .before .before .before in
+    let args = start .args in
+    rw (sym (handed (λ (z : ℤ). findAnswer (args .buffer .now) (args .n) z (args .key .now)) (args .part) (start .fits .part .sfits)
+    (at-find .find .ensures)) ∙ c .enum-told .given .1))
+    (λ c.
+    let at-find = c .before .before in
+    let start = at-find .before .before .before in
+    let args = start .args in
+    rw (sym (handed (λ (z : ℤ). findAnswer (args .buffer .now) (args .n) z (args .key .now)) (args .part) (start .fits .part .sfits)
+    (at-find .find .ensures)) ∙ c .enum-told2 .given .1))
+    (λ c.
+    let at-find = c .before .before .before in
+    let start = at-find .before .before .before in
+    let args = start .args in
+    rw (sym (handed (λ (z : ℤ). findAnswer (args .buffer .now) (args .n) z (args .key .now)) (args .part) (start .fits .part .sfits)
+    (at-find .find .ensures)) ∙ c .before .s .given .1)))

@@ -21,9 +21,33 @@ open-area-spec =
     (λ c. rw (sym (c .before .before .before .check .ensures) ∙ c .before .v .given .1))
     (λ c. search needs)
     (λ c. sym (checked _ _ (sym (c .before .before .before .check .ensures) ∙ c .before .enum-told .given .1) .size))
-    (λ c κs. let k = checked _ _ (sym (c .before .before .before .check .ensures) ∙ c .before .enum-told .given .1) in (omega (arith, k .size, k .least), k .image))
+    (λ c κs.
+    let at-check = c .before .before .before in
+    let k = checked _ _ (sym (at-check .check .ensures) ∙ c .before .enum-told .given .1) in
+    (omega (arith, k .size, k .least), k .image))
     (λ c. search needs)
     (λ c κs. search needs)
     (λ c. search needs)
-    (λ c. rw ((sym (c .before .before .before .before .before .before .before .check .ensures) ∙ c .before .before .before .before .before .enum-told .given .1), (sym (handed (λ (z : ℤ). areaAsked (take (c .before .before .before .before .before .before .before .before .before .args .length) (c .before .before .before .before .before .before .before .before .before .args .buffer .now)) z) (c .before .before .before .before .before .before .before .before .before .args .part) (c .before .before .before .before .before .before .before .before .before .fits .part .sfits) (c .before .before .before .area-of .ensures)) ∙ c .before .enum-told2 .given .1), c .no-trace .ensures))
-    (λ c. rw ((sym (c .before .before .before .before .before .before .before .check .ensures) ∙ c .before .before .before .before .before .enum-told .given .1), (sym (handed (λ (z : ℤ). areaAsked (take (c .before .before .before .before .before .before .before .before .before .args .length) (c .before .before .before .before .before .before .before .before .before .args .buffer .now)) z) (c .before .before .before .before .before .before .before .before .before .args .part) (c .before .before .before .before .before .before .before .before .before .fits .part .sfits) (c .before .before .before .area-of .ensures)) ∙ c .before .w .given .1))))
+    (λ c.
+    let at-area-of = c .before .before .before in
+    let at-enum-told = at-area-of .before .before in
+    let at-check = at-enum-told .before .before in
+    let start = at-check .before .before in
+    let args = start .args in
+    rw (
+      (sym (at-check .check .ensures) ∙ at-enum-told .enum-told .given .1),
+      (sym (handed (λ (z : ℤ). areaAsked (take (args .n) (args .buffer .now)) z) (args .part) (start .fits .part .sfits) (at-area-of .area-of .ensures))
+          ∙ c .before .enum-told2 .given .1),
+      c .no-trace .ensures,
+    ))
+    (λ c.
+    let at-area-of = c .before .before .before in
+    let at-enum-told = at-area-of .before .before in
+    let at-check = at-enum-told .before .before in
+    let start = at-check .before .before in
+    let args = start .args in
+    rw (
+      (sym (at-check .check .ensures) ∙ at-enum-told .enum-told .given .1),
+      (sym (handed (λ (z : ℤ). areaAsked (take (args .n) (args .buffer .now)) z) (args .part) (start .fits .part .sfits) (at-area-of .area-of .ensures))
+          ∙ c .before .w .given .1),
+    )))

@@ -17,9 +17,35 @@ string-spec =
     (λ c. search needs)
     (λ c. search needs)
     (λ c. let r = reached _ _ _ _ _ (sym (c .before .before .before .before .open-area .ensures) ∙ c .before .before .o2 .given .1) in sym (r .known .size))
-    (λ c κs. let r = reached _ _ _ _ _ (sym (c .before .before .before .before .open-area .ensures) ∙ c .before .before .o2 .given .1) in omega (arith, r .known .size, r .known .least))
-    (λ c κs. let r = reached _ _ _ _ _ (sym (c .before .before .before .before .before .open-area .ensures) ∙ c .before .before .before .o2 .given .1) in (omega (arith, r .known .size, r .known .least), r .good))
-    (λ c κs. let r = reached _ _ _ _ _ (sym (c .before .before .before .before .before .before .open-area .ensures) ∙ c .before .before .before .before .o2 .given .1) in (r .low, r .end))
+    (λ c κs.
+    let at-o2 = c .before .before in
+    let at-open-area = at-o2 .before .before in
+    let r = reached _ _ _ _ _ (sym (at-open-area .open-area .ensures) ∙ at-o2 .o2 .given .1) in
+    omega (arith, r .known .size, r .known .least))
+    (λ c κs.
+    let at-o2 = c .before .before .before in
+    let at-open-area = at-o2 .before .before in
+    let r = reached _ _ _ _ _ (sym (at-open-area .open-area .ensures) ∙ at-o2 .o2 .given .1) in
+    (omega (arith, r .known .size, r .known .least), r .good))
+    (λ c κs.
+    let at-o2 = c .before .before .before .before in
+    let at-open-area = at-o2 .before .before in
+    let r = reached _ _ _ _ _ (sym (at-open-area .open-area .ensures) ∙ at-o2 .o2 .given .1) in
+    (r .low, r .end))
     (λ c κs. search needs)
-    (λ c. nth-bad _ _ _ _ _ (sym (handed (λ (z : ℤ). openedOf (c .before .before .before .before .before .args .buffer .now) (c .before .before .before .before .before .args .length) z) (c .before .before .before .before .before .args .part) (c .before .before .before .before .before .fits .part .sfits) (c .before .before .before .open-area .ensures)) ∙ c .before .o .given .1))
-    (λ c. nth-told _ _ _ _ _ _ _ (sym (handed (λ (z : ℤ). openedOf (c .before .before .before .before .before .before .before .before .before .before .args .buffer .now) (c .before .before .before .before .before .before .before .before .before .before .args .length) z) (c .before .before .before .before .before .before .before .before .before .before .args .part) (c .before .before .before .before .before .before .before .before .before .before .fits .part .sfits) (c .before .before .before .before .before .before .before .before .open-area .ensures)) ∙ c .before .before .before .before .before .before .o2 .given .1) (c .before .before .before .is-high .ensures) (c .before .before .terminator .ensures) _ _ _ (c .before .nth .ensures) (c .there .ensures)))
+    (λ c.
+    let at-open-area = c .before .before .before in
+    let start = at-open-area .before .before in
+    let args = start .args in
+    nth-bad _ _ _ _ _ (sym (handed (λ (z : ℤ). openedOf (args .buffer .now) (args .n) z) (args .part) (start .fits .part .sfits)
+    (at-open-area .open-area .ensures)) ∙ c .before .o .given .1))
+    (λ c.
+    let at-terminator = c .before .before in
+    let at-is-high = at-terminator .before in
+    let at-o2 = at-is-high .before .before .before in
+    let at-open-area = at-o2 .before .before in
+    let start = at-open-area .before .before in
+    let args = start .args in
+    nth-told _ _ _ _ _ _ _
+    (sym (handed (λ (z : ℤ). openedOf (args .buffer .now) (args .n) z) (args .part) (start .fits .part .sfits) (at-open-area .open-area .ensures))
+    ∙ at-o2 .o2 .given .1) (at-is-high .is-high .ensures) (at-terminator .terminator .ensures .0) _ _ _ (c .before .nth .ensures) (c .there .ensures)))

@@ -23,12 +23,58 @@ trace-block-spec =
     (λ c. sym (checked _ _ (sym (c .before .before .before .check .ensures) ∙ c .before .enum-told .given .1) .size))
     (λ c κs. let k = checked _ _ (sym (c .before .before .before .check .ensures) ∙ c .before .enum-told .given .1) in omega (arith, k .size, k .least))
     (λ c. search needs)
-    (λ c κs. let k = checked _ _ (sym (c .before .before .before .before .before .before .before .check .ensures) ∙ c .before .before .before .before .before .enum-told .given .1) in omega (arith, k .size, k .least))
-    (λ c κs. let k = checked _ _ (sym (c .before .before .before .before .before .before .before .before .check .ensures) ∙ c .before .before .before .before .before .before .enum-told .given .1) in let l = (whose-trace _ _ _ (sym (c .before .before .before .before .whose-in .ensures) ∙ c .before .before .w .given .1) .1) in (pointer-slot _ (k .image) _ l, rw (c .is-high .ensures) (trace-pointed _ (k .image) _ l .fits)))
+    (λ c κs.
+    let at-enum-told = c .before .before .before .before .before in
+    let at-check = at-enum-told .before .before in
+    let k = checked _ _ (sym (at-check .check .ensures) ∙ at-enum-told .enum-told .given .1) in
+    omega (arith, k .size, k .least))
+    (λ c κs.
+    let at-w = c .before .before in
+    let at-whose-in = at-w .before .before in
+    let at-enum-told = at-whose-in .before .before in
+    let at-check = at-enum-told .before .before in
+    let k = checked _ _ (sym (at-check .check .ensures) ∙ at-enum-told .enum-told .given .1) in
+    let l = (whose-trace _ _ _ (sym (at-whose-in .whose-in .ensures) ∙ at-w .w .given .1) .1) in
+    (pointer-slot _ (k .image) _ l, rw (c .is-high .ensures) (trace-pointed _ (k .image) _ l .fits)))
     (λ c. search needs)
     (λ c κs. search needs)
     (λ c. search needs)
     (λ c κs. search needs)
-    (λ c. rw ((sym (c .before .before .before .before .before .before .before .before .before .check .ensures) ∙ c .before .before .before .before .before .before .before .enum-told .given .1), (sym (handed (λ (z : ℤ). whoseOf z (countOf (take (c .before .before .before .before .before .before .before .before .before .before .before .args .length) (c .before .before .before .before .before .before .before .before .before .before .before .args .buffer .now)))) (c .before .before .before .before .before .before .before .before .before .before .before .args .trace) (c .before .before .before .before .before .before .before .before .before .before .before .fits .trace .sfits) (c .before .before .before .before .before .whose-in .ensures)) ∙ c .before .before .before .w .given .1), c .trace-block .ensures, c .before .is-high .ensures))
-    (λ c. rw ((sym (c .before .before .before .before .before .before .before .check .ensures) ∙ c .before .before .before .before .before .enum-told .given .1), (sym (handed (λ (z : ℤ). whoseOf z (countOf (take (c .before .before .before .before .before .before .before .before .before .args .length) (c .before .before .before .before .before .before .before .before .before .args .buffer .now)))) (c .before .before .before .before .before .before .before .before .before .args .trace) (c .before .before .before .before .before .before .before .before .before .fits .trace .sfits) (c .before .before .before .whose-in .ensures)) ∙ c .before .enum-told2 .given .1), c .no-trace .ensures))
-    (λ c. rw ((sym (c .before .before .before .before .before .before .before .check .ensures) ∙ c .before .before .before .before .before .enum-told .given .1), (sym (handed (λ (z : ℤ). whoseOf z (countOf (take (c .before .before .before .before .before .before .before .before .before .args .length) (c .before .before .before .before .before .before .before .before .before .args .buffer .now)))) (c .before .before .before .before .before .before .before .before .before .args .trace) (c .before .before .before .before .before .before .before .before .before .fits .trace .sfits) (c .before .before .before .whose-in .ensures)) ∙ c .before .enum-told3 .given .1), c .no-trace2 .ensures)))
+    (λ c.
+    let at-w = c .before .before .before in
+    let at-whose-in = at-w .before .before in
+    let at-enum-told = at-whose-in .before .before in
+    let at-check = at-enum-told .before .before in
+    let start = at-check .before .before in
+    let args = start .args in
+    rw (
+      (sym (at-check .check .ensures) ∙ at-enum-told .enum-told .given .1),
+      (sym (handed (λ (z : ℤ). whoseOf z (countOf (take (args .n) (args .buffer .now)))) (args .trace) (start .fits .trace .sfits)
+          (at-whose-in .whose-in .ensures)) ∙ at-w .w .given .1),
+      c .trace-block .ensures,
+      c .before .is-high .ensures,
+    ))
+    (λ c.
+    let at-whose-in = c .before .before .before in
+    let at-enum-told = at-whose-in .before .before in
+    let at-check = at-enum-told .before .before in
+    let start = at-check .before .before in
+    let args = start .args in
+    rw (
+      (sym (at-check .check .ensures) ∙ at-enum-told .enum-told .given .1),
+      (sym (handed (λ (z : ℤ). whoseOf z (countOf (take (args .n) (args .buffer .now)))) (args .trace) (start .fits .trace .sfits)
+          (at-whose-in .whose-in .ensures)) ∙ c .before .enum-told2 .given .1),
+      c .no-trace .ensures,
+    ))
+    (λ c.
+    let at-whose-in = c .before .before .before in
+    let at-enum-told = at-whose-in .before .before in
+    let at-check = at-enum-told .before .before in
+    let start = at-check .before .before in
+    let args = start .args in
+    rw (
+      (sym (at-check .check .ensures) ∙ at-enum-told .enum-told .given .1),
+      (sym (handed (λ (z : ℤ). whoseOf z (countOf (take (args .n) (args .buffer .now)))) (args .trace) (start .fits .trace .sfits)
+          (at-whose-in .whose-in .ensures)) ∙ c .before .enum-told3 .given .1),
+      c .no-trace2 .ensures,
+    )))

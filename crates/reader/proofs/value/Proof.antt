@@ -2,7 +2,7 @@
 use mathlib.Core.Path.{_∙_}
 use lib.IntN.{ℤ}
 use borrow.Author.Needs.{needs}
-use Rattle.reader.specs.Reach.{find-lent, value-told}
+use Rattle.reader.specs.Reach.{find-lent, value-told, span-told}
 use Rattle.reader.specs.Questions.{findAnswer}
 use Rattle.word.specs.Signed.{handed}
 use Rattle.reader.proofs.value.Statement.{statement}
@@ -14,4 +14,9 @@ value-spec =
     (tie.spec
     (λ c κs. search needs)
     (λ c κs. rw (c .find .ensures) (find-lent _ _ _ _))
-    (λ c. c .value-at .ensures ∙ value-told _ _ _ _ _ (handed (λ (z : ℤ). findAnswer (c .before .before .before .before .args .buffer .now) (c .before .before .before .before .args .length) z (c .before .before .before .before .args .key .now)) (c .before .before .before .before .args .part) (c .before .before .before .before .fits .part .sfits) (c .before .find .ensures))))
+    (λ c.
+    let s = c .before .before .before .before in
+    let a = s .args in
+    let f = c .before .find .ensures in
+    let e = handed (λ (z : ℤ). findAnswer (a .buffer .now) (a .n) z (a .key .now)) (a .part) (s .fits .part .sfits) f in
+    (c .value-at .ensures .0 ∙ value-told _ _ _ _ _ e, span-told _ _ _ _ _ e (c .value-at .ensures .1))))

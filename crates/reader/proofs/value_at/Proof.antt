@@ -1,5 +1,8 @@
 -- `reader::value_at` meets its contract. What was found lies in the buffer. Assumes nothing.
+use mathlib.Core.Path.{refl}
+use native.Mathlib.Omega.{arith}
 use borrow.Author.Needs.{needs}
+use Rattle.word.specs.Part.{part-none}
 use Rattle.reader.specs.Reach.{held}
 use Rattle.reader.proofs.value_at.Statement.{statement}
 use Rattle.reader.proofs.value_at.Tie as tie
@@ -16,6 +19,12 @@ value-at-spec =
     (λ c. search needs)
     (λ c. search needs)
     (λ c. search needs)
-    (λ c. rw (c .before .before .s .given .1))
     (λ c. search needs)
-    (λ c. search needs))
+    (λ c. search needs)
+    (λ c. search needs)
+    (λ c. search needs)
+    (λ c. rw (c .before .before .s .given .1) (search needs))
+    (λ c. rw (c .before .enum-told .given .1)
+    (search (needs, part-none), record { bytes = search (needs, part-none); block = refl; place = omega arith }))
+    (λ c. rw (c .before .enum-told2 .given .1)
+    (search (needs, part-none), record { bytes = search (needs, part-none); block = refl; place = omega arith })))

@@ -17,9 +17,41 @@ bits-spec =
     (λ c κs. search needs)
     (λ c. search needs)
     (λ c. search needs)
-    (λ c. let h = told _ _ _ _ (sym (handed (λ (z : ℤ). traceAnswer (c .before .before .before .before .before .before .before .before .args .buffer .now) (c .before .before .before .before .before .before .before .before .args .length) z) (c .before .before .before .before .before .before .before .before .args .trace) (c .before .before .before .before .before .before .before .before .fits .trace .sfits) (c .before .before .before .before .trace-block .ensures)) ∙ c .before .before .a2 .given .1) in sym (h .known .size))
-    (λ c κs. let h = told _ _ _ _ (sym (handed (λ (z : ℤ). traceAnswer (c .before .before .before .before .before .before .before .before .before .before .args .buffer .now) (c .before .before .before .before .before .before .before .before .before .before .args .length) z) (c .before .before .before .before .before .before .before .before .before .before .args .trace) (c .before .before .before .before .before .before .before .before .before .before .fits .trace .sfits) (c .before .before .before .before .before .before .trace-block .ensures)) ∙ c .before .before .before .before .a2 .given .1) in (omega (arith, h .known .size, h .known .least), told-fits _ _ _ _ h))
-    (λ c. bits-bad _ _ _ _ (sym (handed (λ (z : ℤ). traceAnswer (c .before .before .before .before .before .before .before .args .buffer .now) (c .before .before .before .before .before .before .before .args .length) z) (c .before .before .before .before .before .before .before .args .trace) (c .before .before .before .before .before .before .before .fits .trace .sfits) (c .before .before .before .trace-block .ensures)) ∙ c .before .a .given .1) _ _)
+    (λ c.
+    let at-a2 = c .before .before in
+    let at-trace-block = at-a2 .before .before in
+    let start = at-trace-block .before .before .before .before in
+    let args = start .args in
+    let h = told _ _ _ _ (sym (handed (λ (z : ℤ). traceAnswer (args .buffer .now) (args .n) z) (args .trace) (start .fits .trace .sfits)
+    (at-trace-block .trace-block .ensures)) ∙ at-a2 .a2 .given .1) in
+    sym (h .known .size))
+    (λ c κs.
+    let at-a2 = c .before .before .before .before in
+    let at-trace-block = at-a2 .before .before in
+    let start = at-trace-block .before .before .before .before in
+    let args = start .args in
+    let h = told _ _ _ _ (sym (handed (λ (z : ℤ). traceAnswer (args .buffer .now) (args .n) z) (args .trace) (start .fits .trace .sfits)
+    (at-trace-block .trace-block .ensures)) ∙ at-a2 .a2 .given .1) in
+    (omega (arith, h .known .size, h .known .least), told-fits _ _ _ _ h))
+    (λ c.
+    let at-trace-block = c .before .before .before in
+    let start = at-trace-block .before .before .before .before in
+    let args = start .args in
+    bits-bad _ _ _ _ (sym (handed (λ (z : ℤ). traceAnswer (args .buffer .now) (args .n) z) (args .trace) (start .fits .trace .sfits)
+    (at-trace-block .trace-block .ensures)) ∙ c .before .a .given .1) _ _)
     (λ c. search needs)
     (λ c. search needs)
-    (λ c. let h = told _ _ _ _ (sym (handed (λ (z : ℤ). traceAnswer (c .before .before .before .before .before .before .before .before .before .before .before .before .before .before .before .args .buffer .now) (c .before .before .before .before .before .before .before .before .before .before .before .before .before .before .before .args .length) z) (c .before .before .before .before .before .before .before .before .before .before .before .before .before .before .before .args .trace) (c .before .before .before .before .before .before .before .before .before .before .before .before .before .before .before .fits .trace .sfits) (c .before .before .before .before .before .before .before .before .before .before .before .trace-block .ensures)) ∙ c .before .before .before .before .before .before .before .before .before .a2 .given .1) in (c .before .before .before .before .bits-of .ensures .0 ∙ bits-answer _ _ _ _ h _ _, (c .before .before .before .before .bits-of .ensures .1 .0 ∙ patterns-left _ _ _ _ h _ _, c .before .before .before .before .bits-of .ensures .1 .1 ∙ classes-left _ _ _ _ h _ _))))
+    (λ c.
+    let at-bits-of = c .before .before .before .before in
+    let at-a2 = at-bits-of .before .before .before .before .before in
+    let at-trace-block = at-a2 .before .before in
+    let start = at-trace-block .before .before .before .before in
+    let args = start .args in
+    let h = told _ _ _ _ (sym (handed (λ (z : ℤ). traceAnswer (args .buffer .now) (args .n) z) (args .trace) (start .fits .trace .sfits)
+    (at-trace-block .trace-block .ensures)) ∙ at-a2 .a2 .given .1) in (
+      at-bits-of .bits-of .ensures .0 ∙ bits-answer _ _ _ _ h _ _,
+      (
+        at-bits-of .bits-of .ensures .1 .0 ∙ patterns-left _ _ _ _ h _ _,
+        at-bits-of .bits-of .ensures .1 .1 ∙ classes-left _ _ _ _ h _ _,
+      ),
+    )))

@@ -15,6 +15,11 @@ add-bits-spec =
     (λ c. search needs)
     (λ c κs. sym (c .before .before .before .before .opened .ensures) ∙ c .before .before .o2 .given .1)
     (λ c. search needs)
-    (λ c. add-shut (c .before .before .before .before .before .before .before .before .args .buffer .now) (c .before .before .before .before .before .before .before .before .args .length) (ofPatterns (c .before .before .before .before .before .before .before .before .args .sheet .now) (c .before .before .before .before .before .before .before .before .args .code) (c .before .before .before .before .before .before .before .before .args .row .now)) _ (sym (c .before .before .before .opened .ensures) ∙ c .before .o .given .1))
+    (λ c.
+    let at-opened = c .before .before .before in
+    let start = at-opened .before .before .before .before .before in
+    let args = start .args in
+    add-shut (args .buffer .now) (args .n) (ofPatterns (args .sheet .now) (args .code) (args .row .now)) _
+    (sym (at-opened .opened .ensures) ∙ c .before .o .given .1))
     (λ c. search needs)
     (λ c. search needs))

@@ -20,15 +20,62 @@ integers-behind-spec =
     (tie.spec
     (λ c κs. search needs)
     (λ c. search needs)
-    (λ c. add-unfit (c .before .before .before .before .before .before .args .buffer .now) (c .before .before .before .before .before .before .args .length) (ofIntegers (c .before .before .before .before .before .before .args .sheet .now) (c .before .before .before .before .before .before .args .code) (c .before .before .before .before .before .before .args .row .now)) (c .before .before .before .before .before .before .args .size) (c .before .before .before .before .before .before .pre) _ (sym (c .before .before .before .integers-fit .ensures) ∙ c .before .v .given .1))
+    (λ c.
+    let at-integers-fit = c .before .before .before in
+    let start = at-integers-fit .before .before .before in
+    let args = start .args in
+    add-unfit (args .buffer .now) (args .n) (ofIntegers (args .sheet .now) (args .code) (args .row .now)) (args .size) (start .pre) _
+    (sym (at-integers-fit .integers-fit .ensures) ∙ c .before .v .given .1))
     (λ c. search needs)
     (λ c κs. search needs)
-    (λ c. let a = add-long (c .before .before .before .before .before .before .before .args .buffer .now) (c .before .before .before .before .before .before .before .args .length) (ofIntegers (c .before .before .before .before .before .before .before .args .sheet .now) (c .before .before .before .before .before .before .before .args .code) (c .before .before .before .before .before .before .before .args .row .now)) (c .before .before .before .before .before .before .before .args .size) (c .before .before .before .before .before .before .before .pre) (sym (c .before .before .before .before .integers-fit .ensures) ∙ c .before .before .enum-told .given .1) (c .before .if1 .taken) in (c .refusing .ensures ∙ a .0, a .1))
-    (λ c. let k = kinded _ _ (samples-fit _ _ (sym (c .before .before .before .integers-fit .ensures) ∙ c .before .enum-told .given .1) .0) in omega (arith, k .most))
+    (λ c.
+    let at-enum-told = c .before .before in
+    let at-integers-fit = at-enum-told .before .before in
+    let start = at-integers-fit .before .before .before in
+    let args = start .args in
+    let a = add-long (args .buffer .now) (args .n) (ofIntegers (args .sheet .now) (args .code) (args .row .now)) (args .size) (start .pre)
+    (sym (at-integers-fit .integers-fit .ensures) ∙ at-enum-told .enum-told .given .1) (c .before .if1 .taken) in
+    (c .refusing .ensures ∙ a .0, a .1))
+    (λ c.
+    let at-integers-fit = c .before .before .before in
+    let k = kinded _ _ (samples-fit _ _ (sym (at-integers-fit .integers-fit .ensures) ∙ c .before .enum-told .given .1) .0) in
+    omega (arith, k .most))
     (λ c. search needs)
     (λ c κs. let o = opened _ _ _ _ (c .before .before .before .before .before .before .pre) in (o .most, measured-size _ _ _ _ (o .measured) .2))
     (λ c κs. search needs)
-    (λ c. let a = add-full (c .before .before .before .before .before .before .before .before .before .args .buffer .now) (c .before .before .before .before .before .before .before .before .before .args .length) (ofIntegers (c .before .before .before .before .before .before .before .before .before .args .sheet .now) (c .before .before .before .before .before .before .before .before .before .args .code) (c .before .before .before .before .before .before .before .before .before .args .row .now)) (c .before .before .before .before .before .before .before .before .before .args .size) (c .before .before .before .before .before .before .before .before .before .pre) (sym (c .before .before .before .before .before .before .integers-fit .ensures) ∙ c .before .before .before .before .enum-told .given .1) _ (c .before .before .end-of .ensures ∙ new-end (c .before .before .before .before .before .before .before .before .before .args .buffer .now) (c .before .before .before .before .before .before .before .before .before .args .length) (ofIntegers (c .before .before .before .before .before .before .before .before .before .args .sheet .now) (c .before .before .before .before .before .before .before .before .before .args .code) (c .before .before .before .before .before .before .before .before .before .args .row .now)) (c .before .before .before .before .before .before .before .before .before .args .size) (c .before .before .before .before .before .before .before .before .before .pre)) (c .before .if2 .taken) in (c .refusing2 .ensures ∙ a .0, a .1))
-    (λ c κs. let k = neither _ _ (c .before .if2 .left) in growing (c .before .before .before .before .before .before .before .before .before .args .buffer .now) (c .before .before .before .before .before .before .before .before .before .args .length) (c .before .before .before .before .before .before .before .before .before .args .size) (ofIntegers (c .before .before .before .before .before .before .before .before .before .args .sheet .now) (c .before .before .before .before .before .before .before .before .before .args .code) (c .before .before .before .before .before .before .before .before .before .args .row .now)) _ (each-bytes (c .before .before .before .before .before .before .before .before .before .args .buffer .now) (λ i. c .before .before .before .before .before .before .before .before .slice-known .given i .fits)) (c .before .before .before .before .before .before .before .before .before .pre) (sym (c .before .before .before .before .before .before .integers-fit .ensures) ∙ c .before .before .before .before .enum-told .given .1) (c .before .before .before .if1 .left) (c .before .before .end-of .ensures) (ltb-false _ _ (k .0)))
+    (λ c.
+    let at-end-of = c .before .before in
+    let at-enum-told = at-end-of .before .before in
+    let at-integers-fit = at-enum-told .before .before in
+    let start = at-integers-fit .before .before .before in
+    let args = start .args in
+    let a = add-full (args .buffer .now) (args .n) (ofIntegers (args .sheet .now) (args .code) (args .row .now)) (args .size) (start .pre)
+    (sym (at-integers-fit .integers-fit .ensures) ∙ at-enum-told .enum-told .given .1) _ (at-end-of .end-of .ensures ∙ new-end (args .buffer .now) (args .n)
+    (ofIntegers (args .sheet .now) (args .code) (args .row .now)) (args .size) (start .pre)) (c .before .if2 .taken) in
+    (c .refusing2 .ensures ∙ a .0, a .1))
+    (λ c κs.
+    let at-end-of = c .before .before in
+    let at-if1 = at-end-of .before in
+    let at-enum-told = at-if1 .before in
+    let at-integers-fit = at-enum-told .before .before in
+    let at-slice-known = at-integers-fit .before .before in
+    let start = at-slice-known .before in
+    let args = start .args in
+    let k = neither _ _ (c .before .if2 .left) in
+    growing (args .buffer .now) (args .n) (args .size) (ofIntegers (args .sheet .now) (args .code) (args .row .now)) _
+    (each-bytes (args .buffer .now) (λ i. at-slice-known .slice-known .given i .fits)) (start .pre)
+    (sym (at-integers-fit .integers-fit .ensures) ∙ at-enum-told .enum-told .given .1) (at-if1 .if1 .left) (at-end-of .end-of .ensures)
+    (ltb-false _ _ (k .0)))
     (λ c. search needs)
-    (λ c. let a = add-fits (c .before .before .before .before .before .before .before .before .before .before .before .before .args .buffer .now) (c .before .before .before .before .before .before .before .before .before .before .before .before .args .length) (ofIntegers (c .before .before .before .before .before .before .before .before .before .before .before .before .args .sheet .now) (c .before .before .before .before .before .before .before .before .before .before .before .before .args .code) (c .before .before .before .before .before .before .before .before .before .before .before .before .args .row .now)) (c .before .before .before .before .before .before .before .before .before .before .before .before .args .size) (c .before .before .before .before .before .before .before .before .before .before .before .before .pre) (sym (c .before .before .before .before .before .before .before .before .before .integers-fit .ensures) ∙ c .before .before .before .before .before .before .before .enum-told .given .1) _ (c .before .before .before .before .before .end-of .ensures ∙ new-end (c .before .before .before .before .before .before .before .before .before .before .before .before .args .buffer .now) (c .before .before .before .before .before .before .before .before .before .before .before .before .args .length) (ofIntegers (c .before .before .before .before .before .before .before .before .before .before .before .before .args .sheet .now) (c .before .before .before .before .before .before .before .before .before .before .before .before .args .code) (c .before .before .before .before .before .before .before .before .before .before .before .before .args .row .now)) (c .before .before .before .before .before .before .before .before .before .before .before .before .args .size) (c .before .before .before .before .before .before .before .before .before .before .before .before .pre)) (c .before .before .before .before .if2 .left) in (a .0, c .before .before .grow-integers .ensures ∙ a .1)))
+    (λ c.
+    let at-grow-integers = c .before .before in
+    let at-if2 = at-grow-integers .before .before in
+    let at-end-of = at-if2 .before in
+    let at-enum-told = at-end-of .before .before in
+    let at-integers-fit = at-enum-told .before .before in
+    let start = at-integers-fit .before .before .before in
+    let args = start .args in
+    let a = add-fits (args .buffer .now) (args .n) (ofIntegers (args .sheet .now) (args .code) (args .row .now)) (args .size) (start .pre)
+    (sym (at-integers-fit .integers-fit .ensures) ∙ at-enum-told .enum-told .given .1) _ (at-end-of .end-of .ensures ∙ new-end (args .buffer .now) (args .n)
+    (ofIntegers (args .sheet .now) (args .code) (args .row .now)) (args .size) (start .pre)) (at-if2 .if2 .left) in
+    (a .0, at-grow-integers .grow-integers .ensures ∙ a .1)))

@@ -17,10 +17,47 @@ opened-spec =
     (λ c. search needs)
     (λ c. sym (length-take-le _ _ (accepted _ _ (sym (c .before .before .before .check .ensures) ∙ c .before .enum-told .given .1) .within)))
     (λ c κs. let a = accepted _ _ (sym (c .before .before .before .check .ensures) ∙ c .before .enum-told .given .1) in omega (arith, a .size, a .low))
-    (λ c. omega (arith, few-slots (c .before .before .before .before .before .before .before .before .args .buffer .now) (c .before .before .before .before .before .before .before .before .args .length) (c .before .before .before .before .before .before .before .before .args .sheet .now) (sym (c .before .before .before .before .before .check .ensures) ∙ c .before .before .before .enum-told .given .1) _ (c .before .file-block .ensures)))
-    (λ c. omega (arith, few-slots (c .before .before .before .before .before .before .before .before .args .buffer .now) (c .before .before .before .before .before .before .before .before .args .length) (c .before .before .before .before .before .before .before .before .args .sheet .now) (sym (c .before .before .before .before .before .check .ensures) ∙ c .before .before .before .enum-told .given .1) _ (c .before .file-block .ensures)))
-    (λ c. opened-full _ _ _ (sym (c .before .before .before .before .before .before .before .check .ensures) ∙ c .before .before .before .before .before .enum-told .given .1) _ (c .before .before .before .file-block .ensures) (c .if1 .taken))
-    (λ c κs. let a = accepted _ _ (sym (c .before .before .before .before .before .before .before .check .ensures) ∙ c .before .before .before .before .before .enum-told .given .1) in (omega (arith, a .size, a .low), a .strings))
-    (λ c κs. let a = accepted _ _ (sym (c .before .before .before .before .before .before .before .before .check .ensures) ∙ c .before .before .before .before .before .before .enum-told .given .1) in (omega (arith, a .size, a .low), a .lines))
+    (λ c.
+    let at-enum-told = c .before .before .before in
+    let at-check = at-enum-told .before .before in
+    let start = at-check .before .before .before in
+    let args = start .args in
+    omega (
+      arith,
+      few-slots (args .buffer .now) (args .n) (args .sheet .now) (sym (at-check .check .ensures) ∙ at-enum-told .enum-told .given .1) _
+          (c .before .file-block .ensures),
+    ))
+    (λ c.
+    let at-enum-told = c .before .before .before in
+    let at-check = at-enum-told .before .before in
+    let start = at-check .before .before .before in
+    let args = start .args in
+    omega (
+      arith,
+      few-slots (args .buffer .now) (args .n) (args .sheet .now) (sym (at-check .check .ensures) ∙ at-enum-told .enum-told .given .1) _
+          (c .before .file-block .ensures),
+    ))
+    (λ c.
+    let at-file-block = c .before .before .before in
+    let at-enum-told = at-file-block .before .before in
+    let at-check = at-enum-told .before .before in
+    opened-full _ _ _ (sym (at-check .check .ensures) ∙ at-enum-told .enum-told .given .1) _ (at-file-block .file-block .ensures) (c .if1 .taken))
+    (λ c κs.
+    let at-enum-told = c .before .before .before .before .before in
+    let at-check = at-enum-told .before .before in
+    let a = accepted _ _ (sym (at-check .check .ensures) ∙ at-enum-told .enum-told .given .1) in
+    (omega (arith, a .size, a .low), a .strings))
+    (λ c κs.
+    let at-enum-told = c .before .before .before .before .before .before in
+    let at-check = at-enum-told .before .before in
+    let a = accepted _ _ (sym (at-check .check .ensures) ∙ at-enum-told .enum-told .given .1) in
+    (omega (arith, a .size, a .low), a .lines))
     (λ c κs. search needs)
-    (λ c. c .measure .ensures ∙ rw (c .before .before .terminator .ensures, c .before .terminator2 .ensures) (opened-free _ _ _ (sym (c .before .before .before .before .before .before .before .before .before .before .check .ensures) ∙ c .before .before .before .before .before .before .before .before .enum-told .given .1) _ (c .before .before .before .before .before .before .file-block .ensures) (c .before .before .before .if1 .left))))
+    (λ c.
+    let at-terminator = c .before .before in
+    let at-if1 = at-terminator .before in
+    let at-file-block = at-if1 .before .before .before in
+    let at-enum-told = at-file-block .before .before in
+    let at-check = at-enum-told .before .before in
+    c .measure .ensures ∙ rw (at-terminator .terminator .ensures .0, c .before .terminator2 .ensures .0)
+    (opened-free _ _ _ (sym (at-check .check .ensures) ∙ at-enum-told .enum-told .given .1) _ (at-file-block .file-block .ensures) (at-if1 .if1 .left))))
