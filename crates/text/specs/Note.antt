@@ -4,7 +4,8 @@ use mathlib.Core.Path.{_≡_, refl, sym, ap, _∙_}
 use mathlib.Core.Bool.{Bool, true, false, not, _&&_}
 use mathlib.Core.List.{List, [], _∷_, _++_, append-assoc, append-nil}
 use Prim.Native.Nat.{ℕ, zero, suc, _+_, _-_, _≤_, _<_}
-use native.Mathlib.Nat.{le-refl}
+use native.Mathlib.Nat.{le-refl, lt-of-not-le}
+use native.Mathlib.Decide.{decLe}
 use native.Mathlib.Omega.{arith}
 use lib.ListN.{length, getD, take, drop, length-append, length-drop, take-append-drop}
 use lib.Seq.{take-all, take-append-seam, drop-append-add, drop-append-seam, drop-drop}
@@ -124,8 +125,8 @@ unfolding lines
 accept x xs v n done = refl
 accept x xs v n (char {b} {bs} h r) = rw (not-start x b xs bs n h, h) (accept x xs bs n r)
 accept x xs v n (line {bs} r) =
-    let k : suc (length xs) - 1 ≡ length xs = omega arith in
-    rw (starts-front (x ∷ xs) bs, k, lines-skip (x ∷ xs) xs bs) (accept x xs bs n r)
+    let past : (k : ℕ) → k ≡ length xs → lines (x ∷ xs) k (xs ++ bs) ≡ true = λ k e. rw (e, lines-skip (x ∷ xs) xs bs) (accept x xs bs n r) in
+    rw (starts-front (x ∷ xs) bs) (past _ (omega arith))
 
 spelled : (x : ℕ) (xs : List ℕ) (k : ℕ) (v : List ℕ) → lines (x ∷ xs) k v ≡ true → Lines (x ∷ xs) (drop k v)
 unfolding lines
@@ -193,37 +194,6 @@ line-ends u (b ∷ bs) h = go (starts u (b ∷ bs)) refl (line-ends u bs) h
     go true e i k = e
     go false e i k = i (omega arith)
 
-some-line : (m : ℕ) (u v : List ℕ) → (l : List ℕ) × (ls : List (List ℕ)) × (linesOf m u v ≡ l ∷ ls)
-unfolding linesOf
-some-line zero u v = (v, [], refl)
-some-line (suc m) u v = go (leb (length v) (lineLen u v))
-  where
-    go : (w : Bool) → (l : List ℕ) × (ls : List (List ℕ)) × (pick w (v ∷ []) (take (lineLen u v) v ∷ linesOf m u (drop (lineLen u v + length u) v)) ≡ l ∷ ls)
-    go true = (v, [], refl)
-    go false = (take (lineLen u v) v, linesOf m u (drop (lineLen u v + length u) v), refl)
-
-ends-cons : (u l : List ℕ) (ls : List (List ℕ)) (m : List ℕ) (ms : List (List ℕ)) → ls ≡ m ∷ ms → withEnds u (l ∷ ls) ≡ l ++ (u ++ withEnds u ls)
-unfolding withEnds
-ends-cons u l ls m ms e = rw e
-
--- nothing of a value is lost: its lines with the terminators between them are the value
-pub lines-back : (m : ℕ) (u v : List ℕ) → withEnds u (linesOf m u v) ≡ v
-unfolding linesOf withEnds
-lines-back zero u v = refl
-lines-back (suc m) u v = go (leb (length v) (lineLen u v)) refl (lines-back m u (drop (lineLen u v + length u) v))
-  where
-    go : (w : Bool) → leb (length v) (lineLen u v) ≡ w
-        → withEnds u (linesOf m u (drop (lineLen u v + length u) v)) ≡ drop (lineLen u v + length u) v
-        → withEnds u (pick w (v ∷ []) (take (lineLen u v) v ∷ linesOf m u (drop (lineLen u v + length u) v))) ≡ v
-    go true e i = refl
-    go false e i =
-        let s = some-line m u (drop (lineLen u v + length u) v) in
-        let n : lineLen u v < length v = leb-false (length v) (lineLen u v) e in
-        let d : drop (lineLen u v) v ≡ u ++ drop (lineLen u v + length u) v =
-        starts-split u (drop (lineLen u v) v) (line-ends u v n) ∙ ap (λ (r : List ℕ). u ++ r) (drop-drop (length u) (lineLen u v) v) in
-        ends-cons u (take (lineLen u v) v) (linesOf m u (drop (lineLen u v + length u) v)) (s .0) (s .1) (s .2)
-        ∙ rw (i, ← d) (take-append-drop (lineLen u v) v)
-
 -- what begins with u also does with more behind it
 starts-more : (u l : List ℕ) (n : ℕ) → starts u l ≡ false → starts u (take n l) ≡ false
 starts-more u l n h = go (starts u (take n l)) refl
@@ -260,17 +230,50 @@ lacking : (m : ℕ) (u v : List ℕ) → 0 < length u → length v ≤ m → Eac
 unfolding linesOf
 lacking zero u [] some h = (lacks-none u some, tt)
 lacking zero u (b ∷ v) some h = absurd (omega arith)
-lacking (suc m) u v some h = go (leb (length v) (lineLen u v)) refl (lacking m u (drop (lineLen u v + length u) v) some)
-  where
-    go : (w : Bool) → leb (length v) (lineLen u v) ≡ w
-        → (length (drop (lineLen u v + length u) v) ≤ m → Each (Lacks u) (linesOf m u (drop (lineLen u v + length u) v)))
-        → Each (Lacks u) (pick w (v ∷ []) (take (lineLen u v) v ∷ linesOf m u (drop (lineLen u v + length u) v)))
-    go true e i = (rw (take-all (lineLen u v) v (leb-true (length v) (lineLen u v) e)) at (first-lacks u v some), tt)
-    go false e i = (first-lacks u v some, i (left-less u v m some h (leb-false (length v) (lineLen u v) e)))
+lacking (suc m) u v some h =
+    let n : ℕ = lineLen u v in
+    let f = first-lacks u v some in
+    elim (decLe (length v) n) [
+      | yes q ↦ rw (le-leb (length v) n q) (rw (take-all n v q) at f, tt)
+      | no q ↦
+          let l = lt-of-not-le q in
+          rw (lt-leb (length v) n l) (f, lacking m u (drop (n + length u) v) some (left-less u v m some h l))
+    ]
 
 -- no line holds a line terminator, whatever the value
 pub no-line-holds-an-end : (u v : List ℕ) → 0 < length u → Each (Lacks u) (linesOf (length v) u v)
 no-line-holds-an-end u v some = lacking (length v) u v some (le-refl (length v))
+
+some-line : (m : ℕ) (u v : List ℕ) → (l : List ℕ) × (ls : List (List ℕ)) × (linesOf m u v ≡ l ∷ ls)
+unfolding linesOf
+some-line zero u v = (v, [], refl)
+some-line (suc m) u v = go (leb (length v) (lineLen u v))
+  where
+    go : (w : Bool) → (l : List ℕ) × (ls : List (List ℕ)) × (pick w (v ∷ []) (take (lineLen u v) v ∷ linesOf m u (drop (lineLen u v + length u) v)) ≡ l ∷ ls)
+    go true = (v, [], refl)
+    go false = (take (lineLen u v) v, linesOf m u (drop (lineLen u v + length u) v), refl)
+
+ends-cons : (u l : List ℕ) (ls : List (List ℕ)) (m : List ℕ) (ms : List (List ℕ)) → ls ≡ m ∷ ms → withEnds u (l ∷ ls) ≡ l ++ (u ++ withEnds u ls)
+unfolding withEnds
+ends-cons u l ls m ms e = rw e
+
+-- nothing of a value is lost: its lines with the terminators between them are the value
+pub lines-back : (m : ℕ) (u v : List ℕ) → withEnds u (linesOf m u v) ≡ v
+unfolding linesOf withEnds
+lines-back zero u v = refl
+lines-back (suc m) u v = go (leb (length v) (lineLen u v)) refl (lines-back m u (drop (lineLen u v + length u) v))
+  where
+    go : (w : Bool) → leb (length v) (lineLen u v) ≡ w
+        → withEnds u (linesOf m u (drop (lineLen u v + length u) v)) ≡ drop (lineLen u v + length u) v
+        → withEnds u (pick w (v ∷ []) (take (lineLen u v) v ∷ linesOf m u (drop (lineLen u v + length u) v))) ≡ v
+    go true e i = refl
+    go false e i =
+        let s = some-line m u (drop (lineLen u v + length u) v) in
+        let n : lineLen u v < length v = leb-false (length v) (lineLen u v) e in
+        let d : drop (lineLen u v) v ≡ u ++ drop (lineLen u v + length u) v =
+        starts-split u (drop (lineLen u v) v) (line-ends u v n) ∙ ap (λ (r : List ℕ). u ++ r) (drop-drop (length u) (lineLen u v) v) in
+        ends-cons u (take (lineLen u v) v) (linesOf m u (drop (lineLen u v + length u) v)) (s .0) (s .1) (s .2)
+        ∙ rw (i, ← d) (take-append-drop (lineLen u v) v)
 
 -- ---- the lines of what a NOTE may be
 
@@ -287,17 +290,15 @@ charactered m [] v e h r = absurd (omega (arith, e .0))
 charactered zero (x ∷ xs) [] e h r = (refl, tt)
 charactered zero (x ∷ xs) (b ∷ v) e h r = absurd (omega arith)
 charactered (suc m) (x ∷ xs) v e h r =
+    let u : List ℕ = x ∷ xs in
+    let n : ℕ = lineLen u v in
     let f = first-characters x xs v (e .1) r in
-    let d = drop-drop (length (x ∷ xs)) (lineLen (x ∷ xs) v) v in
-    go (leb (length v) (lineLen (x ∷ xs) v)) refl (f .0)
-    (λ l. charactered m (x ∷ xs) (drop (lineLen (x ∷ xs) v + length (x ∷ xs)) v) e l (rw d at (f .1)))
-  where
-    go : (w : Bool) → leb (length v) (lineLen (x ∷ xs) v) ≡ w → Characters (take (lineLen (x ∷ xs) v) v)
-        → (length (drop (lineLen (x ∷ xs) v + length (x ∷ xs)) v) ≤ m
-        → Each Characters (linesOf m (x ∷ xs) (drop (lineLen (x ∷ xs) v + length (x ∷ xs)) v)))
-        → Each Characters (pick w (v ∷ []) (take (lineLen (x ∷ xs) v) v ∷ linesOf m (x ∷ xs) (drop (lineLen (x ∷ xs) v + length (x ∷ xs)) v)))
-    go true q c i = (rw (take-all (lineLen (x ∷ xs) v) v (leb-true (length v) (lineLen (x ∷ xs) v) q)) at c, tt)
-    go false q c i = (c, i (left-less (x ∷ xs) v m (e .0) h (leb-false (length v) (lineLen (x ∷ xs) v) q)))
+    elim (decLe (length v) n) [
+      | yes q ↦ rw (le-leb (length v) n q) (rw (take-all n v q) at (f .0), tt)
+      | no q ↦
+          let l = lt-of-not-le q in
+          rw (lt-leb (length v) n l) (f .0, charactered m u (drop (n + length u) v) e (left-less u v m (e .0) h l) (rw (drop-drop (length u) n v) at (f .1)))
+    ]
 
 -- the lines of what a NOTE may be are of value characters alone
 pub lines-are-of-characters : (u v : List ℕ) → LineEnd u → Lines u v → Each Characters (linesOf (length v) u v)
