@@ -18,7 +18,8 @@ use Rattle.strings.specs.Spelled.{Spells}
 use Rattle.sample.specs.Needed.{room}
 use Rattle.sheet.specs.Area.{stringsOf, areaOf, areaSize}
 use Rattle.sheet.specs.Sizes.{length-area}
-use Rattle.area.specs.Spelling.{LineEnd, area-spells}
+use Rattle.text.specs.Note.{LineEnd}
+use Rattle.area.specs.Spelling.{area-spells}
 use Rattle.head.specs.Head.{highFirst, countOf, stringEnd, lineEnd, apart}
 use Rattle.block.specs.Block.{pointerOf, endAt}
 use Rattle.image.specs.Image.{checkOf}

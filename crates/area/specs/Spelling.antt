@@ -2,13 +2,13 @@
 -- size; and every list of good lines whose area is not too large is let through.
 -- Assumes nothing.
 use mathlib.Core.Path.{_≡_, refl}
-use mathlib.Core.Bool.{Bool, true, false, not, _||_}
-use mathlib.Core.List.{List, [], _∷_, _++_, append-nil}
+use mathlib.Core.Bool.{Bool, true, false, _||_}
+use mathlib.Core.List.{List, [], _∷_}
 use Prim.Native.Nat.{ℕ, _%_, _≤_, _<_}
 use native.Mathlib.Omega.{arith}
-use lib.ListN.{length, getD}
+use lib.ListN.{length}
 use lib.Dec.{leb, ltb, eqb}
-use borrow.Author.Tests.{leb-true, ne-eqb, lt-leb, le-ltb, ltb-false, not-true}
+use borrow.Author.Tests.{leb-true, ne-eqb, le-ltb, ltb-false}
 use Rattle.word.specs.Tests.{both}
 use Rattle.word.specs.Round.{round4}
 use Rattle.refusal.specs.Rows.{pick}
@@ -19,9 +19,9 @@ use Rattle.refusal.specs.declared.Part.the-variants.{File}
 use Rattle.refusal.specs.declared.Verdict.{Verdict}
 use Rattle.refusal.specs.declared.Verdict.the-variants.{Accepted, Refused}
 use Rattle.text.specs.Chars.{blank, valueChar, control, note, blank-value}
-use Rattle.text.specs.Runs.{all, same, same-eq, Stops, all-weaker}
+use Rattle.text.specs.Runs.{all, same, same-eq, same-not, Stops, all-weaker}
 use Rattle.text.specs.Order.{rises}
-use Rattle.text.specs.Note.{withEnds, valueOk, Lines, Lines.done, Lines.char, Lines.line, lines-accept}
+use Rattle.text.specs.Note.{withEnds, Each, Characters, LineEnd, control-ends, characters-are-lines}
 use Rattle.strings.specs.Strings as Strings
 use Rattle.strings.specs.Paper.{spelled-accepted}
 use Rattle.strings.specs.Spelled.{Good, Rising, sizeOf, Spells, Spells.full}
@@ -49,25 +49,16 @@ pub record Terminators (t u : List ℕ) : Type 0 where
   pub apart : (b : ℕ) → among b t ≡ true → among b u ≡ false
 
 -- of all that only this is needed here: a line terminator starts with a byte that no value has
-abbrev pub LineEnd : List ℕ → Type 0
-LineEnd u = (0 < length u) × (valueChar (getD u 0 0) ≡ false)
-
-control-no-value : (b : ℕ) → control b ≡ true → valueChar b ≡ false
-control-no-value b h =
-    let k = both (leb b 31) (not (eqb b 9)) h in
-    let l = leb-true b 31 (k .0) in
-    let n : eqb b 9 ≡ false = not-true (eqb b 9) (k .1) in
-    rw (lt-leb 32 b (omega arith), n)
-
 pub terminators-end : (t u : List ℕ) → Terminators t u → LineEnd u
-unfolding all
-terminators-end t [] e = absurd (omega (arith, e .u-low))
-terminators-end t (x ∷ u) e = (omega arith, control-no-value x (both (control x) (all control u) (e .u-chars) .0))
+terminators-end t u e = control-ends u (omega (arith, e .u-low)) (e .u-chars)
 
 -- ---- characters
 
 pub plain-value : (b : ℕ) → plain b ≡ true → valueChar b ≡ true
 plain-value b h = rw h
+
+plain-characters : (v : List ℕ) → all plain v ≡ true → Characters v
+plain-characters v h = all-weaker plain valueChar plain-value v h
 
 plain-blank : (b : ℕ) → plain b ≡ true → eqb b 32 ≡ false → blank b ≡ false
 plain-blank b h s =
@@ -83,10 +74,6 @@ no-value-blank b h = go (blank b) refl
 
 -- ---- the lines of a NOTE
 
-abbrev pub Plains : List (List ℕ) → Type 0
-Plains [] = Unit {0}
-Plains (v ∷ vs) = (all plain v ≡ true) × Plains vs
-
 -- behind a NOTE line there are only NOTE lines
 pub note-next : {prev : List ℕ} {l : Line} → same prev note ≡ true → GoodLine prev l → l .key ≡ note
 unfolding continues rises
@@ -101,19 +88,10 @@ note-next {prev} {l} n g = same-eq (l .key) note (go (same (l .key) note) refl)
         let z : _≡_ {A = ℕ} 0 1 = cc in
         absurd (omega arith)
 
-pub plains-of : (prev : List ℕ) (ls : List Line) → GoodLines prev ls → Plains (values ls)
-plains-of prev [] g = tt
-plains-of prev (l ∷ ls) g = (g .0 .plains, plains-of (l .key) ls (g .1))
-
-plain-before : (u v r : List ℕ) → all plain v ≡ true → Lines u r → Lines u (v ++ r)
-unfolding all
-plain-before u [] r h k = k
-plain-before u (b ∷ v) r h k = let a = both (plain b) (all plain v) h in char (plain-value b (a .0)) (plain-before u v r (a .1) k)
-
-ends-lines : (u v : List ℕ) (vs : List (List ℕ)) → all plain v ≡ true → Plains vs → Lines u (withEnds u (v ∷ vs))
-unfolding withEnds
-ends-lines u v [] h k = rw append-nil at (plain-before u v [] h done)
-ends-lines u v (w ∷ vs) h k = plain-before u v (u ++ withEnds u (w ∷ vs)) h (line (ends-lines u w vs (k .0) (k .1)))
+-- the values of good lines are of value characters alone, as the lines of a NOTE are
+pub values-characters : (prev : List ℕ) (ls : List Line) → GoodLines prev ls → Each Characters (values ls)
+values-characters prev [] g = tt
+values-characters prev (l ∷ ls) g = (plain-characters (l .value) (g .0 .plains), values-characters (l .key) ls (g .1))
 
 ends-open : (u v : List ℕ) (vs : List (List ℕ)) → LineEnd u → all plain v ≡ true → spaced v ≡ false → Stops blank (withEnds u (v ∷ vs))
 unfolding withEnds all
@@ -135,7 +113,7 @@ one-space : (v : List ℕ) → _≡_ {A = List ℕ} (32 ∷ []) [] → v ≡ []
 one-space v e = let z : _≡_ {A = ℕ} 0 1 = cc in absurd (omega arith)
 
 str-good : (t u prev : List ℕ) (l : Line) → GoodLine prev l → same (l .key) note ≡ false → spaced (l .value) ≡ false → sizeOf t (strOf l) < 65536 → Good t u (strOf l)
-unfolding valueOk all
+unfolding all
 str-good t u prev l g n s small =
     record {
       some = g .some;
@@ -143,14 +121,10 @@ str-good t u prev l g n s small =
       blanks = refl;
       starts = value-open (l .value) (g .plains) s;
       apart = one-space (l .value);
-      values = rw n (all-weaker plain valueChar plain-value (l .value) (g .plains));
+      values = λ k. plain-characters (l .value) (g .plains);
+      lines = λ k. absurd (same-not (l .key) note n k);
       small = small;
     }
-
-note-values : (u v : List ℕ) (vs : List (List ℕ)) → LineEnd u → all plain v ≡ true → Plains vs → valueOk u note (withEnds u (v ∷ vs)) ≡ true
-unfolding valueOk same
-note-values [] v vs e h k = absurd (omega (arith, e .0))
-note-values (x ∷ u) v vs e h k = lines-accept x u (withEnds (x ∷ u) (v ∷ vs)) (e .1) (ends-lines (x ∷ u) v vs h k)
 
 note-good : (t u prev : List ℕ) (l : Line) (ls : List Line) → LineEnd u → GoodLines prev (l ∷ ls) → spaced (l .value) ≡ false
     → sizeOf t (noteOf u (l ∷ ls)) < 65536 → Good t u (noteOf u (l ∷ ls))
@@ -162,7 +136,8 @@ note-good t u prev l ls e g s small =
       blanks = refl;
       starts = ends-open u (l .value) (values ls) e (g .0 .plains) s;
       apart = one-space (withEnds u (values (l ∷ ls)));
-      values = note-values u (l .value) (values ls) e (g .0 .plains) (plains-of (l .key) ls (g .1));
+      values = λ k. absurd (k refl);
+      lines = λ k. characters-are-lines u (l .value) (values ls) (values-characters prev (l ∷ ls) g);
       small = small;
     }
 
@@ -228,7 +203,9 @@ area-spells high t u s n e m =
 -- so in a file with these terminators `strings`' check accepts the area, wherever it stands
 pub area-accepted : (high : Bool) (t u s : List ℕ) (n : ℕ) (p : Part) (at : ℕ) → Terminators t u → measuredOf t u s ≡ Size n
     → Strings.stringsOf high t u p (areaOf high t u s) at ≡ Accepted
-area-accepted high t u s n p at e m = spelled-accepted p at (area-spells high t u s n (terminators-end t u e) m)
+area-accepted high t u s n p at e m =
+    let ends = terminators-end t u e in
+    spelled-accepted p at ends (area-spells high t u s n ends m)
 
 -- every list of good lines whose area is not too large is let through, and means the strings of those lines
 pub good-measured : (t u : List ℕ) (ls : List Line) → GoodLines [] ls → round4 (textSize t (joined u ls)) ≤ 65500

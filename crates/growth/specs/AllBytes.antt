@@ -17,10 +17,9 @@ use Rattle.word.specs.Put.{put}
 use Rattle.word.specs.Round.{round4}
 use Rattle.word.specs.Word.{bytesOf}
 use Rattle.word.specs.WordLaws.{bytesOf-bytes}
-use Rattle.refusal.specs.Rows.{pick}
 use Rattle.text.specs.Chars.{blank, keyChar, valueChar, note, blank-value, control}
-use Rattle.text.specs.Runs.{all, same}
-use Rattle.text.specs.Note.{lines, valueOk, Lines, Lines.done, Lines.char, Lines.line, lines-spelled}
+use Rattle.text.specs.Runs.{all, same, same-eq, same-not}
+use Rattle.text.specs.Note.{Lines, Lines.done, Lines.char, Lines.line}
 use Rattle.strings.specs.Spelled.{Str, Good, Rising, textOf, sizeOf, written, Spells, Spells.empty, Spells.full}
 use Rattle.encode.specs.Write.{flat, residue, fixedBytes, exponentsOf, mantissaOf, onesBits, wordsOf, groupBytes, groups, filledUp, integersData, bitsData}
 use Rattle.sheet.specs.declared.Measured.the-variants.{Size}
@@ -68,28 +67,26 @@ lines-bytes b done = tt
 lines-bytes b (char {b = c} h r) = (value-byte c h, lines-bytes b r)
 lines-bytes {u} b (line {bs} r) = bytes-append u bs b (lines-bytes b r)
 
-value-bytes : (u k v : List ℕ) → 0 < length u → Bytes u → valueOk u k v ≡ true → Bytes v
-unfolding valueOk
-value-bytes [] k v l b h = absurd (omega arith)
-value-bytes (c ∷ u) k v l b h = go (same k note) h
+value-bytes : {t u : List ℕ} {s : Str} → Bytes u → Good t u s → Bytes (s .value)
+value-bytes {t} {u} {s} b g = go (same (s .key) note) refl
   where
-    go : (w : Bool) → pick w (lines (c ∷ u) 0 v) (all valueChar v) ≡ true → Bytes v
-    go true e = lines-bytes b (lines-spelled c u 0 v e)
-    go false e = all-bytes valueChar value-byte v e
+    go : (w : Bool) → same (s .key) note ≡ w → Bytes (s .value)
+    go true e = lines-bytes b (g .lines (same-eq (s .key) note e))
+    go false e = all-bytes valueChar value-byte (s .value) (g .values (same-not (s .key) note e))
 
-text-bytes : {t u : List ℕ} {s : Str} → 0 < length u → Bytes u → Good t u s → Bytes (textOf s)
-text-bytes {t} {u} {s} l b g =
+text-bytes : {t u : List ℕ} {s : Str} → Bytes u → Good t u s → Bytes (textOf s)
+text-bytes {t} {u} {s} b g =
     bytes-append (s .key) (s .gap ++ s .value) (all-bytes keyChar key-byte (s .key) (g .keys))
-    (bytes-append (s .gap) (s .value) (all-bytes blank blank-byte (s .gap) (g .blanks)) (value-bytes u (s .key) (s .value) l b (g .values)))
+    (bytes-append (s .gap) (s .value) (all-bytes blank blank-byte (s .gap) (g .blanks)) (value-bytes b g))
 
-written-bytes : (high : Bool) (t u prev : List ℕ) (ss : List Str) (rest : List ℕ) → 0 < length u → Bytes t → Bytes u → Bytes rest → Rising t u prev ss
+written-bytes : (high : Bool) (t u prev : List ℕ) (ss : List Str) (rest : List ℕ) → Bytes t → Bytes u → Bytes rest → Rising t u prev ss
     → Bytes (written high t ss rest)
 unfolding written
-written-bytes high t u prev [] rest l bt bu br g = bytes-append (bytesOf 2 high 0) rest (bytesOf-bytes 2 high 0) br
-written-bytes high t u prev (s ∷ ss) rest l bt bu br g =
+written-bytes high t u prev [] rest bt bu br g = bytes-append (bytesOf 2 high 0) rest (bytesOf-bytes 2 high 0) br
+written-bytes high t u prev (s ∷ ss) rest bt bu br g =
     bytes-append (bytesOf 2 high (sizeOf t s)) (textOf s ++ (t ++ written high t ss rest)) (bytesOf-bytes 2 high (sizeOf t s))
-    (bytes-append (textOf s) (t ++ written high t ss rest) (text-bytes l bu (g .0))
-    (bytes-append t (written high t ss rest) bt (written-bytes high t u (s .key) ss rest l bt bu br (g .2))))
+    (bytes-append (textOf s) (t ++ written high t ss rest) (text-bytes bu (g .0))
+    (bytes-append t (written high t ss rest) bt (written-bytes high t u (s .key) ss rest bt bu br (g .2))))
 
 zeros-bytes : (n : ℕ) → Bytes (replicate n 0)
 zeros-bytes zero = tt
@@ -103,7 +100,7 @@ spells-rising (full rest g) = g
 area-bytes : (high : Bool) (t u s : List ℕ) (n : ℕ) → Terminators t u → measuredOf t u s ≡ Size n → Bytes (areaOf high t u s)
 unfolding areaOf
 area-bytes high t u s n e m =
-    written-bytes high t u [] (stringsOf u s) (padding (textSize t (stringsOf u s))) (omega (arith, e .u-low)) (all-bytes control control-byte t (e .t-chars))
+    written-bytes high t u [] (stringsOf u s) (padding (textSize t (stringsOf u s))) (all-bytes control control-byte t (e .t-chars))
     (all-bytes control control-byte u (e .u-chars)) (zeros-bytes (round4 (textSize t (stringsOf u s)) - textSize t (stringsOf u s)))
     (spells-rising (area-spells high t u s n (terminators-end t u e) m))
 

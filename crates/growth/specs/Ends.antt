@@ -12,7 +12,8 @@ use borrow.Author.Tests.{eqb-true}
 use Rattle.word.specs.Tests.{both}
 use Rattle.word.specs.Part.{length-part}
 use Rattle.text.specs.Runs.{all}
-use Rattle.area.specs.Spelling.{among, Terminators, LineEnd, terminators-end}
+use Rattle.text.specs.Note.{LineEnd}
+use Rattle.area.specs.Spelling.{among, Terminators, terminators-end}
 use Rattle.head.specs.Head.{terminatorAt, stringEnd, lineEnd, lacks, apart}
 use Rattle.image.specs.Keeps.{KeepsTerminator, Keeps}
 use Rattle.growth.specs.Kept.{short-terminator}

@@ -24,7 +24,8 @@ use Rattle.encode.specs.Back.{reach, fit-reach, integers-back, fit-32, bits-bac
 use Rattle.encode.specs.Cut.{cut, floats-back}
 use Rattle.sheet.specs.declared.Measured.the-variants.{Size}
 use Rattle.sheet.specs.Area.{stringsOf, measuredOf}
-use Rattle.area.specs.Spelling.{LineEnd, area-spells}
+use Rattle.text.specs.Note.{LineEnd}
+use Rattle.area.specs.Spelling.{area-spells}
 use Rattle.head.specs.Head.{highFirst, countOf, stringEnd, lineEnd}
 use Rattle.block.specs.Block.{dataAt, endAt, traceBlockOf}
 use Rattle.image.specs.Image.{checkOf}

@@ -17,6 +17,7 @@ use Rattle.refusal.specs.Rows.{first, clear, through}
 use Rattle.refusal.specs.declared.Verdict.the-variants.{Accepted}
 use Rattle.text.specs.Runs.{all, more, none}
 use Rattle.text.specs.Chars.{control}
+use Rattle.text.specs.Note.{LineEnd, control-ends}
 use Rattle.head.specs.Head.{known, highFirst, revisionOf, roomOf, countOf, terminatorAt, stringEnd, lineEnd, goodTerminator, lacks, apart, headRows, headOf}
 
 -- ---- terminators of one and of two characters
@@ -79,6 +80,13 @@ unfolding terminatorAt
 length-terminator f at fits h =
     let m = good-most f at h in
     length-part (at + 1) (at + 1 + getD f at 0) f (omega (arith, m .1)) ∙ omega arith
+
+-- so a good line terminator starts with a byte that no value has
+pub good-ends : (f : List ℕ) (at : ℕ) → at + 3 ≤ length f → goodTerminator f at ≡ true → LineEnd (terminatorAt f at)
+good-ends f at fits h =
+    let l = length-terminator f at fits h in
+    let m = good-most f at h in
+    control-ends (terminatorAt f at) (omega (arith, m .0)) (good-chars f at h)
 
 -- ---- what rows 2 to 7 have shown
 pub record Headed (grow : Bool) (f : List ℕ) : Type 0 where

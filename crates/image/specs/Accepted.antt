@@ -22,9 +22,10 @@ use Rattle.refusal.specs.declared.Part.{Part}
 use Rattle.refusal.specs.declared.Part.the-variants.{File, Trace}
 use Rattle.refusal.specs.declared.Rule.the-variants.{Length}
 use Rattle.refusal.specs.declared.Verdict.the-variants.{Accepted}
+use Rattle.text.specs.Note.{LineEnd}
 use Rattle.strings.specs.Paper.{spelled-accepted, accepted-spelled}
 use Rattle.head.specs.Head.{known, highFirst, roomOf, countOf, stringEnd, lineEnd, goodTerminator, headOf, refused}
-use Rattle.head.specs.HeadLaws.{Headed, headed, head-accepts, good-length, good-chars}
+use Rattle.head.specs.HeadLaws.{Headed, headed, head-accepts, good-length, good-chars, good-ends}
 use Rattle.block.specs.Block.{blockSize, dataSize, dataAt, endAt, pointerRow, blockOf}
 use Rattle.image.specs.Image.{areaOf, andThen, traceOf, tracesFrom, restOf, imageOf, badLength, checkOf}
 use Rattle.block.specs.BlockLaws.{Pointed, pointed, pointer-accepts, Blocked, blocked, block-accepts}
@@ -32,21 +33,23 @@ use Rattle.image.specs.ImageLaws.{and-then, then-and, long-enough, lengt
 use Rattle.image.specs.Keeps.{traceAt, endBefore, stringsEnd, Strings, KeepsTerminator, KeepsTrace, Keeps}
 
 -- ---- an area
-area-kept : (f : List ℕ) (whose : Part) (a e : ℕ) → Bytes f → areaOf (highFirst f) (stringEnd f) (lineEnd f) f whose a e ≡ Accepted → Strings f a e
+area-kept : (f : List ℕ) (whose : Part) (a e : ℕ) → LineEnd (lineEnd f) → Bytes f
+    → areaOf (highFirst f) (stringEnd f) (lineEnd f) f whose a e ≡ Accepted → Strings f a e
 unfolding areaOf
-area-kept f whose a e by h = accepted-spelled (highFirst f) (stringEnd f) (lineEnd f) whose (part a e f) a (bytes-part a e f by) h
+area-kept f whose a e ends by h = accepted-spelled (highFirst f) (stringEnd f) (lineEnd f) whose (part a e f) a ends (bytes-part a e f by) h
 
-area-accepts : (f : List ℕ) (whose : Part) (a e : ℕ) → Strings f a e → areaOf (highFirst f) (stringEnd f) (lineEnd f) f whose a e ≡ Accepted
+area-accepts : (f : List ℕ) (whose : Part) (a e : ℕ) → LineEnd (lineEnd f) → Strings f a e
+    → areaOf (highFirst f) (stringEnd f) (lineEnd f) f whose a e ≡ Accepted
 unfolding areaOf
-area-accepts f whose a e s = spelled-accepted whose a (s .1)
+area-accepts f whose a e ends s = spelled-accepted whose a ends (s .1)
 
 -- ---- a trace
 abbrev pub Traced : List ℕ → ℕ → Type 0
 Traced f k = traceOf (highFirst f) (stringEnd f) (lineEnd f) f k (endBefore f k) ≡ Accepted
 
-trace-kept : (f : List ℕ) (k : ℕ) → Bytes f → Traced f k → KeepsTrace f k
+trace-kept : (f : List ℕ) (k : ℕ) → LineEnd (lineEnd f) → Bytes f → Traced f k → KeepsTrace f k
 unfolding traceOf
-trace-kept f k by h =
+trace-kept f k ends by h =
     let a = and-then (pointerRow (highFirst f) f k (endBefore f k)) _ h in
     let b = and-then (blockOf (highFirst f) f k (traceAt f k)) _ (a .1) in
     let p = pointed (highFirst f) f k (endBefore f k) (a .0) in
@@ -62,12 +65,12 @@ trace-kept f k by h =
       code = q .code;
       groups = q .groups;
       samples = q .samples;
-      strings = area-kept f (Trace k) (traceAt f k + 32) (dataAt (highFirst f) f (traceAt f k)) by (b .1);
+      strings = area-kept f (Trace k) (traceAt f k + 32) (dataAt (highFirst f) f (traceAt f k)) ends by (b .1);
     }
 
-trace-accepts : (f : List ℕ) (k : ℕ) → KeepsTrace f k → Traced f k
+trace-accepts : (f : List ℕ) (k : ℕ) → LineEnd (lineEnd f) → KeepsTrace f k → Traced f k
 unfolding traceOf
-trace-accepts f k h =
+trace-accepts f k ends h =
     let l : 32 ≤ blockSize (highFirst f) f (traceAt f k) = h .least in
     let i : dataAt (highFirst f) f (traceAt f k) + dataSize (highFirst f) f (traceAt f k) ≤ length f = h .inside in
     then-and _ _ (pointer-accepts (highFirst f) f k (endBefore f k) (record { whole = h .aligned; behind = h .behind; fits = omega arith }))
@@ -84,7 +87,7 @@ trace-accepts f k h =
       groups = h .groups;
       samples = h .samples;
     }))
-    (area-accepts f (Trace k) (traceAt f k + 32) (dataAt (highFirst f) f (traceAt f k)) (h .strings)))
+    (area-accepts f (Trace k) (traceAt f k + 32) (dataAt (highFirst f) f (traceAt f k)) ends (h .strings)))
 
 -- ---- all traces
 pub before-next : (f : List ℕ) (k : ℕ) → endBefore f (k + 1) ≡ endAt (highFirst f) f (traceAt f k)
@@ -130,6 +133,9 @@ terminator-good f at h = ⊎-elim (λ b. rw b (h .characters)) (λ b. rw b (h .c
 good-terminator : (f : List ℕ) (at : ℕ) → goodTerminator f at ≡ true → KeepsTerminator f at
 good-terminator f at h = record { size = good-length f at h; characters = good-chars f at h }
 
+kept-ends : {grow : Bool} {f : List ℕ} → Keeps grow f → LineEnd (lineEnd f)
+kept-ends {grow} {f} h = good-ends f 11 (omega (arith, h .room .2)) (terminator-good f 11 (h .line-end))
+
 -- ---- what an accepted image gives without checking again, for a file and for an image that grows
 pub image-headed : (grow : Bool) (f : List ℕ) → imageOf grow f ≡ Accepted → Headed grow f
 unfolding imageOf
@@ -174,6 +180,7 @@ image-strings grow f e = go (eqb (countOf f) 0) (and-then (headOf grow f) _ e .1
 pub image-keeps : (grow : Bool) (f : List ℕ) → Bytes f → 32 ≤ length f → length f ≤ 67108864 → imageOf grow f ≡ Accepted → Keeps grow f
 image-keeps grow f by low most e =
     let h = image-headed grow f e in
+    let ends = good-ends f 11 (omega arith) (h .lines) in
     record {
       extent = (low, most);
       first = first-bytes f (h .first);
@@ -184,8 +191,8 @@ image-keeps grow f by low most e =
       string-end = good-terminator f 8 (h .strings);
       line-end = good-terminator f 11 (h .lines);
       ends-apart = h .apart;
-      strings = area-kept f File (32 + roomOf f) (stringsEnd f) by (image-strings grow f e);
-      traces = λ k l. trace-kept f k by (image-traced grow f e k l);
+      strings = area-kept f File (32 + roomOf f) (stringsEnd f) ends by (image-strings grow f e);
+      traces = λ k l. trace-kept f k ends by (image-traced grow f e k l);
     }
 
 -- the first pointer, the file's strings and the traces, where there is a trace
@@ -197,12 +204,13 @@ rest-accepts : (grow : Bool) (f : List ℕ) → Keeps grow f → 0 < countOf f
 unfolding endBefore
 rest-accepts grow f h some =
     let k = h .traces 0 some in
+    let ends = kept-ends h in
     let l : 32 ≤ blockSize (highFirst f) f (traceAt f 0) = k .least in
     let i : dataAt (highFirst f) f (traceAt f 0) + dataSize (highFirst f) f (traceAt f 0) ≤ length f = k .inside in
     let z : stringsEnd f ≡ traceAt f 0 = pick-second (eqb (countOf f) 0) (length f) (traceAt f 0) (ne-eqb (countOf f) 0 (omega arith)) in
     then-and _ _ (pointer-accepts (highFirst f) f 0 (32 + roomOf f) (record { whole = k .aligned; behind = k .behind; fits = omega arith }))
-    (then-and _ _ (area-accepts f File (32 + roomOf f) (traceAt f 0) (rw z at (h .strings)))
-    (each-walk f (countOf f) 0 (λ j low high. trace-accepts f j (h .traces j (omega arith)))))
+    (then-and _ _ (area-accepts f File (32 + roomOf f) (traceAt f 0) ends (rw z at (h .strings)))
+    (each-walk f (countOf f) 0 (λ j low high. trace-accepts f j ends (h .traces j (omega arith)))))
 
 pub keeps-image : (grow : Bool) (f : List ℕ) → Keeps grow f → imageOf grow f ≡ Accepted
 unfolding imageOf restOf
@@ -220,7 +228,7 @@ keeps-image grow f h =
       apart = h .ends-apart;
       fits = h .room .2;
     }))
-    (go (eqb (countOf f) 0) refl (area-accepts f File (32 + roomOf f) (stringsEnd f) (h .strings)))
+    (go (eqb (countOf f) 0) refl (area-accepts f File (32 + roomOf f) (stringsEnd f) (kept-ends h) (h .strings)))
   where
     go : (w : Bool) → eqb (countOf f) 0 ≡ w
         → areaOf (highFirst f) (stringEnd f) (lineEnd f) f File (32 + roomOf f) (pick w (length f) (traceAt f 0)) ≡ Accepted

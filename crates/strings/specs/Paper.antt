@@ -1,4 +1,6 @@
 -- The two views agree: an area is accepted exactly where it spells a list of strings, that list is the only one, and the questions answer from it.
+-- That the walk over a NOTE's lines and the words of `Good` say the same needs a line terminator that starts with no value character (`LineEnd`),
+-- which row 6 gives every file.
 -- Assumes nothing.
 use mathlib.Core.Path.{_≡_, refl, sym, ap, ap₂, _∙_}
 use mathlib.Core.Bool.{Bool, true, false, not}
@@ -32,6 +34,7 @@ use Rattle.strings.specs.declared.Found.the-variants.{Nothing, Is}
 use Rattle.text.specs.Chars.{blank, solid, keyChar, key-solid, solid-not-blank}
 use Rattle.text.specs.Runs.{run, all, same, same-eq, same-refl, Stops, all-weaker, run-all, run-stops, run-append}
 use Rattle.text.specs.Order.{rises, rises-strict, rises-transitive}
+use Rattle.text.specs.Note.{LineEnd, value-accept, value-spelled}
 use Rattle.strings.specs.Strings.{offset, body, keyLen, keyOf, afterKey, gapLen, gapOf, valueOf, frameRows, frameOf, textRows, judgedOf, onFrame, onJudged, stepOf, onStep, stringsFrom, stringsOf, placeOf, onText, placesFrom, placesOf, keyIn, valueIn, nthOf, findOf, keyFound, valueFound}
 use Rattle.strings.specs.Frames.{frame-end, Framed, framed}
 use Rattle.strings.specs.Walks.{InFrame, in-frame, next-fits, judged-clear, keyLen-le, length-body}
@@ -67,22 +70,22 @@ module _ {t u : List ℕ} {s : Str} (good : Good t u s) where
   text-some : 0 < length (textOf s)
   text-some = let k = length-append (s .key) (s .gap ++ s .value) in omega (arith, good .some)
 
-  judged : (prev : List ℕ) → rises prev (s .key) ≡ true → judgedOf u prev (textOf s) ≡ Keyword (length (s .key))
+  judged : (prev : List ℕ) → LineEnd u → rises prev (s .key) ≡ true → judgedOf u prev (textOf s) ≡ Keyword (length (s .key))
   unfolding judgedOf
-  judged prev rise =
+  judged prev ends rise =
       through (textRows u prev (textOf s)) (Keyword (keyLen (textOf s))) (
         rw text-key (ne-eqb (length (s .key)) 0 (omega (arith, good .some))),
-        (rw (key-of, good .keys), (rw (key-of, value-of, good .values), (rw (key-of, rise), tt))),
+        (rw (key-of, good .keys), (rw (key-of, value-of, value-accept u (s .key) (s .value) ends (good .values) (good .lines)), (rw (key-of, rise), tt))),
       )
       ∙ ap Keyword text-key
 
   frame-of : (high : Bool) (r : List ℕ) → Framed high t (textOf s) r (sizeOf t s) (bytesOf 2 high (sizeOf t s) ++ (textOf s ++ (t ++ r)))
   frame-of high r = framed high t (textOf s) r (sizeOf t s) refl (good .small) text-some
 
-  steps : (high : Bool) (r prev : List ℕ) (p : Part) (at : ℕ) → rises prev (s .key) ≡ true
+  steps : (high : Bool) (r prev : List ℕ) (p : Part) (at : ℕ) → LineEnd u → rises prev (s .key) ≡ true
       → stepOf high t u p prev (bytesOf 2 high (sizeOf t s) ++ (textOf s ++ (t ++ r))) at ≡ Next (sizeOf t s) (length (s .key))
   unfolding stepOf onFrame
-  steps high r prev p at rise = let f = frame-of high r in rw (f .text, f .mid, judged prev rise)
+  steps high r prev p at ends rise = let f = frame-of high r in rw (f .text, f .mid, judged prev ends rise)
 
 -- ---- the end mark
 
@@ -104,20 +107,20 @@ step-done : (m : ℕ) (high : Bool) (t u : List ℕ) (p : Part) (prev l : List �
 unfolding stringsFrom stepOf onFrame
 step-done m high t u p prev l at h = rw h
 
-accepts : (high : Bool) (t u : List ℕ) (p : Part) (ss : List Str) (rest prev : List ℕ) (m at : ℕ) → Rising t u prev ss → length (written high t ss rest) ≤ m
-    → stringsFrom m high t u p prev (written high t ss rest) at ≡ Accepted
+accepts : (high : Bool) (t u : List ℕ) (p : Part) (ss : List Str) (rest prev : List ℕ) (m at : ℕ) → LineEnd u → Rising t u prev ss
+    → length (written high t ss rest) ≤ m → stringsFrom m high t u p prev (written high t ss rest) at ≡ Accepted
 unfolding written
-accepts high t u p [] rest prev zero at g h = absurd (let k = length-append (bytesOf 2 high 0) rest in let n = length-bytesOf 2 high 0 in omega arith)
-accepts high t u p [] rest prev (suc m) at g h = step-done m high t u p prev (bytesOf 2 high 0 ++ rest) at (end-frame high t rest)
-accepts high t u p (s ∷ ss) rest prev zero at g h = absurd (let k = frame-of (g .0) high (written high t ss rest) .fit in omega arith)
-accepts high t u p (s ∷ ss) rest prev (suc m) at g h =
+accepts high t u p [] rest prev zero at ends g h = absurd (let k = length-append (bytesOf 2 high 0) rest in let n = length-bytesOf 2 high 0 in omega arith)
+accepts high t u p [] rest prev (suc m) at ends g h = step-done m high t u p prev (bytesOf 2 high 0 ++ rest) at (end-frame high t rest)
+accepts high t u p (s ∷ ss) rest prev zero at ends g h = absurd (let k = frame-of (g .0) high (written high t ss rest) .fit in omega arith)
+accepts high t u p (s ∷ ss) rest prev (suc m) at ends g h =
     let r : List ℕ = written high t ss rest in
     let f = frame-of (g .0) high r in
     let l : List ℕ = bytesOf 2 high (sizeOf t s) ++ (textOf s ++ (t ++ r)) in
     let key : take (length (s .key)) (drop 2 l) ≡ s .key =
     rw (f .tail, append-assoc (s .key) (s .gap ++ s .value) (t ++ r)) (take-append-seam (s .key) ((s .gap ++ s .value) ++ (t ++ r))) in
-    step-next m high t u p prev l at (sizeOf t s) (length (s .key)) (steps (g .0) high r prev p at (g .1))
-    ∙ rw (f .next, key) (accepts high t u p ss rest (s .key) m (at + sizeOf t s) (g .2) (omega (arith, f .fit)))
+    step-next m high t u p prev l at (sizeOf t s) (length (s .key)) (steps (g .0) high r prev p at ends (g .1))
+    ∙ rw (f .next, key) (accepts high t u p ss rest (s .key) m (at + sizeOf t s) ends (g .2) (omega (arith, f .fit)))
 
 written-some : (high : Bool) (t : List ℕ) (ss : List Str) (rest : List ℕ) → 0 < length (written high t ss rest)
 unfolding written
@@ -127,12 +130,13 @@ written-some high t (s ∷ ss) rest =
     let n = length-bytesOf 2 high (sizeOf t s) in
     omega arith
 
-pub spelled-accepted : {high : Bool} {t u l : List ℕ} {ss : List Str} (p : Part) (at : ℕ) → Spells high t u ss l → stringsOf high t u p l at ≡ Accepted
+pub spelled-accepted : {high : Bool} {t u l : List ℕ} {ss : List Str} (p : Part) (at : ℕ) → LineEnd u → Spells high t u ss l
+    → stringsOf high t u p l at ≡ Accepted
 unfolding stringsOf
-spelled-accepted p at empty = refl
-spelled-accepted {high} {t} {u} p at (full {ss} rest g) =
+spelled-accepted p at ends empty = refl
+spelled-accepted {high} {t} {u} p at ends (full {ss} rest g) =
     rw (ne-eqb (length (written high t ss rest)) 0 (omega (arith, written-some high t ss rest)))
-    (accepts high t u p ss rest [] (length (written high t ss rest)) at g (le-refl (length (written high t ss rest))))
+    (accepts high t u p ss rest [] (length (written high t ss rest)) at ends g (le-refl (length (written high t ss rest))))
 
 -- ---- what is accepted is spelled
 
@@ -191,19 +195,22 @@ apart-of (b ∷ bs) o e =
     let y : _≡_ {A = ℕ} 0 1 = cc in
     absurd (omega arith)
 
-good-of : (t u prev b : List ℕ) (n : ℕ) → 2 + length b + length t < 65536 → judgedOf u prev b ≡ Keyword n → Good t u (strOf b) × (rises prev (keyOf b) ≡ true)
+good-of : (t u prev b : List ℕ) (n : ℕ) → LineEnd u → 2 + length b + length t < 65536 → judgedOf u prev b ≡ Keyword n
+    → Good t u (strOf b) × (rises prev (keyOf b) ≡ true)
 unfolding keyLen gapLen
-good-of t u prev b n small e =
+good-of t u prev b n ends small e =
     let c = judged-clear u prev b n e .0 in
     let some = eqb-false (keyLen b) 0 (c .0) in
-    let k : length (keyOf b) ≡ keyLen b = length-take-le (keyLen b) b (keyLen-le b) in (
+    let k : length (keyOf b) ≡ keyLen b = length-take-le (keyLen b) b (keyLen-le b) in
+    let v = value-spelled u (keyOf b) (valueOf b) ends (not-false _ (c .1 .1 .0)) in (
       record {
         some = omega arith;
         keys = not-false _ (c .1 .0);
         blanks = run-all blank (afterKey b);
         starts = run-stops blank (afterKey b);
         apart = apart-of (afterKey b) (run-stops solid b);
-        values = not-false _ (c .1 .1 .0);
+        values = v .0;
+        lines = v .1;
         small = rw (text-back b) small;
       },
       not-false _ (c .1 .1 .1 .0),
@@ -234,10 +241,10 @@ done-written high t u p prev l at by e = go (frameOf high t l) refl e
 abbrev Listed : Bool → List ℕ → List ℕ → List ℕ → List ℕ → Type 0
 Listed high t u prev l = (ss : List Str) × (rest : List ℕ) × Rising t u prev ss × (l ≡ written high t ss rest)
 
-extend : (high : Bool) (t u : List ℕ) (p : Part) (prev l : List ℕ) (at o n : ℕ) → Bytes l → stepOf high t u p prev l at ≡ Next o n
+extend : (high : Bool) (t u : List ℕ) (p : Part) (prev l : List ℕ) (at o n : ℕ) → LineEnd u → Bytes l → stepOf high t u p prev l at ≡ Next o n
     → Listed high t u (take n (drop 2 l)) (drop o l) → Listed high t u prev l
 unfolding written body
-extend high t u p prev l at o n by e i =
+extend high t u p prev l at o n ends by e i =
     let b = next-fits high t u p prev l at o n e in
     let f = in-frame high t l o (b .0) in
     let x : List ℕ = body t o l in
@@ -246,7 +253,7 @@ extend high t u p prev l at o n by e i =
     let most : wordAt 2 high l 0 < 65536 = word-small 2 high l 0 by in
     let told : wordAt 2 high l 0 ≡ o = word-offset high l ∙ f .told in
     let size : 2 + length x + length t ≡ o = omega (arith, f .low) in
-    let g = good-of t u prev x n (omega arith) (b .1) in
+    let g = good-of t u prev x n ends (omega arith) (b .1) in
     let key : take n (drop 2 l) ≡ keyOf x = rw k (sym (take-take n (o - length t - 2) (drop 2 l) (omega (arith, keyLen-le x)))) in (
       strOf x ∷ i .0,
       i .1,
@@ -255,31 +262,31 @@ extend high t u p prev l at o n by e i =
           ∙ rw (text-back x, ← i .3) (ap (λ (j : ℕ). bytesOf 2 high j ++ (x ++ (t ++ drop o l))) (sym size)),
     )
 
-spells : (high : Bool) (t u : List ℕ) (p : Part) (m : ℕ) (l prev : List ℕ) (at : ℕ) → Bytes l → stringsFrom m high t u p prev l at ≡ Accepted
-    → Listed high t u prev l
+spells : (high : Bool) (t u : List ℕ) (p : Part) (m : ℕ) (l prev : List ℕ) (at : ℕ) → LineEnd u → Bytes l
+    → stringsFrom m high t u p prev l at ≡ Accepted → Listed high t u prev l
 unfolding stringsFrom
-spells high t u p zero l prev at by e = let z : _≡_ {A = ℕ} 0 1 = cc in absurd (omega arith)
-spells high t u p (suc m) l prev at by e = go (stepOf high t u p prev l at) refl e (λ r q j d k. spells high t u p m r q j d k)
+spells high t u p zero l prev at ends by e = let z : _≡_ {A = ℕ} 0 1 = cc in absurd (omega arith)
+spells high t u p (suc m) l prev at ends by e = go (stepOf high t u p prev l at) refl e (λ r q j d k. spells high t u p m r q j ends d k)
   where
     go : (s : Step) → stepOf high t u p prev l at ≡ s
         → onStep s (λ o n. stringsFrom m high t u p (take n (drop 2 l)) (drop o l) (at + o)) ≡ Accepted
         → ((r q : List ℕ) (j : ℕ) → Bytes r → stringsFrom m high t u p q r j ≡ Accepted → Listed high t u q r)
         → Listed high t u prev l
     go (Next o n) q k again =
-        extend high t u p prev l at o n by q (again (drop o l) (take n (drop 2 l)) (at + o) (bytes-drop o l by) k)
+        extend high t u p prev l at o n ends by q (again (drop o l) (take n (drop 2 l)) (at + o) (bytes-drop o l by) k)
     go Done q k again = ([], drop 2 l, tt, done-written high t u p prev l at by q)
     go (Bad r) q k again = let z : _≡_ {A = ℕ} 0 1 = cc in absurd (omega arith)
 
 as-spelled : (high : Bool) (t u l : List ℕ) (ss : List Str) (rest : List ℕ) → Rising t u [] ss → l ≡ written high t ss rest → Spells high t u ss l
 as-spelled high t u l ss rest g w = rw w (full rest g)
 
-pub accepted-spelled : (high : Bool) (t u : List ℕ) (p : Part) (l : List ℕ) (at : ℕ) → Bytes l → stringsOf high t u p l at ≡ Accepted
+pub accepted-spelled : (high : Bool) (t u : List ℕ) (p : Part) (l : List ℕ) (at : ℕ) → LineEnd u → Bytes l → stringsOf high t u p l at ≡ Accepted
     → (ss : List Str) × Spells high t u ss l
 unfolding stringsOf
-accepted-spelled high t u p [] at by e = ([], empty)
-accepted-spelled high t u p (x ∷ l) at by e =
+accepted-spelled high t u p [] at ends by e = ([], empty)
+accepted-spelled high t u p (x ∷ l) at ends by e =
     let k : stringsFrom (length (x ∷ l)) high t u p [] (x ∷ l) at ≡ Accepted = rw (ne-eqb (suc (length l)) 0 (omega arith)) at e in
-    let s = spells high t u p (length (x ∷ l)) (x ∷ l) [] at by k in
+    let s = spells high t u p (length (x ∷ l)) (x ∷ l) [] at ends by k in
     (s .0, as-spelled high t u (x ∷ l) (s .0) (s .1) (s .2) (s .3))
 
 -- ---- the strings that are read off an area are those that it spells

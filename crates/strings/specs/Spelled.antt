@@ -9,10 +9,10 @@ use Rattle.word.specs.Part.{part}
 use Rattle.word.specs.Word.{bytesOf}
 use Rattle.refusal.specs.Rows.{pick}
 use Rattle.strings.specs.declared.Place.{Place}
-use Rattle.text.specs.Chars.{blank, keyChar}
+use Rattle.text.specs.Chars.{blank, keyChar, note}
 use Rattle.text.specs.Runs.{all, same, Stops}
 use Rattle.text.specs.Order.{rises}
-use Rattle.text.specs.Note.{valueOk}
+use Rattle.text.specs.Note.{Characters, Lines}
 use Rattle.strings.specs.Strings.{keyIn, valueIn}
 
 -- a keyword, the separators after it, and the value
@@ -28,14 +28,15 @@ textOf s = s .key ++ (s .gap ++ s .value)
 abbrev pub sizeOf : List ℕ → Str → ℕ
 sizeOf t s = 2 + length (textOf s) + length t
 
--- a string that may be written
+-- a string that may be written. Its value "uses 32 to 126 and tab, in NOTE also whole line terminators", in any order
 pub record Good (t u : List ℕ) (s : Str) : Type 0 where
   pub some : 0 < length (s .key)
   pub keys : all keyChar (s .key) ≡ true
   pub blanks : all blank (s .gap) ≡ true
   pub starts : Stops blank (s .value)
   pub apart : s .gap ≡ [] → s .value ≡ []
-  pub values : valueOk u (s .key) (s .value) ≡ true
+  pub values : (s .key ≡ note → ⊥) → Characters (s .value)
+  pub lines : s .key ≡ note → Lines u (s .value)
   pub small : sizeOf t s < 65536
 
 -- each may be written, and each keyword may follow the one before

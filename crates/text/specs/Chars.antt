@@ -6,7 +6,8 @@ use mathlib.Core.List.{List, [], _∷_}
 use Prim.Native.Nat.{ℕ}
 use native.Mathlib.Omega.{arith}
 use lib.Dec.{leb, eqb}
-use borrow.Author.Tests.{leb-true, leb-false, eqb-true, ne-eqb, lt-leb}
+use borrow.Author.Tests.{leb-true, leb-false, eqb-true, ne-eqb, lt-leb, not-true}
+use Rattle.word.specs.Tests.{both}
 
 -- "spaces or tabs"
 abbrev pub blank : ℕ → Bool
@@ -57,3 +58,11 @@ solid-not-blank b h = go (blank b) h
     go : (w : Bool) → not w ≡ false → w ≡ true
     go true k = refl
     go false k = let z : _≡_ {A = ℕ} 0 1 = cc in absurd (omega arith)
+
+-- a terminator's character is none of a value
+pub control-no-value : (b : ℕ) → control b ≡ true → valueChar b ≡ false
+control-no-value b h =
+    let k = both (leb b 31) (not (eqb b 9)) h in
+    let l = leb-true b 31 (k .0) in
+    let n : eqb b 9 ≡ false = not-true (eqb b 9) (k .1) in
+    rw (lt-leb 32 b (omega arith), n)

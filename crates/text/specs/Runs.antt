@@ -145,3 +145,6 @@ pub same-refl : (xs : List ℕ) → same xs xs ≡ true
 unfolding same
 same-refl [] = refl
 same-refl (x ∷ xs) = rw (eq-eqb x x refl) (same-refl xs)
+
+pub same-not : (xs ys : List ℕ) → same xs ys ≡ false → xs ≡ ys → ⊥
+same-not xs ys h e = let k : same xs ys ≡ true = rw e (same-refl ys) in let z : _≡_ {A = ℕ} 0 1 = cc in omega arith
