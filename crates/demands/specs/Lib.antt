@@ -14,4 +14,5 @@ pub mod Samples
 pub mod Loss
 pub mod Locations
 pub mod Exported
+pub mod Notes
 pub mod Ignored
