@@ -4,7 +4,7 @@
 use seg2::raw;
 use seg2_bench::files::{file, file_with, trace_sheet};
 use seg2_bench::time::{least, Work};
-use seg2_bench::{plain, plain_file};
+use seg2_bench::{plain, plain_file, processor};
 use seg2_probe as proved;
 use seg2_reference::generate::Rng;
 use seg2_reference::samples::needed_bytes;
@@ -27,7 +27,11 @@ fn main() {
             }
         },
     };
-    println!("Least times of {rounds} rounds, the three kinds of work by turns.");
+    println!("Processor: {}.", processor::here());
+    if let Some(load) = processor::load() {
+        println!("Load of the machine in the minute before: {load}.");
+    }
+    println!("Least times of {rounds} rounds, the kinds of work by turns that change from round to round.");
     checks(rounds);
     long_texts(rounds);
     values(rounds);
