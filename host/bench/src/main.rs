@@ -35,6 +35,7 @@ fn main() {
     checks(rounds);
     long_texts(rounds);
     values(rounds);
+    each_trace(rounds);
     samples(rounds);
     searches(rounds);
     additions(rounds);
@@ -238,6 +239,38 @@ fn values(rounds: usize) {
                 a / b
             );
         }
+    }
+}
+
+/// Every question makes the check of the whole file first, so a question for each trace
+/// grows with the square of their number.
+fn each_trace(rounds: usize) {
+    println!("\nA value of each trace: one question, and that times the traces. Opened and walked: Rust's way through all blocks and strings.\n");
+    println!("| traces | one question us | for each trace ms | opened and walked ms |");
+    println!("|---|---|---|---|");
+    for traces in [24, 240, 2_000, 16_000] {
+        let mut bytes = file(0, traces, 500);
+        let part = traces as i32 / 2;
+        assert_eq!(value(&bytes, part, b"STACK").0, 0);
+        let ask: Work<Vec<u8>> = &|file| {
+            black_box(value(file, part, black_box(b"STACK")));
+        };
+        let walk: Work<Vec<u8>> = &|file| {
+            let open = seg2::File::open(file).expect("a file");
+            assert!(open.walk().count() > traces);
+        };
+        let rounds = if traces > 1_000 {
+            rounds.div_ceil(8)
+        } else {
+            rounds
+        };
+        let [a, b] = least(&mut bytes, rounds, [ask, walk]);
+        println!(
+            "| {traces} | {:.1} | {:.2} | {:.3} |",
+            a / 1e3,
+            a * traces as f64 / 1e6,
+            b / 1e6
+        );
     }
 }
 
