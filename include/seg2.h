@@ -32,6 +32,16 @@
 #include <stddef.h>
 #include <stdint.h>
 
+/* A system whose size_t has not 64 bits is refused here: its places and lengths are not those that the library reads. C99 has
+ * no word for it, but no array of -1 elements either. */
+#if defined(__cplusplus)
+static_assert(sizeof(size_t) == 8, "seg2.h: size_t has 64 bits: the library is for 64-bit systems");
+#elif defined(__STDC_VERSION__) && __STDC_VERSION__ >= 201112L
+_Static_assert(sizeof(size_t) == 8, "seg2.h: size_t has 64 bits: the library is for 64-bit systems");
+#else
+typedef char seg2_size_t_has_64_bits[sizeof(size_t) == 8 ? 1 : -1];
+#endif
+
 #ifdef __cplusplus
 extern "C" {
 #endif

@@ -4,7 +4,7 @@
 # `rt staticlib` runs, and the kit's own clang compiles the same module for another triple. Only what names x86-64 in it is changed: the triple, the
 # data layout and the processor's name. Whatever else could differ between the two machines ends the script.
 #
-# The script that sources this has set `me`, its own name for messages, and stands in the repository's root.
+# The script that sources this has set `me`, its own name for messages, stands in the repository's root and has sourced lib-install.sh.
 
 die() {
     printf '%s: %s\n' "$me" "$*" >&2
@@ -13,8 +13,7 @@ die() {
 
 # The kit, found as rt finds itself. Sets kit, machine, tools and clang.
 find_kit() {
-    self=$(command -v rt) || die "rt is missing: the Rattle kit has to be installed and on PATH"
-    kit=${RATTLE_HOME:-$(dirname "$(readlink -f "$self")")/..}
+    kit=${RATTLE_HOME:-$(dirname "$(readlink -f "$(command -v rt)")")/..}
     kit=$(cd "$kit" && pwd -P)
     machine=$(uname -m)
     tools=$kit/on/$machine/toolchain
@@ -22,6 +21,49 @@ find_kit() {
     for tool in clang llvm-ar; do
         [ -x "$tools/bin/$tool" ] || die "the kit at $kit has no $tool for $machine"
     done
+}
+
+# below NAME: the crates of the repository that NAME stands on, one a line.
+below() {
+    awk -v name="$1" '
+        function reach(n,    a, k, m) {
+            m = split(deps[n], a, " ")
+            for (k = 1; k <= m; k++) if (a[k] in deps && !(a[k] in seen)) { seen[a[k]] = 1; print a[k]; reach(a[k]) }
+        }
+        { sub(/#.*/, "") }
+        /:/ { n = $0; sub(/:.*/, "", n); gsub(/[ \t]/, "", n); sub(/^[^:]*:/, ""); deps[n] = $0 }
+        END { reach(name) }' crates.txt
+}
+
+# prove_below NAME WORK: proves what the crate stands on, four at a time, and tells how far it is. `rt staticlib` would prove the same one by one and
+# without a word. What was proved before and has not changed is passed over.
+prove_below() {
+    names=$(below "$1")
+    [ -n "$names" ] || return 0
+    all=$(($(printf '%s\n' "$names" | wc -l) + 1))
+    # rt's own end comes through a file: a pipe has the end of its last command only
+    # shellcheck disable=SC2086
+    {
+        ended=0
+        RT_JOBS=${RT_JOBS:-4} rt check $names 2>&1 || ended=$?
+        echo "$ended" >"$2/ended"
+    } | tee "$2/below.out" | {
+        # no awk: Debian's waits for more lines than one
+        n=0
+        while IFS= read -r line; do
+            case $line in
+            "rt: "*" proved (unchanged"*) n=$((n + 1)) ;;
+            "rt: "*" proved ("*)
+                n=$((n + 1))
+                printf '%s: crate %d of %d: %s\n' "$me" "$n" "$all" "${line#rt: }"
+                ;;
+            esac
+        done
+    }
+    [ "$(cat "$2/ended")" = 0 ] || {
+        grep -vE '^rt: [a-z0-9_]+ proved ' "$2/below.out" | tail -n 40 >&2
+        die "not all is proved that $1 stands on, so nothing is built"
+    }
 }
 
 links() { # FROM TO EXCEPT: in TO a link to each entry of FROM but one

@@ -5,4 +5,5 @@
 pub mod files;
 pub mod plain;
 pub mod plain_file;
+pub mod processor;
 pub mod time;

@@ -4,7 +4,7 @@
 use seg2::raw;
 use seg2_bench::files::{file, file_with, trace_sheet};
 use seg2_bench::time::{least, Work};
-use seg2_bench::{plain, plain_file};
+use seg2_bench::{plain, plain_file, processor};
 use seg2_probe as proved;
 use seg2_reference::generate::Rng;
 use seg2_reference::samples::needed_bytes;
@@ -27,10 +27,15 @@ fn main() {
             }
         },
     };
-    println!("Least times of {rounds} rounds, the three kinds of work by turns.");
+    println!("Processor: {}.", processor::here());
+    if let Some(load) = processor::load() {
+        println!("Load of the machine in the minute before: {load}.");
+    }
+    println!("Least times of {rounds} rounds, the kinds of work by turns that change from round to round.");
     checks(rounds);
     long_texts(rounds);
     values(rounds);
+    each_trace(rounds);
     samples(rounds);
     searches(rounds);
     additions(rounds);
@@ -234,6 +239,38 @@ fn values(rounds: usize) {
                 a / b
             );
         }
+    }
+}
+
+/// Every question makes the check of the whole file first, so a question for each trace
+/// grows with the square of their number.
+fn each_trace(rounds: usize) {
+    println!("\nA value of each trace: one question, and that times the traces. Opened and walked: Rust's way through all blocks and strings.\n");
+    println!("| traces | one question us | for each trace ms | opened and walked ms |");
+    println!("|---|---|---|---|");
+    for traces in [24, 240, 2_000, 16_000] {
+        let mut bytes = file(0, traces, 500);
+        let part = traces as i32 / 2;
+        assert_eq!(value(&bytes, part, b"STACK").0, 0);
+        let ask: Work<Vec<u8>> = &|file| {
+            black_box(value(file, part, black_box(b"STACK")));
+        };
+        let walk: Work<Vec<u8>> = &|file| {
+            let open = seg2::File::open(file).expect("a file");
+            assert!(open.walk().count() > traces);
+        };
+        let rounds = if traces > 1_000 {
+            rounds.div_ceil(8)
+        } else {
+            rounds
+        };
+        let [a, b] = least(&mut bytes, rounds, [ask, walk]);
+        println!(
+            "| {traces} | {:.1} | {:.2} | {:.3} |",
+            a / 1e3,
+            a * traces as f64 / 1e6,
+            b / 1e6
+        );
     }
 }
 

@@ -110,7 +110,7 @@ fn head<const HIGH: bool>(file: &[u8], grow: bool) -> Result<Checked<'_>, Refuse
     if word(2) != 1 {
         return Err((3, -1, 2));
     }
-    if m < 4 || !m.is_multiple_of(4) {
+    if m < 4 || m % 4 != 0 {
         return Err((4, -1, 4));
     }
     if n == 0 && !grow || n > m / 4 {
@@ -147,7 +147,7 @@ fn terminator(file: &[u8], place: usize) -> Option<&[u8]> {
 fn pointer<const HIGH: bool>(found: &Checked, k: usize, end: usize) -> Result<usize, Refused> {
     let slot = 32 + 4 * k;
     let p = four::<HIGH>(at(found.file, slot));
-    match p.is_multiple_of(4) && p >= end && p + 32 <= found.file.len() {
+    match p % 4 == 0 && p >= end && p + 32 <= found.file.len() {
         true => Ok(p),
         false => Err((8, k as i32, slot)),
     }
@@ -164,10 +164,10 @@ fn trace<const HIGH: bool>(found: &Checked, k: usize, end: usize) -> Result<usiz
     if two::<HIGH>([fixed[0], fixed[1]]) != 0x4422 {
         return Err((9, part, p));
     }
-    if b < 32 || !b.is_multiple_of(4) || p + b > file.len() {
+    if b < 32 || b % 4 != 0 || p + b > file.len() {
         return Err((10, part, p + 2));
     }
-    if !d.is_multiple_of(4) || p + b + d > file.len() {
+    if d % 4 != 0 || p + b + d > file.len() {
         return Err((11, part, p + 4));
     }
     let needed = match fixed[12] {
@@ -177,7 +177,7 @@ fn trace<const HIGH: bool>(found: &Checked, k: usize, end: usize) -> Result<usiz
         5 => 8 * s,
         _ => return Err((12, part, p + 12)),
     };
-    if fixed[12] == 3 && !s.is_multiple_of(4) || needed > d {
+    if fixed[12] == 3 && s % 4 != 0 || needed > d {
         return Err((13, part, p + 8));
     }
     strings::<HIGH>(found, part, p + 32, p + b)?;
@@ -310,7 +310,7 @@ pub fn add_integers(
     row: &[i32],
 ) -> Result<usize, Refused> {
     let samples = || {
-        if !(1..=3).contains(&code) || code == 3 && !row.len().is_multiple_of(4) {
+        if !(1..=3).contains(&code) || code == 3 && row.len() % 4 != 0 {
             return Err((28, -1, 0));
         }
         match plain::first_outside(code as u8, row) {

@@ -137,7 +137,7 @@ impl<'a> Fields<'a> {
 
     fn bytes(&mut self, name: &str) -> Result<Vec<u8>, String> {
         let digits = self.value(name)?.as_bytes();
-        if !digits.len().is_multiple_of(2) || !digits.iter().all(u8::is_ascii_hexdigit) {
+        if digits.len() % 2 != 0 || !digits.iter().all(u8::is_ascii_hexdigit) {
             return Err(format!("{name} is not hexadecimal"));
         }
         let digit = |d: u8| char::from(d).to_digit(16).unwrap_or(0) as u8;

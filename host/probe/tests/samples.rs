@@ -17,7 +17,7 @@ const ORDERS: [(Order, bool); 2] = [(Order::Low, false), (Order::High, true)];
 /// The row of so many integers by the reference, or none where the block is too
 /// short, the code is not one of integers, or they are no whole groups.
 fn integers_expected(code: u8, order: Order, block: &[u8], count: usize) -> Option<Vec<i32>> {
-    if code == 3 && !count.is_multiple_of(4) {
+    if code == 3 && count % 4 != 0 {
         return None;
     }
     let decoded = decode_integers(code, order, block)?;

@@ -119,7 +119,7 @@ impl<'a> Head<'a> {
         let m = u16_at(image, 4, order);
         let n = u16_at(image, 6, order);
         refuse_if(revision != 1, Refusal::file(3, 2))?;
-        refuse_if(m < 4 || !m.is_multiple_of(4), Refusal::file(4, 4))?;
+        refuse_if(m < 4 || m % 4 != 0, Refusal::file(4, 4))?;
         refuse_if(n == 0 && purpose == Purpose::Reading, Refusal::file(5, 6))?;
         refuse_if(n > m / 4, Refusal::file(5, 6))?;
         let terminators = terminators(image)?;
@@ -142,7 +142,7 @@ impl<'a> Head<'a> {
         let slot = FIXED_PART + 4 * usize::from(k);
         let p = u32_at(self.image, slot, self.order);
         let refusal = Refusal::new(8, i64::from(k), slot);
-        refuse_if(!p.is_multiple_of(4), refusal)?;
+        refuse_if(p % 4 != 0, refusal)?;
         refuse_if(u64::from(p) < previous_end, refusal)?;
         refuse_if(self.past_the_end(u64::from(p) + FIXED_PART as u64), refusal)?;
         Ok(p)
@@ -184,16 +184,14 @@ impl<'a> Head<'a> {
         };
         let identifier = u16_at(self.image, at, self.order);
         refuse_if(identifier != 0x4422, Refusal::new(9, part, at))?;
-        let bad_size =
-            trace.b < 32 || !trace.b.is_multiple_of(4) || self.past_the_end(trace.data_start());
+        let bad_size = trace.b < 32 || trace.b % 4 != 0 || self.past_the_end(trace.data_start());
         refuse_if(bad_size, Refusal::new(10, part, at + 2))?;
-        let bad_data = !trace.d.is_multiple_of(4) || self.past_the_end(trace.end());
+        let bad_data = trace.d % 4 != 0 || self.past_the_end(trace.end());
         refuse_if(bad_data, Refusal::new(11, part, at + 4))?;
         let Some(needed) = needed_bytes(trace.code, u64::from(trace.s)) else {
             return Err(Refusal::new(12, part, at + 12));
         };
-        let bad_count =
-            trace.code == 3 && !trace.s.is_multiple_of(4) || needed > u64::from(trace.d);
+        let bad_count = trace.code == 3 && trace.s % 4 != 0 || needed > u64::from(trace.d);
         refuse_if(bad_count, Refusal::new(13, part, at + 8))?;
         Ok(trace)
     }

@@ -135,10 +135,7 @@ fn class(exponent: u64, all_ones: u64, fraction: u64) -> u8 {
 /// Integers as the D bytes of a data block, or refusal 28 or 29.
 pub fn encode_integers(code: u8, order: Order, row: &[i32]) -> Result<Vec<u8>, Refusal> {
     refuse_if(!matches!(code, 1..=3), Refusal::file(28, 0))?;
-    refuse_if(
-        code == 3 && !row.len().is_multiple_of(4),
-        Refusal::file(28, 0),
-    )?;
+    refuse_if(code == 3 && row.len() % 4 != 0, Refusal::file(28, 0))?;
     if let Some(index) = row.iter().position(|&sample| !fits(code, sample)) {
         return Err(Refusal::file(29, index));
     }

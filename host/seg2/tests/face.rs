@@ -61,11 +61,12 @@ fn the_same_functions_are_declared_everywhere() {
     let in_rust = raw.lines().filter_map(|l| name_after(l, "pub fn seg2_"));
     let in_rust = sorted(in_rust.map(|name| format!("seg2_{name}")).collect());
     assert_eq!(in_rust, exported, "src/raw.rs");
-    // a declaration starts at the line's start and is not static
+    // a declaration starts at the line's start and is neither static nor a type
     let text = header();
     let in_c = text
         .lines()
-        .filter(|l| !l.starts_with([' ', '#']) && !l.starts_with("static "))
+        .filter(|l| !l.starts_with([' ', '#']))
+        .filter(|l| !l.starts_with("static ") && !l.starts_with("typedef "))
         .filter_map(|l| name_after(l, " "))
         .collect();
     assert_eq!(sorted(in_c), exported, "include/seg2.h");

@@ -5,6 +5,7 @@
 mod c;
 
 use c::{compiled, here, printed, root, Temporary};
+use std::process::Command;
 
 /// What header.c prints before the table's words.
 const ANSWERS: &str = "\
@@ -75,6 +76,36 @@ fn a_c_program_gets_the_answers_of_document_01() {
     let program =
         compiled("cc", &options, &here().join("tests/header.c"), "header-c").expect("a C compiler");
     assert_eq!(printed(&program), expected());
+}
+
+/// A system of 32 bits, as far as the header sees one: `size_t` is renamed before it is read.
+#[test]
+fn a_size_t_of_32_bits_is_refused() {
+    for (compiler, standard, language) in [
+        ("cc", "-std=c99", "c"),
+        ("cc", "-std=c11", "c"),
+        ("c++", "-std=c++11", "c++"),
+    ] {
+        for (kind, taken) in [("uint64_t", true), ("uint32_t", false)] {
+            let source = Temporary::new("sizes.h");
+            let lines =
+                format!("#include <stddef.h>\n#include <stdint.h>\n#define size_t {kind}\n#include \"seg2.h\"\n");
+            std::fs::write(source.path(), lines).expect("a file");
+            let out = Command::new(compiler)
+                .args([standard, "-fsyntax-only", "-Wall", "-Wextra", "-Wpedantic"])
+                .args(["-Werror", "-x", language, "-I"])
+                .arg(root().join("include"))
+                .arg(source.path())
+                .output();
+            let Ok(out) = out else {
+                assert_ne!(compiler, "cc", "a C compiler");
+                continue;
+            };
+            let said = String::from_utf8_lossy(&out.stderr);
+            assert_eq!(out.status.success(), taken, "{standard} {kind}: {said}");
+            assert!(taken || said.contains("64"), "{standard}: {said}");
+        }
+    }
 }
 
 #[test]

@@ -190,7 +190,7 @@ impl Model {
 }
 
 fn fill_to_4(bytes: &mut Vec<u8>) {
-    while !bytes.len().is_multiple_of(4) {
+    while bytes.len() % 4 != 0 {
         bytes.push(FILLER);
     }
 }

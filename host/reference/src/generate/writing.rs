@@ -252,10 +252,7 @@ fn some_row(rng: &mut Rng) -> (u8, Row, [Option<Refusal>; 2]) {
             good
         };
         let row = some_integers(rng, code, count, wild);
-        let no_kind = when(
-            !(1..=3).contains(&code) || code == 3 && !count.is_multiple_of(4),
-            28,
-        );
+        let no_kind = when(!(1..=3).contains(&code) || code == 3 && count % 4 != 0, 28);
         let outside = row.iter().position(|&v| is_outside(code, v));
         let outside = outside.map(|index| Refusal::file(29, index));
         (code, Row::Integers(row), [no_kind, outside])

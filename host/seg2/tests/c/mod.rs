@@ -40,7 +40,7 @@ pub fn compiled(compiler: &str, options: &[&str], source: &Path, name: &str) -> 
         .arg(source)
         // what an -x among the options says holds no longer
         .args(["-x", "none"])
-        .arg(root().join("target/native/libseg2.a"))
+        .arg(root().join("archives/native/libseg2.a"))
         .arg("-o")
         .arg(program.path())
         .status();
