@@ -6,16 +6,18 @@ use mathlib.Core.List.{List, _++_}
 use Prim.Native.Nat.{ℕ, _+_, _-_, _≤_, _<_}
 use native.Mathlib.Nat.{le-of-eq, le-refl}
 use native.Mathlib.Omega.{arith}
-use lib.ListN.{length, drop}
+use lib.ListN.{length, drop, length-drop}
 use Rattle.word.specs.Part.{part, length-part, part-rest}
 use Rattle.refusal.specs.declared.Part.{Part}
 use Rattle.strings.specs.declared.Place.{Place}
 use Rattle.strings.specs.declared.Found.the-variants.{Nothing, Is}
-use Rattle.text.specs.Note.{lineLen, linesOf}
+use Rattle.text.specs.Note.{lineLen, linesOf, lineLen-le}
 use Rattle.strings.specs.Strings.{placesOf, nthOf}
 use Rattle.lookup.specs.Lists.{In}
 use Rattle.strings.specs.Spelled.{strsIn}
-use Rattle.lines.specs.Lines.{stringLine}
+use Rattle.lines.specs.Lines.{label, stringLine}
+use Rattle.lines.specs.Sizes.{length-line}
+use Rattle.lines.specs.Spaced.{length-spaced}
 use Rattle.listing.specs.Listing.{linesText, stringsText, traceText, tracesText}
 use Rattle.lines.specs.Wrote.{Room, Wrote, Left, left-start, left-room, left-turn, left-over, left-last-room, left-last}
 use Rattle.listing.specs.Turns.{line-on, line-last, lines-more, lines-one, textFrom, lineText, string-in, string-next, string-none, strings-over, trace-next, traces-over}
@@ -24,15 +26,17 @@ use Rattle.listing.specs.Turns.{line-on, line-last, lines-more, lines-on
 module _ (out₀ : List ℕ) (at : ℕ) (p : Part) (key u v : List ℕ) where
   abbrev pub Lining : ℕ → ℕ → ℕ → List ℕ → Type 0
   Lining from to e out =
-      (e ≡ from + lineLen u (drop from v)) × (from ≤ length v) × (length out ≡ length out₀)
+      (e ≡ from + lineLen u (drop from v)) × ((from ≤ e) × (e ≤ length v)) × (length out ≡ length out₀)
       × ((m : ℕ) × (length (drop from v) ≤ m) × Left out₀ at (linesText p key (linesOf (length v) u v)) to (linesText p key (linesOf m u (drop from v))) out)
 
   pub lining-start : (e : ℕ) → e ≡ 0 + lineLen u (drop 0 v) → Lining 0 at e out₀
-  lining-start e q = (q, omega arith, refl, (length v, le-refl (length v), left-start out₀ at _))
+  lining-start e q =
+      let k = lineLen-le u v in
+      (q, (omega arith, omega arith), refl, (length v, le-refl (length v), left-start out₀ at _))
 
   module _ (from to e : ℕ) (out : List ℕ) (l : Lining from to e out) where
     pub lining-fits : 0 < length u → e < length v → (from ≤ e) × (e + length u ≤ length v)
-    lining-fits s h = let q = l .0 in (omega arith, line-on u v from e (l .3 .0) q (l .3 .1) s h .0)
+    lining-fits s h = (l .1 .0, line-on u v from e (l .3 .0) (l .0) (l .3 .1) s h .0)
 
     rest : 0 < length u → e < length v
         → linesText p key (linesOf (l .3 .0) u (drop from v))
@@ -49,15 +53,23 @@ module _ (out₀ : List ℕ) (at : ℕ) (p : Part) (key u v : List ℕ) where
     lining-turn s h r new w d q =
         let o = line-on u v from e (l .3 .0) (l .0) (l .3 .1) s h in
         let t = left-turn out₀ at _ to _ out (l .3 .2) (stringLine p key (part from e v)) _ (rest s h) r new w in
-        (q, o .0, t .2, (l .3 .0 - 1, o .1, t))
+        let k = lineLen-le u (drop (e + length u) v) in
+        let n = length-drop (e + length u) v in
+        (q, (omega arith, omega (arith, o .0)), t .2, (l .3 .0 - 1, o .1, t))
 
     last : length v ≤ e → linesText p key (linesOf (l .3 .0) u (drop from v)) ≡ stringLine p key (part from (length v) v)
     last h =
         ap (linesText p key) (line-last u v from e (l .3 .0) (l .0) (l .3 .1) h) ∙ lines-one p key (drop from v)
         ∙ ap (stringLine p key) (sym (part-rest from v))
 
-    pub lining-last-room : length v ≤ e → Room out₀ at (linesText p key (linesOf (length v) u v)) → Room out to (stringLine p key (part from (length v) v))
-    lining-last-room h r = left-last-room out₀ at _ to _ out (l .3 .2) (stringLine p key (part from (length v) v)) (last h) r
+    -- there is room for the last line, and for every end of it
+    pub lining-last-room : length v ≤ e → Room out₀ at (linesText p key (linesOf (length v) u v)) → (k : ℕ) → from ≤ k
+        → Room out to (stringLine p key (part k (length v) v))
+    lining-last-room h r k low =
+        let whole = left-last-room out₀ at _ to _ out (l .3 .2) (stringLine p key (part from (length v) v)) (last h) r in
+        let long : (j : ℕ) → length (stringLine p key (part j (length v) v)) ≡ length (label p key) + (length v - j + 1) =
+        λ j. length-line p key (part j (length v) v) ∙ rw (length-spaced (part j (length v) v), length-part j (length v) v (le-refl (length v))) in
+        omega (arith, long from, long k)
 
     pub lining-last : length v ≤ e → (r : ℕ) (new : List ℕ) → Wrote out to (stringLine p key (part from (length v) v)) r new
         → Wrote out₀ at (linesText p key (linesOf (length v) u v)) r new
