@@ -1,5 +1,6 @@
 // The stores of an addition (document 01, "What we write"): the gap, the new trace at the old end rounded up, its pointer and N, in this order.
 // Grown has the definition. The free end of the buffer is lent to the writer of the trace. Stands on `layout`, `head`.
+// The rules in words: docs/FORMAT.md, "What we write".
 ghost use mathlib.Core.Path.{_≡_};
 ghost use Prim.Native.Nat.{_+_, _-_, _*_, _≤_, _<_};
 ghost use lib.ListN.{length};

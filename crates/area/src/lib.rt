@@ -1,6 +1,7 @@
 // A sheet written as an area of strings (document 01, "What we write"): strings in the sheet's order, NOTE's lines joined, the end mark, zeros.
 // Writing has what each store leaves, Spelling and Meaning that the area spells exactly the sheet's list. Stands on `sheet`, `strings`, `text`, `word`.
 // part is the lent memory, to the next free place in it; t, u and `high` are the file's terminators and byte order.
+// The rules in words: docs/FORMAT.md, "What we write".
 ghost use mathlib.Core.Path.{_≡_};
 ghost use mathlib.Core.List.{_++_};
 ghost use Prim.Native.Nat.{_+_, _≤_, _<_};

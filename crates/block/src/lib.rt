@@ -1,6 +1,7 @@
 // The trace block (document 01, "The trace block", rows 8 to 13): its pointer, sizes, format code and sample count.
 // Block has the definitions, BlockLaws what a trace that passes the rows has. Stands on `sample`, `word`, `refusal`.
 // f is the image; `high` is its byte order, k the trace, p its pointer.
+// The rules in words: docs/FORMAT.md, "The trace block".
 use refusal::Part;
 use refusal::Refusal;
 use refusal::Rule;

@@ -1,5 +1,6 @@
 // Numbers in values: a text as sign, coefficient and power of ten (document 01, "Numbers in values", rows 20 and 21).
 // Number has the walk and Grammar the rule, proved equal in Agreed; Meaning says what the answer is worth, Marks what is never a number. Stands on `text`, `word`, `refusal`.
+// The rules in words: docs/FORMAT.md, "Numbers in values".
 use refusal::Part;
 use refusal::Refusal;
 use refusal::Rule;

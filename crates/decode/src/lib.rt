@@ -1,5 +1,6 @@
 // The five sample codes read, on a data block alone (document 01, "Samples"): integers of codes 1 to 3, patterns and classes of codes 4 and 5.
 // Sample has the definitions, Classes holds the classes against IEEE 754. `high` says that the high byte comes first. Stands on `sample`, `word`.
+// The rules in words: docs/FORMAT.md, "Samples".
 ghost use mathlib.Core.Path.{_≡_};
 ghost use mathlib.Core.List.{map};
 ghost use Prim.Native.Nat.{_+_, _*_, _%_, _≤_, _<_};

@@ -1,5 +1,6 @@
 // A number as a double, rounded once, and locations of one or three doubles (document 01, "As a double" and "Numbers in values", rows 22 and 23).
 // Double, Values and Location have the definitions, Rounded the proof that a double is the decimal value rounded once. Stands on `decimal`, `text`, `refusal`.
+// The rules in words: docs/FORMAT.md, "Numbers in values".
 use decimal::Decimal;
 use decimal::Kind;
 use decimal::NumberAnswer;

@@ -1,5 +1,6 @@
 // The five sample codes written, on a data block alone (document 01, "Samples", refusal 29): the first sample that a code cannot hold, and the block.
 // Unfit and Write have the definitions; Back and Cut say what is read back: the samples, or code 3's nearest towards 0. Stands on `decode`, `sample`, `word`.
+// The rules in words: docs/FORMAT.md, "Samples".
 ghost use mathlib.Core.Path.{_≡_};
 ghost use Prim.Native.Nat.{_+_, _*_, _%_, _≤_, _<_};
 ghost use lib.IntN.{natAbs};

@@ -1,5 +1,6 @@
 // The answers as they cross to another language: C structs of numbers, each beginning with the refusal's number in document 01's table (0: none), its
 // part (-1 for the file, else the trace) and its place. Face has the definitions; include/seg2.h declares the structs. Stands on `reader`, `start`, `double` and what they stand on.
+// The rules in words: docs/FORMAT.md, "Refusal numbers, in order of checking".
 use decimal::NumberAnswer;
 use double::DoubleAnswer;
 use double::LocationAnswer;

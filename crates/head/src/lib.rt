@@ -1,6 +1,7 @@
 // The file block (document 01, "The file block", rows 2 to 7): byte order, revision, pointer room, count and the two terminators.
 // Head has the definitions, HeadLaws what an image that passes the rows has. Stands on `text`, `word`, `refusal`.
 // f is the image, the first `n` bytes of the lent buffer; `grow` says that an addition asks.
+// The rules in words: docs/FORMAT.md, "The file block".
 use refusal::Part;
 use refusal::Refusal;
 use refusal::Rule;

@@ -1,6 +1,7 @@
 // The check of a whole file (document 01, rows 1 to 17, in the order of its table). Image has the walk, Keeps the rules in no order; Accepted proves
 // that an image is accepted exactly where it keeps the rules, Broken that a refusal is the first row met. Stands on `head`, `block`, `strings`.
 // f is the image, the first `n` bytes of the lent buffer; t and u are its terminators, `grow` says that an addition asks.
+// The rules in words: docs/FORMAT.md, "Refusal numbers, in order of checking".
 use refusal::Part;
 use refusal::Refusal;
 use refusal::Rule;

@@ -1,6 +1,7 @@
 // The bytes that are written (document 01, "What we write"): a file block with its slots and strings, and a trace with its strings and data, each
 // stored where the caller lends it. Layout has the definitions, LayoutLaws what stands where, Stores that the stores make them.
 // Stands on `area`, `encode`, `block`, `head` and what they stand on.
+// The rules in words: docs/FORMAT.md, "What we write".
 use encode::Fit;
 use sheet::Measured;
 ghost use mathlib.Core.Path.{_≡_};

@@ -1,6 +1,7 @@
 // The lines of a listing, stored one behind the other in a row that the caller lends (document 01, the end of "Worked values").
 // Lines and Digits have the definitions, Wrote what a stored piece leaves. Stands on `text`, `word`, `refusal`.
 // A piece is stored from the place `at` on; its function answers the place behind it.
+// The rules in words: docs/FORMAT.md, "Worked values".
 use refusal::Part;
 use refusal::Refusal;
 use refusal::Rule;

@@ -1,6 +1,7 @@
 // What the listing program prints, into a row of bytes that the caller lends (document 01, the end of "Worked values", and row 19).
 // Listing has the definitions; Room proves that 16 bytes for each of the input's and 64 more are enough, Printed that the strings are those that the file spells.
 // Stands on `lines`, `lookup`, `image` and what they stand on.
+// The rules in words: docs/FORMAT.md, "Worked values".
 use refusal::Part;
 use refusal::Refusal;
 use refusal::Rule;

@@ -1,5 +1,6 @@
 // Questions on the list of strings that an area spells: how many, the i-th, the one with a keyword; keywords and values as parts of the lent file
 // (document 01, "Strings"). The definitions are those of `strings`; Lists has what a walk along the list needs. Stands on `strings`, `text`.
+// The rules in words: docs/FORMAT.md, "Strings".
 use strings::Entry;
 use strings::Found;
 use strings::Frame;

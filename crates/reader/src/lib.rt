@@ -1,6 +1,7 @@
 // The questions on a file: blocks, strings, keywords and numbers in values (document 01, rows 18, 20 to 23). Questions has the definitions, those of
 // samples too; Listed, Answers, First, Same and Reach are the second view. Every question checks the whole file first; its answer is one of the image,
 // the first `n` bytes of the lent buffer. A part is -1 for the file, else the trace. Stands on `image`, `lookup`, `double` and what they stand on.
+// The rules in words: docs/FORMAT.md, "Strings".
 use block::TraceBlock;
 use decimal::NumberAnswer;
 use double::DoubleAnswer;

@@ -1,5 +1,6 @@
 // What reading and writing samples share (document 01, "Samples"): how many bytes a count of samples takes, and a word of 2, 4 or 8 bytes in either
 // byte order, turned as a whole. Definitions in Needed, Run and Turned. Stands on `word`.
+// The rules in words: docs/FORMAT.md, "Samples".
 ghost use mathlib.Core.Path.{_≡_};
 ghost use Prim.Native.Nat.{_≤_, _<_};
 ghost use Rattle.sample.specs.Needed.{needed, room};

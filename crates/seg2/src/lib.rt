@@ -1,5 +1,6 @@
 // The face for other languages: thin functions on numbers and byte slices, each with a whole promise and no `requires`. include/seg2.h declares them.
 // The answers are those of `image`, `reader`, `traces`, `start` and `writer`, as `face` hands them over.
+// The rules in words: docs/FORMAT.md, "Refusal numbers, in order of checking".
 use face::Seg2Count;
 use face::Seg2Double;
 use face::Seg2File;

@@ -1,5 +1,6 @@
 // The listing program: one file from standard input, its listing to standard output (document 01, the end of "Worked values"). It reads one byte more
 // than 65,536, so that row 19 is seen. The work is in `listing`.
+// The rules in words: docs/FORMAT.md, "Worked values".
 use listing::Listed;
 ghost use mathlib.Core.Path.{_≡_};
 ghost use lib.ListN.{length};

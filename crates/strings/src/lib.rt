@@ -1,6 +1,7 @@
 // The strings of an area: one string, a list of strings and the check of both (document 01, "Strings", rows 14 to 17). Strings has the definitions,
 // Spelled and Paper the second view: an area is accepted exactly where it spells a list of strings, and only one. Stands on `text`, `word`, `refusal`.
 // An area is the bytes of a file from place a to place e; t is the string terminator, u the line terminator, `high` the byte order.
+// The rules in words: docs/FORMAT.md, "Strings".
 use refusal::Part;
 use refusal::Refusal;
 use refusal::Rule;

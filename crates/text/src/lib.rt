@@ -1,5 +1,6 @@
 // Characters and texts (document 01, "Strings"): which bytes a keyword and a value may have, runs of them, the order of keywords, NOTE and its lines.
 // Definitions in Chars, Runs, Order and Note. Stands on `word` and `refusal`, for laws alone.
+// The rules in words: docs/FORMAT.md, "Strings".
 ghost use mathlib.Core.Path.{_≡_};
 ghost use Prim.Native.Nat.{_+_, _≤_, _<_};
 ghost use lib.ListN.{length, drop};

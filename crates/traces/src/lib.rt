@@ -1,5 +1,6 @@
 // The samples of a trace, as integers or as bits and classes (document 01, "Samples", rows 18, 32, 33). The definitions are those of reader/Questions;
 // Samples has a law for each answer. The trace's data is handed to `decode` as a part of the lent file. Stands on `reader`, `decode` and what they stand on.
+// The rules in words: docs/FORMAT.md, "Samples".
 use block::TraceBlock;
 use reader::TraceAnswer;
 use refusal::Part;

@@ -1,6 +1,7 @@
 // The worked values of document 01 and the examples of the paper (document 001), run against the proved functions. Each group writes one line, and
 // the stored output is what they have to write. Stands on the leaves (`image`, `strings`, `lookup`, `decode`, `encode`, `decimal`, `double`) and, for
 // what is written and read back, on `start`, `writer` and `traces`.
+// The rules in words: docs/FORMAT.md, "Worked values".
 use decimal::NumberAnswer;
 use double::DoubleAnswer;
 use double::LocationAnswer;

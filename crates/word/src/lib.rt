@@ -1,6 +1,7 @@
 // Whole numbers of 2, 4 and 8 bytes in either order, at a place of a slice; bytes stored from a place on; rounding up to 4.
 // Word, Put and Part have the definitions; Tests and Signed the laws of tests and of signed numbers that all crates use. Stands on nothing.
 // `high` says that the high byte comes first (document 01, "The file block").
+// The rules in words: docs/FORMAT.md, "The file block".
 ghost use mathlib.Core.Path.{_≡_};
 ghost use Prim.Native.Nat.{_+_, _-_, _≤_, _<_};
 ghost use lib.ListN.{length, replicate};

@@ -1,5 +1,6 @@
 // Adding a trace (document 01, "What we write" and rows 24 to 30). Every refusal is found before the first byte is written.
 // Answers has the definitions, Shown the second view: a trace is added exactly where no row is met. Stands on `append`, `start`, `image`, `encode`.
+// The rules in words: docs/FORMAT.md, "What we write".
 use encode::Fit;
 use refusal::Part;
 use refusal::Refusal;
