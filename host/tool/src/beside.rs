@@ -1,0 +1,193 @@
+//! The hidden file that is written whole before it takes a shot file's place.
+
+use crate::lock::{locked, still_named};
+use std::fs::{self, File, OpenOptions};
+use std::io::{self, ErrorKind, Write};
+use std::os::unix::ffi::OsStrExt;
+use std::path::{Path, PathBuf};
+
+/// A hidden file in the folder of the file that it will be. It is locked as long as it is
+/// in use, and goes away with this value.
+pub struct Beside {
+    path: PathBuf,
+    file: File,
+}
+
+impl Beside {
+    /// A new one that holds these bytes, also after a power failure.
+    pub fn holding(folder: &Path, bytes: &[u8]) -> io::Result<Beside> {
+        let mut beside = Beside::empty(folder)?;
+        beside.file.write_all(bytes)?;
+        beside.file.sync_all()?;
+        Ok(beside)
+    }
+
+    fn empty(folder: &Path) -> io::Result<Beside> {
+        for attempt in 0..1000 {
+            let path = folder.join(format!(".seg2-{}-{attempt}.new", std::process::id()));
+            let mut new = OpenOptions::new();
+            let file = match new.read(true).write(true).create_new(true).open(&path) {
+                // another machine on this folder, or a leftover that is not ours to clear
+                Err(error) if error.kind() == ErrorKind::AlreadyExists => continue,
+                other => other?,
+            };
+            // before the lock another run may take it for a leftover, and clear it
+            let ours = locked(&file).and_then(|ours| Ok(ours && still_named(&path, &file)?));
+            match ours {
+                Ok(true) => return Ok(Beside { path, file }),
+                Ok(false) => {}
+                Err(error) => {
+                    let _ = fs::remove_file(&path);
+                    return Err(error);
+                }
+            }
+        }
+        Err(io::Error::other("no free name for a hidden file"))
+    }
+
+    pub fn path(&self) -> &Path {
+        &self.path
+    }
+
+    pub fn file(&self) -> &File {
+        &self.file
+    }
+
+    /// Takes the place of another file, which is gone then.
+    pub fn replace(&self, other: &Path) -> io::Result<()> {
+        fs::rename(&self.path, other)
+    }
+}
+
+impl Drop for Beside {
+    fn drop(&mut self) {
+        // after `replace` the name is free already; whoever took it since keeps it
+        if matches!(still_named(&self.path, &self.file), Ok(true)) {
+            let _ = fs::remove_file(&self.path);
+        }
+    }
+}
+
+/// Whether a file's name is one of those that are given here.
+pub fn is_ours(path: &Path) -> bool {
+    let name = path.file_name().map_or(&b""[..], OsStrExt::as_bytes);
+    let numbers = name
+        .strip_prefix(b".seg2-")
+        .and_then(|rest| rest.strip_suffix(b".new"));
+    let mut parts = numbers.unwrap_or(b"").split(|&c| c == b'-');
+    let digits = |part: Option<&[u8]>| {
+        part.is_some_and(|part| !part.is_empty() && part.iter().all(u8::is_ascii_digit))
+    };
+    digits(parts.next()) && digits(parts.next()) && parts.next().is_none()
+}
+
+/// Clears what killed runs left in a folder: files of our name that nobody has locked. What
+/// cannot be cleared stays, which does no harm.
+pub fn clear_leftovers(folder: &Path) {
+    let entries = fs::read_dir(folder).into_iter().flatten().flatten();
+    for path in entries
+        .map(|entry| entry.path())
+        .filter(|path| is_ours(path))
+    {
+        let _ = clear(&path);
+    }
+}
+
+fn clear(path: &Path) -> io::Result<()> {
+    if !fs::symlink_metadata(path)?.is_file() {
+        return Ok(());
+    }
+    let file = OpenOptions::new().read(true).write(true).open(path)?;
+    // who holds the lock of a file is the only one that moves or removes it
+    if locked(&file)? && still_named(path, &file)? {
+        fs::remove_file(path)?;
+    }
+    Ok(())
+}
+
+#[cfg(test)]
+pub mod tests {
+    use super::*;
+
+    /// A folder for one test, removed at its end.
+    pub struct Folder(pub PathBuf);
+
+    impl Folder {
+        pub fn new(name: &str) -> Folder {
+            let name = format!("seg2-unit-{}-{name}", std::process::id());
+            let path = std::env::temp_dir().join(name);
+            fs::create_dir_all(&path).expect("a folder");
+            Folder(path)
+        }
+
+        pub fn names(&self) -> Vec<String> {
+            let entries = fs::read_dir(&self.0).expect("the folder").flatten();
+            let mut names: Vec<String> = entries
+                .map(|entry| entry.file_name().to_string_lossy().into_owned())
+                .collect();
+            names.sort();
+            names
+        }
+    }
+
+    impl Drop for Folder {
+        fn drop(&mut self) {
+            let _ = fs::remove_dir_all(&self.0);
+        }
+    }
+
+    #[test]
+    fn our_names_are_known() {
+        for name in [".seg2-1-0.new", "/shots/.seg2-4194304-999.new"] {
+            assert!(is_ours(Path::new(name)), "{name}");
+        }
+        for name in [
+            ".seg2-1.new",
+            ".seg2--1.new",
+            ".seg2-1-.new",
+            ".seg2-1-2-3.new",
+            ".seg2-a-1.new",
+            "seg2-1-0.new",
+            ".seg2-1-0.new2",
+            ".seg2-1-0.new/shot",
+            "/",
+        ] {
+            assert!(!is_ours(Path::new(name)), "{name}");
+        }
+    }
+
+    #[test]
+    fn leftovers_are_cleared_and_what_is_in_use_stays() {
+        let folder = Folder::new("leftovers");
+        for name in [".seg2-1-0.new", ".seg2-2-7.new", ".seg2-notes.new", "shot"] {
+            fs::write(folder.0.join(name), "").expect("a file");
+        }
+        fs::create_dir(folder.0.join(".seg2-3-0.new")).expect("a folder");
+        let used = Beside::holding(&folder.0, b"1").expect("a file beside");
+        let name = used.path().file_name().expect("a name");
+        let name = name.to_string_lossy().into_owned();
+        clear_leftovers(&folder.0);
+        let mut left = vec![
+            name,
+            ".seg2-3-0.new".into(),
+            ".seg2-notes.new".into(),
+            "shot".into(),
+        ];
+        left.sort();
+        assert_eq!(folder.names(), left);
+        drop(used);
+        assert_eq!(folder.names(), [".seg2-3-0.new", ".seg2-notes.new", "shot"]);
+    }
+
+    #[test]
+    fn a_name_that_is_taken_is_passed_over() {
+        let folder = Folder::new("taken");
+        let first = Beside::holding(&folder.0, b"1").expect("a file beside");
+        let second = Beside::holding(&folder.0, b"2").expect("another");
+        assert_ne!(first.path(), second.path());
+        first.replace(&folder.0.join("shot")).expect("the place");
+        drop(first);
+        assert_eq!(fs::read(folder.0.join("shot")).expect("the file"), b"1");
+        assert_eq!(folder.names().len(), 2);
+    }
+}
