@@ -1,6 +1,6 @@
 //! The hidden file that is written whole before it takes a shot file's place.
 
-use crate::lock::{locked, still_named};
+use crate::lock::{lock, still_named, Lock};
 use std::fs::{self, File, OpenOptions};
 use std::io::{self, ErrorKind, Write};
 use std::os::unix::ffi::OsStrExt;
@@ -32,10 +32,9 @@ impl Beside {
                 other => other?,
             };
             // before the lock another run may take it for a leftover, and clear it
-            let ours = locked(&file).and_then(|ours| Ok(ours && still_named(&path, &file)?));
-            match ours {
-                Ok(true) => return Ok(Beside { path, file }),
-                Ok(false) => {}
+            match lock(&path, &file) {
+                Ok(Lock::Ours) => return Ok(Beside { path, file }),
+                Ok(Lock::Others | Lock::Stale) => {}
                 Err(error) => {
                     let _ = fs::remove_file(&path);
                     return Err(error);
@@ -99,10 +98,10 @@ fn clear(path: &Path) -> io::Result<()> {
     }
     let file = OpenOptions::new().read(true).write(true).open(path)?;
     // who holds the lock of a file is the only one that moves or removes it
-    if locked(&file)? && still_named(path, &file)? {
-        fs::remove_file(path)?;
+    match lock(path, &file)? {
+        Lock::Ours => fs::remove_file(path),
+        Lock::Others | Lock::Stale => Ok(()),
     }
-    Ok(())
 }
 
 #[cfg(test)]

@@ -3,7 +3,7 @@
 
 use crate::beside::{clear_leftovers, Beside};
 use crate::files::{cannot, read_shot, told_name};
-use crate::lock::{locked, still_named};
+use crate::lock::{lock, Lock};
 use crate::stop::{unusable, Answer, Stop};
 use std::ffi::OsStr;
 use std::fs::{self, File, Metadata, OpenOptions};
@@ -116,21 +116,21 @@ fn alone(name: &OsStr, path: &Path, wait: Duration) -> Answer<File> {
     loop {
         let file = OpenOptions::new().read(true).write(true).open(path);
         let file = file.map_err(|error| cannot(name, "written", &error))?;
-        let held = |error: io::Error| cannot(name, "locked", &error);
-        if locked(&file).map_err(held)? {
-            if still_named(path, &file).map_err(held)? {
-                return Ok(file);
-            }
-        } else if began.elapsed() < wait {
-            std::thread::sleep(PAUSE);
-        } else {
-            return Err(unusable(format!(
-                "{} is held by another addition for {} s: no trace was added; run it again",
-                told_name(name),
-                wait.as_secs()
-            )));
+        match lock(path, &file).map_err(|error| cannot(name, "locked", &error))? {
+            Lock::Ours => return Ok(file),
+            Lock::Stale => {}
+            Lock::Others if began.elapsed() < wait => std::thread::sleep(PAUSE),
+            Lock::Others => return Err(still_held(name, wait)),
         }
     }
+}
+
+fn still_held(name: &OsStr, wait: Duration) -> Stop {
+    unusable(format!(
+        "{} is held by another addition for {} s: no trace was added; run it again",
+        told_name(name),
+        wait.as_secs()
+    ))
 }
 
 /// Refuses what is no file, and what is protected. A file is replaced by renaming, which
@@ -209,7 +209,7 @@ pub fn create(name: &OsStr, bytes: &[u8]) -> Answer<()> {
 fn create_in_place(path: &Path, bytes: &[u8]) -> io::Result<()> {
     let mut new = OpenOptions::new();
     let mut file = new.write(true).create_new(true).open(path)?;
-    let written = locked(&file)
+    let written = lock(path, &file)
         .and_then(|_| file.write_all(bytes))
         .and_then(|()| file.sync_all());
     if written.is_err() {

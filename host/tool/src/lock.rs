@@ -14,9 +14,29 @@ extern "C" {
 /// `LOCK_EX | LOCK_NB`: for one holder alone, without waiting.
 const ALONE_AT_ONCE: i32 = 2 | 4;
 
-/// Locks an open file; false where somebody else holds it. The lock ends with the file.
+/// What comes of locking the file behind a name.
+#[derive(Debug, PartialEq)]
+pub enum Lock {
+    /// It is ours until the file is closed.
+    Ours,
+    /// Somebody else has it.
+    Others,
+    /// It is ours, but the name leads to another file by now, or to none: whoever had the
+    /// lock before has replaced or removed this one.
+    Stale,
+}
+
+/// Locks an open file that was found under this name, without waiting.
+pub fn lock(path: &Path, file: &File) -> io::Result<Lock> {
+    Ok(match (locked(file)?, still_named(path, file)?) {
+        (false, _) => Lock::Others,
+        (true, true) => Lock::Ours,
+        (true, false) => Lock::Stale,
+    })
+}
+
 #[allow(unsafe_code)]
-pub fn locked(file: &File) -> io::Result<bool> {
+fn locked(file: &File) -> io::Result<bool> {
     // SAFETY: two numbers and no memory; the descriptor is open while `file` is borrowed
     if unsafe { flock(file.as_raw_fd(), ALONE_AT_ONCE) } == 0 {
         return Ok(true);
@@ -27,8 +47,7 @@ pub fn locked(file: &File) -> io::Result<bool> {
     }
 }
 
-/// Whether a name still leads to this open file: behind a lock that was waited for,
-/// another file may stand in its place, or none.
+/// Whether a name leads to this open file.
 pub fn still_named(path: &Path, file: &File) -> io::Result<bool> {
     let named = match fs::symlink_metadata(path) {
         Err(error) if error.kind() == ErrorKind::NotFound => return Ok(false),
@@ -36,4 +55,36 @@ pub fn still_named(path: &Path, file: &File) -> io::Result<bool> {
     };
     let open = file.metadata()?;
     Ok((named.dev(), named.ino()) == (open.dev(), open.ino()))
+}
+
+#[cfg(test)]
+mod tests {
+    use super::*;
+    use crate::beside::tests::Folder;
+
+    #[test]
+    fn a_lock_is_ours_or_anothers_or_of_a_file_that_is_gone() {
+        let folder = Folder::new("lock");
+        let path = folder.0.join("shot");
+        let open = || {
+            File::options()
+                .write(true)
+                .create(true)
+                .truncate(false)
+                .open(&path)
+        };
+        let (one, two) = (open().expect("the file"), open().expect("the file"));
+        let of = |file: &File| lock(&path, file).expect("an answer");
+        assert_eq!((of(&one), of(&two)), (Lock::Ours, Lock::Others));
+        drop(one);
+        assert_eq!(of(&two), Lock::Ours);
+        // who opened the file before it was replaced
+        fs::write(folder.0.join("new"), "").expect("another file");
+        fs::rename(folder.0.join("new"), &path).expect("in its place");
+        assert_eq!(of(&two), Lock::Stale);
+        let three = open().expect("the new one");
+        assert_eq!(of(&three), Lock::Ours);
+        fs::remove_file(&path).expect("gone");
+        assert_eq!(of(&three), Lock::Stale);
+    }
 }

@@ -141,7 +141,13 @@ impl Inside {
             let samples = folder.keep("many", "1\n".repeat(6_000_000));
             let mut command = command(&shot, &sheet, &samples);
             let mut child = command.spawn().expect("the tool runs");
-            while hidden(&folder).is_empty() && child.try_wait().expect("a child").is_none() {}
+            let mut ended = false;
+            while hidden(&folder).is_empty() && !ended {
+                ended = child.try_wait().expect("a child").is_some();
+            }
+            if ended {
+                continue;
+            }
             signal(&child, "-STOP");
             std::thread::sleep(Duration::from_millis(20));
             if hidden(&folder).len() == 1 && fs::read(&shot).expect("the file") == before {
