@@ -203,3 +203,189 @@ fn samples_found(raw: Raw, block: usize) -> String {
         grouped(data)
     )
 }
+
+#[cfg(test)]
+mod tests {
+    use super::*;
+    use seg2::{Builder, Order};
+    use seg2_reference::generate::{damaged, mutated, Model, Rng, WAYS};
+    use seg2_reference::worked::example;
+
+    /// What is said of bytes that are refused, with the number before it.
+    fn said(bytes: &[u8]) -> String {
+        let refusal = seg2::check(bytes, bytes.len()).expect_err("a refusal");
+        format!("{}: {}", refusal.number, found(bytes, &refusal).text)
+    }
+
+    /// The example with some bytes changed.
+    fn changed(changes: &[(usize, &[u8])]) -> Vec<u8> {
+        let mut bytes = example();
+        for (at, new) in changes {
+            bytes[*at..at + new.len()].copy_from_slice(new);
+        }
+        bytes
+    }
+
+    #[test]
+    fn each_rule_says_what_was_found() {
+        let cases: &[(usize, &[u8], &str)] = &[
+            (0, &[0], "2: it starts with 00h 3Ah"),
+            (2, &[2], "3: bytes 2 and 3 say revision 2"),
+            (4, &[6], "4: bytes 4 and 5 say 6 bytes"),
+            (6, &[0], "5: no trace was added yet"),
+            (6, &[2], "5: 2 traces, and the pointer room holds 1"),
+            (8, &[3], "6: the string terminator's length is 3, and 1 and 2 are allowed"),
+            (9, b"A", "6: the string terminator uses 41h"),
+            (12, b"\t", "6: the line terminator uses a tab (09h)"),
+            (12, &[0], "6: both terminators use 00h"),
+            (4, &[252], "7: cut off: 108 bytes there, at least 284 needed"),
+            (32, &[58], "8: the pointer leads to byte 58, no multiple of 4"),
+            (32, &[32], "8: the pointer leads to byte 32, and what stands before ends at byte 36"),
+            (32, &[80], "8: cut off: 108 bytes there, at least 112 needed"),
+            (56, &[0], "9: 00h 44h stand there, and a trace block starts with 22h 44h"),
+            (56, &[0x44, 0x22], "9: 44h 22h stand there, and a trace block starts with 22h 44h: the other byte order"),
+            (58, &[28], "10: the block's size is 28, under 32"),
+            (58, &[46], "10: the block's size is 46, no multiple of 4"),
+            (58, &[60], "10: cut off: 108 bytes there, at least 116 needed"),
+            (60, &[6], "11: the data's size is 6, no multiple of 4"),
+            (60, &[12], "11: cut off: 108 bytes there, at least 112 needed"),
+            (68, &[9], "12: the code is 9"),
+            (64, &[5], "13: 5 samples of code 1 need 10 bytes, and the data has 8"),
+            (68, &[3], "13: 3 samples of code 3, no multiple of 4"),
+            (88, &[2], "14: the offset is 2, and the shortest string has 4 bytes"),
+            (88, &[200], "14: the offset 200 leads to byte 288, and the strings end at byte 100"),
+            (88, b"\x0C\0STACK 111\0", "14: the strings end at byte 100 without an end mark"),
+            (97, b"A", "15: byte 97 is 41h, and the string of `STACK` ends with 00h"),
+            (92, b"a", "16: byte 92 is `a` (61h), a small letter, in the keyword `STaCK`"),
+            (90, b" ", "16: the keyword is empty: byte 90 is a space (20h)"),
+            (96, &[0xE9], "16: byte 96 is E9h, no ASCII character, in the value of `STACK`"),
+        ];
+        for (at, new, words) in cases {
+            assert_eq!(said(&changed(&[(*at, new)])), *words);
+        }
+        assert_eq!(
+            said(&example()[..31]),
+            "1: cut off: 31 bytes there, at least 32 needed"
+        );
+    }
+
+    /// A file whose block has two strings, the second one's start given.
+    fn two_strings(sheet: &str, second: &str) -> (Vec<u8>, usize) {
+        let mut shot = Builder::start(Order::High, 1, b"").expect("a start");
+        shot.add_integers(sheet.as_bytes(), 1, &[])
+            .expect("a trace");
+        let bytes = shot.finish();
+        let at = bytes
+            .windows(second.len())
+            .position(|w| w == second.as_bytes());
+        (bytes, at.expect("the string"))
+    }
+
+    #[test]
+    fn the_order_is_told_with_the_keyword_before() {
+        let (mut bytes, at) = two_strings("B\t1\nC\t2\n", "C 2");
+        bytes[at] = b'A';
+        assert_eq!(said(&bytes), "17: `A` follows `B`, and comes before it");
+        bytes[at] = b'B';
+        assert_eq!(said(&bytes), "17: `B` is there twice");
+    }
+
+    #[test]
+    fn half_a_line_terminator_is_told_as_one() {
+        let (mut bytes, at) = two_strings("A\t1\nNOTE\tX?Y\n", "X?Y");
+        bytes[11..14].copy_from_slice(&[2, 13, 10]);
+        bytes[at + 1] = 10;
+        let words =
+            "is 0Ah, a control character, and no whole line terminator, in the value of `NOTE`";
+        assert_eq!(said(&bytes), format!("16: byte {} {words}", at + 1));
+    }
+
+    #[test]
+    fn a_file_that_is_cut_anywhere_is_told_to_be_cut_off() {
+        let mut rng = Rng::new(401);
+        let mut cut = 0;
+        for _ in 0..3000 {
+            let laid = Model::random(&mut rng).lay();
+            let there = rng.between(1, laid.length);
+            let bytes = &laid.buffer[..there];
+            let Err(refusal) = seg2::check(bytes, there) else {
+                continue;
+            };
+            let found = found(bytes, &refusal);
+            assert!(found.cut_off, "{refusal}: {}", found.text);
+            let digits = |text: &str| text.replace(',', "").parse::<usize>().expect("a number");
+            let words: Vec<&str> = found.text.split(' ').collect();
+            assert_eq!(digits(words[2]), there);
+            let needed = digits(words[7]);
+            assert!(there < needed && needed <= laid.length, "{}", found.text);
+            cut += 1;
+        }
+        assert!(cut > 1000, "{cut}");
+    }
+
+    /// The byte that is told to be forbidden is the one: with a good one there, something
+    /// else is said.
+    fn told_byte_matters(bytes: &[u8], words: &str) {
+        let (_, rest) = words.split_once("byte ").expect("a place");
+        let place: usize = rest
+            .split(' ')
+            .next()
+            .and_then(|n| n.parse().ok())
+            .expect("a number");
+        let mut mended = bytes.to_vec();
+        mended[place] = b'A';
+        if let Err(refusal) = seg2::check(&mended, mended.len()) {
+            assert_ne!(
+                format!("{}: {}", refusal.number, found(&mended, &refusal).text),
+                words
+            );
+        }
+    }
+
+    #[test]
+    fn every_damage_is_told_by_what_was_found() {
+        let mut rng = Rng::new(402);
+        for way in WAYS {
+            for _ in 0..60 {
+                let case = damaged(&mut rng, way);
+                let bytes = case.buffer.get(..case.length).unwrap_or(&case.buffer);
+                let Err(refusal) = seg2::check(bytes, bytes.len()) else {
+                    continue;
+                };
+                let words = found(bytes, &refusal);
+                assert_eq!(words.cut_off, words.text.starts_with("cut off: "));
+                if refusal.number == 16 {
+                    told_byte_matters(bytes, &said(bytes));
+                }
+            }
+        }
+    }
+
+    #[test]
+    fn strings_of_a_start_run_to_its_end() {
+        let image = Builder::start(Order::Low, 1, b"STACK\t1\n").expect("a start");
+        let refused = |at: usize, new: u8| {
+            let mut bytes = image.bytes().to_vec();
+            bytes[at] = new;
+            let refusal = Builder::resume(bytes.clone()).add_integers(b"", 1, &[]);
+            let refusal = refusal.expect_err("a refusal");
+            format!("{}: {}", refusal.number, found(&bytes, &refusal).text)
+        };
+        let words = "14: the offset 200 leads to byte 236, and the strings end at byte 48";
+        assert_eq!(refused(36, 200), words);
+        let words = "16: byte 38 is `s` (73h), a small letter, in the keyword `sTACK`";
+        assert_eq!(refused(38, b's'), words);
+    }
+
+    #[test]
+    fn no_bytes_at_all_are_too_strange_for_words() {
+        let mut rng = Rng::new(403);
+        for _ in 0..5000 {
+            let (buffer, length) = mutated(&mut rng);
+            let bytes = buffer.get(..length).unwrap_or(&buffer);
+            if let Err(refusal) = seg2::check(bytes, bytes.len()) {
+                assert!(!found(bytes, &refusal).text.is_empty());
+            }
+        }
+    }
+}

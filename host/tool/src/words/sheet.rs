@@ -124,4 +124,28 @@ mod tests {
             assert_eq!(told_of(sheet), said);
         }
     }
+
+    #[test]
+    fn the_told_character_of_any_bad_line_is_the_one() {
+        let mut rng = seg2_reference::generate::Rng::new(404);
+        let mut seen = 0;
+        for _ in 0..4000 {
+            let mut sheet = seg2_reference::generate::sheet_case(&mut rng).sheet;
+            let start = |sheet: &[u8]| seg2::Builder::start(seg2::Order::Low, 1, sheet);
+            let Some(refusal) = start(&sheet).err().filter(|refusal| refusal.number == 25) else {
+                continue;
+            };
+            let words = line_found(&sheet, &refusal);
+            let Some((_, rest)) = words.split_once(": character ") else {
+                continue;
+            };
+            let place = rest.split(' ').next().and_then(|n| n.parse::<usize>().ok());
+            sheet[refusal.place + place.expect("a number") - 1] = b'A';
+            if let Err(refusal) = start(&sheet) {
+                assert_ne!(line_found(&sheet, &refusal), words);
+            }
+            seen += 1;
+        }
+        assert!(seen > 100, "{seen}");
+    }
 }
