@@ -14,15 +14,8 @@ pub struct Beside {
 }
 
 impl Beside {
-    /// A new one that holds these bytes, also after a power failure.
-    pub fn holding(folder: &Path, bytes: &[u8]) -> io::Result<Beside> {
-        let mut beside = Beside::empty(folder)?;
-        beside.file.write_all(bytes)?;
-        beside.file.sync_all()?;
-        Ok(beside)
-    }
-
-    fn empty(folder: &Path) -> io::Result<Beside> {
+    /// A new one, still empty.
+    pub fn new(folder: &Path) -> io::Result<Beside> {
         for attempt in 0..1000 {
             let path = folder.join(format!(".seg2-{}-{attempt}.new", std::process::id()));
             let mut new = OpenOptions::new();
@@ -42,6 +35,12 @@ impl Beside {
             }
         }
         Err(io::Error::other("no free name for a hidden file"))
+    }
+
+    /// Writes these bytes, so that they are there after a power failure too.
+    pub fn fill(&mut self, bytes: &[u8]) -> io::Result<()> {
+        self.file.write_all(bytes)?;
+        self.file.sync_all()
     }
 
     pub fn path(&self) -> &Path {
@@ -105,35 +104,9 @@ fn clear(path: &Path) -> io::Result<()> {
 }
 
 #[cfg(test)]
-pub mod tests {
+mod tests {
     use super::*;
-
-    /// A folder for one test, removed at its end.
-    pub struct Folder(pub PathBuf);
-
-    impl Folder {
-        pub fn new(name: &str) -> Folder {
-            let name = format!("seg2-unit-{}-{name}", std::process::id());
-            let path = std::env::temp_dir().join(name);
-            fs::create_dir_all(&path).expect("a folder");
-            Folder(path)
-        }
-
-        pub fn names(&self) -> Vec<String> {
-            let entries = fs::read_dir(&self.0).expect("the folder").flatten();
-            let mut names: Vec<String> = entries
-                .map(|entry| entry.file_name().to_string_lossy().into_owned())
-                .collect();
-            names.sort();
-            names
-        }
-    }
-
-    impl Drop for Folder {
-        fn drop(&mut self) {
-            let _ = fs::remove_dir_all(&self.0);
-        }
-    }
+    use crate::folder_of_tests::Folder;
 
     #[test]
     fn our_names_are_known() {
@@ -159,10 +132,10 @@ pub mod tests {
     fn leftovers_are_cleared_and_what_is_in_use_stays() {
         let folder = Folder::new("leftovers");
         for name in [".seg2-1-0.new", ".seg2-2-7.new", ".seg2-notes.new", "shot"] {
-            fs::write(folder.0.join(name), "").expect("a file");
+            folder.keep(name, "");
         }
-        fs::create_dir(folder.0.join(".seg2-3-0.new")).expect("a folder");
-        let used = Beside::holding(&folder.0, b"1").expect("a file beside");
+        fs::create_dir(folder.path(".seg2-3-0.new")).expect("a folder");
+        let used = Beside::new(&folder.0).expect("a file beside");
         let name = used.path().file_name().expect("a name");
         let name = name.to_string_lossy().into_owned();
         clear_leftovers(&folder.0);
@@ -181,12 +154,13 @@ pub mod tests {
     #[test]
     fn a_name_that_is_taken_is_passed_over() {
         let folder = Folder::new("taken");
-        let first = Beside::holding(&folder.0, b"1").expect("a file beside");
-        let second = Beside::holding(&folder.0, b"2").expect("another");
+        let mut first = Beside::new(&folder.0).expect("a file beside");
+        let second = Beside::new(&folder.0).expect("another");
+        first.fill(b"1").expect("written");
         assert_ne!(first.path(), second.path());
-        first.replace(&folder.0.join("shot")).expect("the place");
+        first.replace(&folder.path("shot")).expect("the place");
         drop(first);
-        assert_eq!(fs::read(folder.0.join("shot")).expect("the file"), b"1");
+        assert_eq!(fs::read(folder.path("shot")).expect("the file"), b"1");
         assert_eq!(folder.names().len(), 2);
     }
 }

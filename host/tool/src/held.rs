@@ -69,8 +69,9 @@ impl<'a> Held<'a> {
         let written = |error: io::Error| cannot(self.name, "written", &error);
         let folder = folder_of(&self.path);
         clear_leftovers(folder);
-        let beside = Beside::holding(folder, bytes).map_err(written)?;
+        let mut beside = Beside::new(folder).map_err(written)?;
         self.hand_on(beside.file()).map_err(written)?;
+        beside.fill(bytes).map_err(written)?;
         if !self.is_unchanged().map_err(written)? {
             let name = told_name(self.name);
             return Err(unusable(format!(
@@ -82,12 +83,12 @@ impl<'a> Held<'a> {
         Ok(())
     }
 
-    /// The new file gets the old one's owner, where the system allows it, and its mode.
+    /// The new file gets the old one's owner, where the system allows it, and its mode:
+    /// while it is empty, so that nobody reads what he could not read before.
     fn hand_on(&self, new: &File) -> io::Result<()> {
         let about = self.file.metadata()?;
         let _ = fchown(new, Some(about.uid()), Some(about.gid()));
-        new.set_permissions(about.permissions())?;
-        new.sync_all()
+        new.set_permissions(about.permissions())
     }
 
     /// Whether the file is still the one that was read. Our own runs wait for the lock;
@@ -194,7 +195,8 @@ pub fn create(name: &OsStr, bytes: &[u8]) -> Answer<()> {
         return Err(written(ErrorKind::AlreadyExists.into()));
     }
     clear_leftovers(folder);
-    let beside = Beside::holding(folder, bytes).map_err(written)?;
+    let mut beside = Beside::new(folder).map_err(written)?;
+    beside.fill(bytes).map_err(written)?;
     let made = match fs::hard_link(beside.path(), path) {
         Err(error) if error.kind() != ErrorKind::AlreadyExists => create_in_place(path, bytes),
         made => made,
@@ -222,16 +224,14 @@ fn create_in_place(path: &Path, bytes: &[u8]) -> io::Result<()> {
 #[cfg(test)]
 mod tests {
     use super::*;
-    use crate::beside::tests::Folder;
+    use crate::folder_of_tests::Folder;
     use std::thread;
 
     /// At once, or not at all.
     const NO_WAIT: Duration = Duration::ZERO;
 
     fn shot(folder: &Folder) -> PathBuf {
-        let path = folder.0.join("shot");
-        fs::write(&path, [7; 40]).expect("a file");
-        path
+        folder.keep("shot", [7; 40])
     }
 
     fn refused<T>(answer: Answer<T>, says: &str) {
@@ -307,7 +307,7 @@ mod tests {
     #[test]
     fn a_file_is_made_once_also_in_place() {
         let folder = Folder::new("made");
-        let path = folder.0.join("shot");
+        let path = folder.path("shot");
         create_in_place(&path, b"one").expect("made");
         let again = create_in_place(&path, b"two").expect_err("there already");
         assert_eq!(again.kind(), ErrorKind::AlreadyExists);

@@ -60,12 +60,12 @@ pub fn still_named(path: &Path, file: &File) -> io::Result<bool> {
 #[cfg(test)]
 mod tests {
     use super::*;
-    use crate::beside::tests::Folder;
+    use crate::folder_of_tests::Folder;
 
     #[test]
     fn a_lock_is_ours_or_anothers_or_of_a_file_that_is_gone() {
         let folder = Folder::new("lock");
-        let path = folder.0.join("shot");
+        let path = folder.path("shot");
         let open = || {
             File::options()
                 .write(true)
@@ -79,8 +79,8 @@ mod tests {
         drop(one);
         assert_eq!(of(&two), Lock::Ours);
         // who opened the file before it was replaced
-        fs::write(folder.0.join("new"), "").expect("another file");
-        fs::rename(folder.0.join("new"), &path).expect("in its place");
+        folder.keep("new", "");
+        fs::rename(folder.path("new"), &path).expect("in its place");
         assert_eq!(of(&two), Lock::Stale);
         let three = open().expect("the new one");
         assert_eq!(of(&three), Lock::Ours);

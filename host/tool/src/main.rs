@@ -9,6 +9,9 @@ mod check;
 mod explain;
 mod files;
 mod folder;
+#[cfg(test)]
+#[path = "../tests/common/folder.rs"]
+mod folder_of_tests;
 mod held;
 mod help;
 mod json;

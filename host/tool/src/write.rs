@@ -175,11 +175,13 @@ impl<'a> Samples<'a> {
 
 /// How many traces a full file was started for.
 fn slots_found(bytes: &[u8]) -> String {
-    let slots = File::open(bytes).map_or(0, |file| file.pointer_room() / 4);
-    format!(
-        "the file was started for {} traces and has them all",
-        grouped(slots)
-    )
+    match File::open(bytes).map_or(0, |file| file.pointer_room() / 4) {
+        1 => "the file was started for one trace and has it".into(),
+        slots => format!(
+            "the file was started for {} traces and has them all",
+            grouped(slots)
+        ),
+    }
 }
 
 /// Samples, one a line; blanks around one do not count.

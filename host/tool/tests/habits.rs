@@ -7,6 +7,7 @@ use common::{ended, run, sentence, text, tool, Ended, Folder};
 use std::io::{BufRead, BufReader, Read, Write};
 use std::os::unix::ffi::OsStrExt;
 use std::process::{Command, Stdio};
+use std::time::{Duration, Instant};
 
 use seg2::{Builder, Order};
 use seg2_reference::worked::{example, EXAMPLE_LISTED};
@@ -184,7 +185,17 @@ fn nothing_is_read_once_the_reader_is_gone() {
     lines.read_line(&mut first).expect("a line");
     assert!(first.ends_with(": accepted\n"), "{first}");
     drop(lines);
-    let status = child.wait().expect("an end");
+    let began = Instant::now();
+    let status = loop {
+        if let Some(status) = child.try_wait().expect("a child") {
+            break status;
+        }
+        if began.elapsed() > Duration::from_secs(60) {
+            let _ = child.kill();
+            panic!("it reads on");
+        }
+        std::thread::sleep(Duration::from_millis(10));
+    };
     let mut error = String::new();
     let stderr = child.stderr.take().expect("its errors");
     BufReader::new(stderr)

@@ -26,13 +26,13 @@ fn told(said: &str, name: &Path, number: u32, found: &str) {
 }
 
 /// A file with one trace of code 1 and one of code 5, and the values that are asked for.
-fn shot(folder: &Folder) -> std::path::PathBuf {
+fn shot_of_two(folder: &Folder) -> std::path::PathBuf {
     let sheet = b"DELAY\t0,5\nLONG\t1234567890123456789\nRECEIVER_LOCATION\t1 2\nSMALL\t1E-16\nSOURCE_LOCATION\t1 2 X\n";
     let mut shot = Builder::start(Order::Low, 2, sheet).expect("a start");
     shot.add_integers(b"DELAY\t-0.020\n", 1, &[1, 2, 3])
         .expect("a trace");
     shot.add_bits(b"", 5, &[0]).expect("a trace");
-    folder.keep("shot", shot.bytes())
+    folder.keep("two", shot.bytes())
 }
 
 #[test]
@@ -54,7 +54,7 @@ fn a_cut_off_file_is_told_so_by_every_command() {
 #[test]
 fn a_trace_that_is_not_there_is_told_with_those_that_are() {
     let folder = Folder::new("words-18");
-    let shot = shot(&folder);
+    let shot = shot_of_two(&folder);
     let found = "trace 2 was asked for, and the file has 2 traces, 0 to 1";
     told(&run!("samples", shot, "2").2, &shot, 18, found);
     told(&run!("value", shot, "2", "DELAY").2, &shot, 18, found);
@@ -63,7 +63,7 @@ fn a_trace_that_is_not_there_is_told_with_those_that_are() {
 #[test]
 fn numbers_and_locations_say_what_is_wrong_with_them() {
     let folder = Folder::new("words-20");
-    let shot = shot(&folder);
+    let shot = shot_of_two(&folder);
     for (part, keyword, kind, number, found) in [
         (
             "F",
@@ -124,7 +124,7 @@ fn numbers_and_locations_say_what_is_wrong_with_them() {
 #[test]
 fn bit_patterns_of_whole_numbers_name_trace_and_code() {
     let folder = Folder::new("words-33");
-    let shot = shot(&folder);
+    let shot = shot_of_two(&folder);
     told(
         &run!("samples", shot, "0", "--bits").2,
         &shot,
@@ -162,8 +162,11 @@ fn what_is_wrong_with_a_sheet_is_the_sheets() {
         27,
         "the sheet has 70,003 bytes",
     );
-    let found = "the file was started for 1 traces and has them all";
+    let found = "the file was started for one trace and has it";
     told(&add(&full, &order, "1", &samples).2, &full, 24, found);
+    let two = shot_of_two(&folder);
+    let found = "the file was started for 2 traces and has them all";
+    told(&add(&two, &order, "1", &samples).2, &two, 24, found);
 }
 
 #[test]

@@ -1,44 +1,12 @@
 //! What the tests of the tool share. Not every one of them uses all of it.
 #![allow(dead_code, unused_macros, unused_imports)]
 
-use std::path::{Path, PathBuf};
+mod folder;
+
+pub use folder::Folder;
+
+use std::path::Path;
 use std::process::{Command, Output};
-
-/// A folder for one test, removed at its end.
-pub struct Folder(pub PathBuf);
-
-impl Folder {
-    pub fn new(name: &str) -> Folder {
-        let path = std::env::temp_dir().join(format!("seg2-tool-{}-{name}", std::process::id()));
-        std::fs::create_dir_all(&path).expect("a folder for the test");
-        Folder(path)
-    }
-
-    pub fn path(&self, name: &str) -> PathBuf {
-        self.0.join(name)
-    }
-
-    /// A file in it.
-    pub fn keep(&self, name: &str, bytes: impl AsRef<[u8]>) -> PathBuf {
-        let path = self.path(name);
-        std::fs::write(&path, bytes).expect("a file for the test");
-        path
-    }
-
-    pub fn names(&self) -> Vec<String> {
-        let entries = std::fs::read_dir(&self.0).expect("the folder");
-        let name = |e: std::io::Result<std::fs::DirEntry>| e.expect("an entry").file_name();
-        let mut names: Vec<String> = entries.map(|e| text(name(e).as_encoded_bytes())).collect();
-        names.sort();
-        names
-    }
-}
-
-impl Drop for Folder {
-    fn drop(&mut self) {
-        let _ = std::fs::remove_dir_all(&self.0);
-    }
-}
 
 pub fn text(bytes: &[u8]) -> String {
     String::from_utf8_lossy(bytes).into_owned()
