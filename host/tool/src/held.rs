@@ -51,7 +51,7 @@ impl<'a> Held<'a> {
         // the file itself, not a link to it
         let path = fs::canonicalize(name).map_err(read)?;
         may_be_replaced(name, &path)?;
-        let file = alone(name, &path, wait)?;
+        let file = alone(name, &path, wait, open)?;
         let seen = Seen::of(&file.metadata().map_err(read)?);
         let bytes = read_shot(name, &file)?;
         Ok(Held {
@@ -112,11 +112,15 @@ impl<'a> Held<'a> {
 
 /// The file behind a name, locked. After each wait the name may lead to another file,
 /// which whoever had the lock has put there.
-fn alone(name: &OsStr, path: &Path, wait: Duration) -> Answer<File> {
+fn alone(
+    name: &OsStr,
+    path: &Path,
+    wait: Duration,
+    open: impl Fn(&Path) -> io::Result<File>,
+) -> Answer<File> {
     let began = Instant::now();
     loop {
-        let file = OpenOptions::new().read(true).write(true).open(path);
-        let file = file.map_err(|error| cannot(name, "written", &error))?;
+        let file = open(path).map_err(|error| cannot(name, "written", &error))?;
         match lock(path, &file).map_err(|error| cannot(name, "locked", &error))? {
             Lock::Ours => return Ok(file),
             Lock::Stale => {}
@@ -124,6 +128,11 @@ fn alone(name: &OsStr, path: &Path, wait: Duration) -> Answer<File> {
             Lock::Others => return Err(still_held(name, wait)),
         }
     }
+}
+
+/// For writing as well, so that the system says where it does not allow that.
+fn open(path: &Path) -> io::Result<File> {
+    OpenOptions::new().read(true).write(true).open(path)
 }
 
 fn still_held(name: &OsStr, wait: Duration) -> Stop {
@@ -265,6 +274,26 @@ mod tests {
         first.replace(b"another").expect("replaced");
         assert_eq!(waiting.join().expect("a thread"), b"another");
         assert_eq!(folder.names(), ["shot"]);
+    }
+
+    #[test]
+    fn a_file_that_is_replaced_between_opening_and_locking_is_let_go() {
+        let folder = Folder::new("between");
+        let path = shot(&folder);
+        let replaced = std::cell::Cell::new(0);
+        let opened = alone(path.as_os_str(), &path, NO_WAIT, |path| {
+            let file = open(path);
+            // twice another run is quicker
+            if replaced.replace(replaced.get() + 1) < 2 {
+                folder.keep("new", [replaced.get(); 40]);
+                fs::rename(folder.path("new"), path).expect("another file");
+            }
+            file
+        });
+        let mut bytes = Vec::new();
+        let mut file = opened.expect("the file");
+        file.read_to_end(&mut bytes).expect("its bytes");
+        assert_eq!((replaced.get(), bytes), (3, vec![2; 40]));
     }
 
     #[test]

@@ -52,10 +52,35 @@ impl<'a> Part<'a> {
     }
 }
 
+/// As what a value is asked for, where not as text.
+#[derive(Clone, Copy)]
+enum Kind {
+    Number,
+    Double,
+    Location,
+}
+
+impl Kind {
+    fn of(word: Option<&OsStr>) -> Answer<Option<Kind>> {
+        let word = word.map_or("text".into(), OsStr::to_string_lossy);
+        Ok(match word.as_ref() {
+            "text" => None,
+            "number" => Some(Kind::Number),
+            "double" => Some(Kind::Double),
+            "location" => Some(Kind::Location),
+            _ => {
+                return Err(unusable(format!(
+                    "`{word}` is no kind of value: text, number, double or location"
+                )))
+            }
+        })
+    }
+}
+
 /// Prints a value, or says that there is none: status 1.
 pub fn run(given: &Options) -> Answer {
     let [name, part, keyword] = given.exactly()?;
-    let kind = given.value("--as").unwrap_or(OsStr::new("text"));
+    let kind = Kind::of(given.value("--as"))?;
     let index = index_of(part)?;
     let bytes = files::shot(name)?;
     let file = open(name, &bytes)?;
@@ -63,29 +88,37 @@ pub fn run(given: &Options) -> Answer {
         None => Part::File(file),
         Some(index) => Part::Trace(trace_of(name, &file, index)?),
     };
-    let key = keyword.as_bytes();
-    let told = |asked| {
-        let value = part.value(key);
-        move |refusal: Refusal| {
-            Told::new(name, &refusal, value_found(&refusal, key, value, asked)).stop()
+    let mut said = match kind {
+        None => {
+            let value = part.value(keyword.as_bytes());
+            let value = value.ok_or_else(|| absent(name, &part, keyword))?;
+            text(&file, keyword.as_bytes(), value)
         }
+        Some(kind) => number(&part, keyword.as_bytes(), kind)
+            .map_err(|refusal| told(name, &part, keyword, kind, &refusal))?
+            .into_bytes(),
     };
-    let said = match kind.to_str() {
-        Some("text") => {
-            let missing = || absent(name, &part, keyword);
-            text(&file, key, part.value(key).ok_or_else(missing)?)
-        }
-        Some("number") => number(part.number(key).map_err(told(Asked::Number))?),
-        Some("double") => decimal(part.double(key).map_err(told(Asked::Number))?).into(),
-        Some("location") => location(part.location(key).map_err(told(Asked::Location))?),
-        _ => {
-            let kind = kind.to_string_lossy();
-            return Err(unusable(format!(
-                "`{kind}` is no kind of value: text, number, double or location"
-            )));
-        }
+    said.push(b'\n');
+    print(&said)
+}
+
+/// A value as a number of some kind; a keyword that is missing has none.
+fn number(part: &Part, keyword: &[u8], kind: Kind) -> Result<String, Refusal> {
+    Ok(match kind {
+        Kind::Number => as_written(part.number(keyword)?),
+        Kind::Double => decimal(part.double(keyword)?),
+        Kind::Location => coordinates(part.location(keyword)?),
+    })
+}
+
+fn told(name: &OsStr, part: &Part, keyword: &OsStr, kind: Kind, refusal: &Refusal) -> Stop {
+    let asked = match kind {
+        Kind::Location => Asked::Location,
+        Kind::Number | Kind::Double => Asked::Number,
     };
-    print(&[&said, &b"\n"[..]].concat())
+    let keyword = keyword.as_bytes();
+    let found = value_found(refusal, keyword, part.value(keyword), asked);
+    Told::new(name, refusal, found).stop()
 }
 
 /// F or -1 is the file, any other number a trace.
@@ -111,17 +144,17 @@ fn text(file: &File, keyword: &[u8], value: &[u8]) -> Vec<u8> {
 }
 
 /// Minus, all digits, E and the power of ten where it is not 0.
-fn number(number: Number) -> Vec<u8> {
+fn as_written(number: Number) -> String {
     let minus = if number.minus { "-" } else { "" };
     let power = match number.power {
         0 => String::new(),
         power => format!("E{power}"),
     };
-    format!("{minus}{}{power}", number.coefficient).into()
+    format!("{minus}{}{power}", number.coefficient)
 }
 
 /// As many values as there are.
-fn location(location: Location) -> Vec<u8> {
+fn coordinates(location: Location) -> String {
     let values = [location.x, location.y, location.z].map(decimal);
-    values[..location.count as usize].join(" ").into()
+    values[..location.count as usize].join(" ")
 }
