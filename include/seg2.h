@@ -101,7 +101,8 @@ enum seg2_order {
     SEG2_HIGH_FIRST = 1
 };
 
-/* Format codes. Samples of the first three travel as int32_t, of the others as bit patterns in uint64_t. */
+/* Format codes. Samples of codes 1 to 3 travel as integers, int32_t (those of code 3 are whole numbers too), of codes 4 and 5 as bit
+ * patterns, uint64_t. */
 enum seg2_code {
     SEG2_FIXED_16 = 1, /* 16-bit fixed point */
     SEG2_FIXED_32 = 2, /* 32-bit fixed point */
@@ -383,7 +384,7 @@ static inline seg2_length seg2_add_bits_of(uint8_t *buffer, size_t size, size_t 
 
 /* ---- words */
 
-/* A row of the table in words for a crew; never null. */
+/* A row of the table in words for a crew; never null. Rust's `text` and Java's `text()` have the same. */
 static inline const char *seg2_text(uint32_t number) {
     switch (number) {
     case SEG2_ACCEPTED: return "accepted";
@@ -391,7 +392,7 @@ static inline const char *seg2_text(uint32_t number) {
     case SEG2_FIRST_BYTES: return "the first two bytes are not those of a SEG-2 file";
     case SEG2_REVISION: return "the revision is not 1";
     case SEG2_POINTER_ROOM: return "the size of the pointer room is under 4 or no multiple of 4";
-    case SEG2_TRACE_COUNT: return "there are no traces, or more than the pointer room holds";
+    case SEG2_TRACE_COUNT: return "there are no traces yet, or more than the pointer room holds";
     case SEG2_TERMINATOR: return "a terminator is bad, or the two terminators share a character";
     case SEG2_ROOM_END: return "the pointer room goes past the end of the file";
     case SEG2_POINTER: return "the trace's pointer is no multiple of 4, leads into what stands before, or leaves no room for a block";
@@ -404,22 +405,22 @@ static inline const char *seg2_text(uint32_t number) {
     case SEG2_STRING_END: return "the string terminator is not at the string's end";
     case SEG2_CHARACTER: return "a forbidden character in a keyword or value";
     case SEG2_KEYWORD_ORDER: return "the keyword is out of order, or there twice";
-    case SEG2_NO_TRACE: return "there is no such trace";
+    case SEG2_NO_TRACE: return "the file has no such part; traces count from 0";
     case SEG2_INPUT_SIZE: return "the listing program's input is longer than 65,536 bytes";
-    case SEG2_NO_NUMBER: return "this is not a number";
+    case SEG2_NO_NUMBER: return "this is not a number, or the keyword is missing";
     case SEG2_DIGITS: return "the number has too many digits";
-    case SEG2_NO_DOUBLE: return "the number is too long or too large to be taken as a double";
-    case SEG2_VALUE_COUNT: return "a location has one value or three, not this many";
-    case SEG2_NO_SLOT: return "no pointer slot is free";
-    case SEG2_SHEET_LINE: return "a bad line in the sheet";
+    case SEG2_NO_DOUBLE: return "the number is too long, too large or too small to be taken as a double";
+    case SEG2_VALUE_COUNT: return "a location is one value or three: here is another number of values, or the keyword is missing";
+    case SEG2_NO_SLOT: return "no trace slot is free: the file has all traces that it was started for";
+    case SEG2_SHEET_LINE: return "a line of the sheet is not a keyword, a tab and a value";
     case SEG2_SHEET_ORDER: return "a line of the sheet is out of order, or its keyword is there twice";
     case SEG2_AREA_SIZE: return "the sheet's strings need more than 65,500 bytes";
     case SEG2_ENTRY_CODE: return "the format code does not fit these samples, or their count is no multiple of 4 under code 3";
     case SEG2_SAMPLE_RANGE: return "a sample is outside what the format code can hold";
-    case SEG2_NO_ROOM: return "there is no room for the result";
+    case SEG2_NO_ROOM: return "the result is longer than the buffer or than 67,108,864 bytes";
     case SEG2_START_VALUES: return "the pointer slots are not 1 to 16,383, or the byte order is not 0 or 1";
     case SEG2_ROW_LENGTH: return "the row's length is not the number of samples";
-    case SEG2_CODE_KIND: return "whole numbers are asked of a floating point trace, or bit patterns of a trace of whole numbers";
+    case SEG2_CODE_KIND: return "integers are asked of code 4 or 5, or bit patterns of code 1 to 3";
     default: return "a number that is not in the table";
     }
 }

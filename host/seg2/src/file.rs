@@ -316,7 +316,8 @@ impl<'a> File<'a> {
         self.part.number(keyword)
     }
 
-    /// The value of a keyword as a double: 20, 21, or 22 where it is too long or too large.
+    /// The value of a keyword as a double: 20, 21, or 22 where it is too long, too large or too
+    /// small.
     ///
     /// ```
     /// # use seg2::{Builder, Order};

@@ -101,7 +101,7 @@ pub mod code {
     /// 64-bit floating point, IEEE 754.
     pub const FLOAT_64: u32 = 5;
 
-    /// Whether the samples of a code are whole numbers, and not bit patterns.
+    /// Whether the samples of a code are read as integers, and not as bit patterns.
     ///
     /// ```
     /// assert!(seg2::code::is_integers(3) && !seg2::code::is_integers(4));

@@ -94,10 +94,11 @@ impl fmt::Display for Refusal {
 
 impl std::error::Error for Refusal {}
 
-/// A row of the table in words for a crew; 0 is "accepted".
+/// A row of the table in words for a crew; 0 is "accepted". The header's `seg2_text` and
+/// Java's `text()` have the same.
 ///
 /// ```
-/// assert_eq!(seg2::text(24), "no pointer slot is free");
+/// assert_eq!(seg2::text(24), "no trace slot is free: the file has all traces that it was started for");
 /// ```
 #[rustfmt::skip]
 pub fn text(number: u32) -> &'static str {
@@ -107,7 +108,7 @@ pub fn text(number: u32) -> &'static str {
         2 => "the first two bytes are not those of a SEG-2 file",
         3 => "the revision is not 1",
         4 => "the size of the pointer room is under 4 or no multiple of 4",
-        5 => "there are no traces, or more than the pointer room holds",
+        5 => "there are no traces yet, or more than the pointer room holds",
         6 => "a terminator is bad, or the two terminators share a character",
         7 => "the pointer room goes past the end of the file",
         8 => "the trace's pointer is no multiple of 4, leads into what stands before, or leaves no room for a block",
@@ -120,22 +121,22 @@ pub fn text(number: u32) -> &'static str {
         15 => "the string terminator is not at the string's end",
         16 => "a forbidden character in a keyword or value",
         17 => "the keyword is out of order, or there twice",
-        18 => "there is no such trace",
+        18 => "the file has no such part; traces count from 0",
         19 => "the listing program's input is longer than 65,536 bytes",
-        20 => "this is not a number",
+        20 => "this is not a number, or the keyword is missing",
         21 => "the number has too many digits",
-        22 => "the number is too long or too large to be taken as a double",
-        23 => "a location has one value or three, not this many",
-        24 => "no pointer slot is free",
-        25 => "a bad line in the sheet",
+        22 => "the number is too long, too large or too small to be taken as a double",
+        23 => "a location is one value or three: here is another number of values, or the keyword is missing",
+        24 => "no trace slot is free: the file has all traces that it was started for",
+        25 => "a line of the sheet is not a keyword, a tab and a value",
         26 => "a line of the sheet is out of order, or its keyword is there twice",
         27 => "the sheet's strings need more than 65,500 bytes",
         28 => "the format code does not fit these samples, or their count is no multiple of 4 under code 3",
         29 => "a sample is outside what the format code can hold",
-        30 => "there is no room for the result",
+        30 => "the result is longer than the buffer or than 67,108,864 bytes",
         31 => "the pointer slots are not 1 to 16,383, or the byte order is not 0 or 1",
         32 => "the row's length is not the number of samples",
-        33 => "whole numbers are asked of a floating point trace, or bit patterns of a trace of whole numbers",
+        33 => "integers are asked of code 4 or 5, or bit patterns of code 1 to 3",
         _ => "a number that is not in the table",
     }
 }

@@ -283,7 +283,7 @@ impl<'a> Trace<'a> {
         self.part.note(self.file.line_terminator())
     }
 
-    /// Whether its samples are whole numbers (codes 1 to 3) and not bit patterns. Free.
+    /// Whether its samples are read as integers (codes 1 to 3) and not as bit patterns. Free.
     ///
     /// ```
     /// # use seg2::{Builder, Order};

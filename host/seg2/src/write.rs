@@ -93,7 +93,7 @@ impl Builder {
     /// ```
     /// use seg2::{Builder, Order};
     /// let refusal = Builder::start(Order::Low, 1, b"UNITS METERS\n").unwrap_err();
-    /// assert_eq!(refusal.to_string(), "refused (25) at byte 0 of the sheet: a bad line in the sheet");
+    /// assert_eq!(refusal.to_string(), "refused (25) at byte 0 of the sheet: a line of the sheet is not a keyword, a tab and a value");
     /// ```
     pub fn start(order: Order, slots: u32, sheet: &[u8]) -> Result<Builder, Refusal> {
         // 16 bits count the bytes of a pointer room; more slots are refused before any is written

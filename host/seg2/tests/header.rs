@@ -141,6 +141,28 @@ fn every_row_has_its_own_words() {
     assert_eq!(words.len(), 35);
 }
 
+/// The list that Java's tests read too: number, part, place, words. With the table that
+/// the C program prints, header, Rust and Java say the same of each row.
+#[test]
+fn a_refusal_is_told_as_the_list_has_it() {
+    let list = std::fs::read_to_string(here().join("tests/refusals.txt")).expect("the list");
+    let mut numbers = std::collections::BTreeSet::new();
+    for line in list.lines() {
+        let told: Vec<&str> = line.split('\t').collect();
+        let [number, part, place, words] = told[..] else {
+            panic!("not four fields: {line}");
+        };
+        let refusal = seg2::Refusal {
+            number: number.parse().expect("a number"),
+            part: part.parse().expect("a part"),
+            place: place.parse().expect("a place"),
+        };
+        assert_eq!(refusal.to_string(), words);
+        numbers.insert(refusal.number);
+    }
+    assert_eq!(numbers, (1..=33).collect());
+}
+
 #[test]
 fn the_first_lines_of_c_in_the_docs_work() {
     let page = std::fs::read_to_string(root().join("docs/USING.md")).expect("the page");

@@ -328,7 +328,7 @@ fn the_builder_ends_at_the_maximum() {
     let refusal = shot.add_integers(b"", 2, &[]).expect_err("no room");
     assert_eq!(
         refusal.to_string(),
-        "refused (30): there is no room for the result"
+        "refused (30): the result is longer than the buffer or than 67,108,864 bytes"
     );
     assert_eq!(shot, before);
     // over the maximum nothing is accepted, and nothing is cut off
@@ -343,40 +343,7 @@ fn the_builder_ends_at_the_maximum() {
 }
 
 #[test]
-fn refusals_speak_plainly() {
-    let said = |number, part, place| {
-        Refusal {
-            number,
-            part,
-            place,
-        }
-        .to_string()
-    };
-    let start = |said: String| said.split(": ").next().expect("a start").to_string();
-    assert_eq!(
-        said(16, 3, 1234),
-        "refused (16) in trace 3 at byte 1234: a forbidden character in a keyword or value"
-    );
-    assert_eq!(
-        said(3, -1, 2),
-        "refused (3) in the file at byte 2: the revision is not 1"
-    );
-    assert_eq!(start(said(1, -1, 0)), "refused (1) in the file");
-    assert_eq!(start(said(2, -1, 0)), "refused (2) in the file");
-    assert_eq!(
-        start(said(20, -1, 4)),
-        "refused (20) at byte 4 of the value"
-    );
-    assert_eq!(start(said(23, -1, 0)), "refused (23)");
-    assert_eq!(said(24, -1, 0), "refused (24): no pointer slot is free");
-    assert_eq!(
-        start(said(26, -1, 9)),
-        "refused (26) at byte 9 of the sheet"
-    );
-    assert_eq!(start(said(29, -1, 7)), "refused (29) at sample 7");
-    for number in [18, 19, 27, 28, 30, 31, 32, 33] {
-        assert_eq!(start(said(number, -1, 0)), format!("refused ({number})"));
-    }
+fn a_refusal_is_an_error() {
     let error: Box<dyn std::error::Error> = Box::new(Refusal {
         number: 5,
         part: -1,

@@ -1,76 +1,118 @@
-//! The refusal table in plain words.
+//! The refusal table in plain words: the rule behind each row, and what to do.
 
 use crate::files::print;
-use crate::options::whole;
+use crate::options::{whole, Options};
 use crate::stop::{unusable, Answer};
 use seg2::{Place, Refusal};
-use std::ffi::OsStr;
 
-/// A row: what it says, what its place is, and what the rule is.
-pub fn explain(number: &OsStr) -> Answer {
+/// A row: what it says, what its place is, what the rule is, and what to do.
+pub fn run(given: &Options) -> Answer {
+    let [number] = given.exactly()?;
     let number: u32 = whole(number, "refusal's number: 1 to 33")?;
-    let Some(rule) = rule(number) else {
+    let Some((rule, to_do)) = row(number) else {
         return Err(unusable(format!(
             "the table has no number {number}: it has 1 to 33"
         )));
     };
-    let place = match (
+    let said = format!(
+        "{number}: {}\nplace: {}\nrule: {rule}\nto do: {to_do}\n",
+        seg2::text(number),
+        place(number)
+    );
+    print(said.as_bytes())
+}
+
+fn place(number: u32) -> &'static str {
+    let refusal = Refusal {
         number,
-        Refusal {
-            number,
-            part: -1,
-            place: 0,
-        }
-        .counts(),
-    ) {
+        part: -1,
+        place: 0,
+    };
+    match (number, refusal.counts()) {
         (14..=17, _) => "the string's two-byte offset, a byte of the file",
         (_, Place::File) => "a byte of the file",
         (_, Place::Value) => "where the number starts in the keyword's value",
         (_, Place::Sheet) => "where the line starts in the sheet",
         (_, Place::Row) => "the sample's index, counted from 0",
         (_, Place::Nothing) => "always 0",
-    };
-    let said = format!("{number}: {}\nplace: {place}\n{rule}\n", seg2::text(number));
-    print(said.as_bytes())
+    }
 }
 
-/// The rule behind a row.
+/// What to do about a refusal.
+pub fn to_do(number: u32) -> &'static str {
+    row(number).map_or("", |(_, to_do)| to_do)
+}
+
+/// The rule behind a row, and what to do.
 #[rustfmt::skip]
-fn rule(number: u32) -> Option<&'static str> {
+fn row(number: u32) -> Option<(&'static str, &'static str)> {
     Some(match number {
-        1 => "A file has 32 to 67,108,864 bytes. A shorter one was cut off or is no shot file.",
-        2 => "A SEG-2 file starts with 55 3A (low byte first) or 3A 55 (high byte first). Other bytes: another kind of file, or one that was changed on its way, as by a transfer as text.",
-        3 => "Bytes 2 and 3 have to be 1, the only revision there is.",
-        4 => "Bytes 4 and 5 are the size of the room for pointers: 4 bytes for each, so a multiple of 4 and at least 4.",
-        5 => "Bytes 6 and 7 are the number of traces: at least 1, and each needs 4 bytes of pointer room. A file that was started and has no trace yet is refused by this; adding a trace makes it a file.",
-        6 => "Bytes 8 to 10 are the string terminator, 11 to 13 the line terminator: a length of 1 or 2, then characters of 0 to 31 without tab. The two share no character.",
-        7 => "The pointers start at byte 32; all of their room has to lie in the file. The file was cut off, or bytes 4 and 5 are wrong.",
-        8 => "Traces follow each other: a pointer is a multiple of 4, leads behind the trace before it (the first one behind the pointer room), and 32 bytes of block lie in the file. Often the file was cut off.",
-        9 => "A trace block starts with 4422h in the file's byte order. The pointer is wrong, or the block was overwritten.",
-        10 => "A trace block has at least 32 bytes, a multiple of 4, and ends in the file.",
-        11 => "A trace's data is a multiple of 4 bytes and ends in the file. At the last trace: the file was cut off.",
-        12 => "Codes: 1 and 2 are fixed point of 16 and 32 bits; 3, 4 and 5 floating point of 20, 32 and 64 bits.",
-        13 => "A sample needs 2, 4, 2.5, 4 or 8 bytes under codes 1 to 5, and all have to fit the data. Under code 3 they come in groups of 4.",
-        14 => "A string starts with the distance to the next one, and 0 ends the list. The distance has to leave room for a keyword of one character and the terminator, and to stay in the block.",
-        15 => "The last bytes of a string have to be the file's string terminator. The distance before it is wrong, or the terminator was changed.",
-        16 => "A keyword uses capitals, digits and signs (33 to 126 without a to z) and is not empty; a value uses 32 to 126 and tab; a NOTE also whole line terminators.",
-        17 => "Keywords rise in byte order, each once; NOTE comes last.",
-        18 => "Traces count from 0, so the last one has the number of traces less 1.",
-        19 => "The listing program takes files of up to 65,536 bytes; `seg2 list` takes all.",
-        20 => "A number is a minus or nothing, digits, then perhaps a point with digits, then perhaps E, a minus or nothing, and digits. No comma, no plus, no spaces: 0,5 is no number. A missing keyword has no number either.",
-        21 => "At most 18 digits before E and 2 behind it; zeros count.",
-        22 => "As a double a number has a coefficient of at most 9,007,199,254,740,991 and a power of ten of -15 to 15. It is still a number.",
-        23 => "A location is x alone, or x, y and z, with spaces or tabs between them.",
-        24 => "Each trace takes one of the slots that the file was started with. Start a new file with more.",
-        25 => "A line is a keyword, one tab, a value that does not start with a space, and the line end 0Ah. Common reasons: spaces for the tab, a lower-case keyword, a second tab, an empty last line, line ends of 0Dh 0Ah.",
-        26 => "The sheet's keywords rise in byte order, each once; NOTE lines come last, one directly behind the other.",
-        27 => "The strings of one block, with their offsets, terminators and end mark, are at most 65,500 bytes.",
-        28 => "Codes 1 to 3 take whole numbers, 4 and 5 bit patterns. Code 3 takes samples in groups of 4.",
-        29 => "Code 1 holds -32,768 to 32,767; code 3 holds magnitudes below 1,073,741,824; a pattern of code 4 has 32 bits.",
-        30 => "The file would be longer than the buffer that was lent, or than 67,108,864 bytes.",
-        31 => "A file is started with 1 to 16,383 pointer slots, low byte first (0) or high byte first (1).",
-        32 => "The row that takes the samples has as many elements as the trace has samples.",
-        33 => "Codes 1 to 3 are read as whole numbers, 4 and 5 as bit patterns. `seg2 samples` without --bits takes all.",
+        1 => ("A file has 32 to 67,108,864 bytes. A shorter one was cut off or is no shot file.",
+              "copy the file again from where it was recorded"),
+        2 => ("A SEG-2 file starts with 55 3A (low byte first) or 3A 55 (high byte first). Other bytes: another kind of file, or one that was changed on its way, as by a transfer as text.",
+              "look whether this is the right file, and copy it again as binary, not as text"),
+        3 => ("Bytes 2 and 3 have to be 1, the only revision there is.",
+              "let the instrument save the shot as SEG-2, revision 1"),
+        4 => ("Bytes 4 and 5 are the size of the room for pointers: 4 bytes for each, so a multiple of 4 and at least 4.",
+              "copy the file again; if it stays so, the program that wrote it is wrong"),
+        5 => ("Bytes 6 and 7 are the number of traces: at least 1, and each needs 4 bytes of pointer room. A file that was started and has no trace yet is refused by this; adding a trace makes it a file.",
+              "add a trace with `./seg2 add`; where traces were recorded, copy the file again"),
+        6 => ("Bytes 8 to 10 are the string terminator, 11 to 13 the line terminator: a length of 1 or 2, then characters of 0 to 31 without tab. The two share no character.",
+              "let the instrument save the shot again with usual terminators, as 00h and 0Ah"),
+        7 => ("The pointers start at byte 32; all of their room has to lie in the file. The file was cut off, or bytes 4 and 5 are wrong.",
+              "copy the file again from where it was recorded"),
+        8 => ("Traces follow each other: a pointer is a multiple of 4, leads behind the trace before it (the first one behind the pointer room), and 32 bytes of block lie in the file. Often the file was cut off.",
+              "copy the file again; if it stays so, the program that wrote it is wrong"),
+        9 => ("A trace block starts with 4422h in the file's byte order. The pointer is wrong, or the block was overwritten.",
+              "copy the file again as binary, not as text"),
+        10 => ("A trace block has at least 32 bytes, a multiple of 4, and ends in the file.",
+               "copy the file again; if it stays so, the program that wrote it is wrong"),
+        11 => ("A trace's data is a multiple of 4 bytes and ends in the file. At the last trace: the file was cut off.",
+               "copy the file again; if it stays so, the program that wrote it is wrong"),
+        12 => ("Codes: 1 and 2 are fixed point of 16 and 32 bits; 3, 4 and 5 floating point of 20, 32 and 64 bits.",
+               "let the instrument save the shot with one of these codes"),
+        13 => ("A sample needs 2, 4, 2.5, 4 or 8 bytes under codes 1 to 5, and all have to fit the data. Under code 3 they come in groups of 4.",
+               "copy the file again; if it stays so, the program that wrote it is wrong"),
+        14 => ("A string starts with the distance to the next one, and 0 ends the list. The distance has to leave room for a keyword of one character and the terminator, and to stay in the block.",
+               "copy the file again as binary; if it stays so, the program that wrote it is wrong"),
+        15 => ("The last bytes of a string have to be the file's string terminator. The distance before it is wrong, or the terminator was changed.",
+               "copy the file again as binary; if it stays so, the program that wrote it is wrong"),
+        16 => ("A keyword uses capitals, digits and signs (33 to 126 without a to z) and is not empty; a value uses 32 to 126 and tab; a NOTE also whole line terminators.",
+               "set the keyword in capitals and the value in plain letters where the shot is recorded, and save it again"),
+        17 => ("Keywords rise in byte order, each once; NOTE comes last.",
+               "let the program that wrote the file sort its keywords, and save it again"),
+        18 => ("The file is a part, and so is each trace. Traces count from 0, so the last one has the number of traces less 1.",
+               "ask for a trace that is there: `./seg2 list` shows them"),
+        19 => ("The listing program takes files of up to 65,536 bytes; `./seg2 list` takes all.",
+               "use `./seg2 list`"),
+        20 => ("A number is a minus or nothing, digits, then perhaps a point with digits, then perhaps E, a minus or nothing, and digits. No comma, no plus, no spaces: 0,5 is no number. A missing keyword has no number either.",
+               "correct the value where the shot is recorded, or ask for another keyword: `./seg2 list` shows them"),
+        21 => ("At most 18 digits before E and 2 behind it; zeros count.",
+               "write the number with fewer digits"),
+        22 => ("As a double a number has a coefficient of at most 9,007,199,254,740,991 and a power of ten of -15 to 15. It is still a number.",
+               "ask for it as a number (`--as number`), or write it with fewer digits"),
+        23 => ("A location is x alone, or x, y and z, with spaces or tabs between them. A missing keyword has no location.",
+               "write one value or three, or ask for another keyword: `./seg2 list` shows them"),
+        24 => ("Each trace takes one of the slots that the file was started with.",
+               "start a new file with more slots: `./seg2 new FILE --slots N`"),
+        25 => ("A line is a keyword, one tab, a value that does not start with a space, and the line end 0Ah. Common reasons: spaces for the tab, a keyword in small letters, a second tab, an accent, an empty last line, line ends of 0Dh 0Ah, a byte order mark.",
+               "mend this line of the sheet, and save it as plain text (ASCII)"),
+        26 => ("The sheet's keywords rise in byte order, each once; NOTE lines come last, one directly behind the other.",
+               "put the lines of the sheet in order, as `LC_ALL=C sort` does, NOTE last"),
+        27 => ("The strings of one block, with their offsets, terminators and end mark, are at most 65,500 bytes.",
+               "shorten the sheet"),
+        28 => ("Codes 1 to 3 take integers, 4 and 5 bit patterns. Code 3 takes samples in groups of 4.",
+               "choose another code, or fill the samples up to a multiple of 4"),
+        29 => ("Code 1 holds -32,768 to 32,767; code 3 holds magnitudes below 1,073,741,824; a pattern of code 4 has 32 bits.",
+               "choose a code that holds these samples: 2, 4 or 5"),
+        30 => ("The file would be longer than the buffer that was lent, or than 67,108,864 bytes.",
+               "start another file for the traces that come"),
+        31 => ("A file is started with 1 to 16,383 pointer slots, low byte first (0) or high byte first (1).",
+               "choose --slots of 1 to 16383"),
+        32 => ("The row that takes the samples has as many elements as the trace has samples.",
+               "ask for the trace's block first, and lend a row of that many elements"),
+        33 => ("The samples of codes 1 to 3 are read as integers; those of code 3, floating point of 20 bits, are whole numbers too. The samples of codes 4 and 5 are read as bit patterns.",
+               "use `./seg2 samples` without --bits, which takes all codes"),
         _ => return None,
     })
 }
@@ -80,10 +122,12 @@ mod tests {
     use super::*;
 
     #[test]
-    fn every_row_has_a_rule_of_its_own() {
-        let rules: std::collections::BTreeSet<_> = (1..=33).map(rule).collect();
+    fn every_row_has_a_rule_of_its_own_and_something_to_do() {
+        let rows: Vec<_> = (1..=33).filter_map(row).collect();
+        assert_eq!(rows.len(), 33);
+        let rules: std::collections::BTreeSet<_> = rows.iter().map(|(rule, _)| rule).collect();
         assert_eq!(rules.len(), 33);
-        assert!(!rules.contains(&None));
-        assert_eq!((rule(0), rule(34)), (None, None));
+        assert!(rows.iter().all(|(_, to_do)| !to_do.is_empty()));
+        assert_eq!((row(0), row(34), to_do(34)), (None, None, ""));
     }
 }

@@ -1,10 +1,10 @@
 //! Files and standard output, with a sentence for each thing that can go wrong.
 
-use crate::stop::{unusable, Answer, Stop};
-use std::ffi::{OsStr, OsString};
-use std::fs::{self, OpenOptions};
+use crate::stop::{unheard, unusable, Answer, Stop};
+use std::ffi::OsStr;
+use std::fs::{self, File};
 use std::io::{self, ErrorKind, Read, Write};
-use std::path::{Path, PathBuf};
+use std::sync::atomic::{AtomicBool, Ordering};
 
 /// A text of samples is at most this long: 64 bytes for each of the most samples that a
 /// file can hold.
@@ -20,47 +20,109 @@ fn reason(error: &io::Error) -> String {
     }
 }
 
-fn cannot(name: &OsStr, what: &str, error: &io::Error) -> Stop {
-    let name = name.to_string_lossy();
+pub fn cannot(name: &OsStr, what: &str, error: &io::Error) -> Stop {
+    let name = told_name(name);
     unusable(format!("{name} cannot be {what}: {}", reason(error)))
 }
 
-/// All bytes of a file, or of standard input for `-`.
-fn bytes_of(name: &OsStr, most: usize, kind: &str) -> Answer<Vec<u8>> {
-    let said = name.to_string_lossy();
-    let too_long = || {
+/// A file's name as it is told: on one line, whatever it holds.
+pub fn told_name(name: &OsStr) -> String {
+    let mut told = String::new();
+    for c in name.to_string_lossy().chars() {
+        if c.is_control() {
+            told.extend(c.escape_default());
+        } else {
+            told.push(c);
+        }
+    }
+    told
+}
+
+/// What may be read: at most so many bytes, as a kind of file that has no more.
+#[derive(Clone, Copy)]
+struct Limit {
+    most: usize,
+    kind: &'static str,
+}
+
+const SHOT: Limit = Limit {
+    most: seg2::MAXIMUM_LENGTH,
+    kind: "a SEG-2 file",
+};
+
+const SHEET: Limit = Limit {
+    most: seg2::MAXIMUM_LENGTH,
+    kind: "a sheet",
+};
+
+const TEXT: Limit = Limit {
+    most: MAXIMUM_TEXT,
+    kind: "a text of samples",
+};
+
+impl Limit {
+    fn exceeded(self, name: &OsStr) -> Stop {
+        let (name, most) = (told_name(name), grouped(self.most));
         unusable(format!(
-            "{said} is too long: {kind} has at most {} bytes",
-            grouped(most)
+            "{name} is too long: {} has at most {most} bytes",
+            self.kind
         ))
-    };
-    let mut bytes = Vec::new();
-    // one byte more than there may be tells that there are too many
-    let limit = most as u64 + 1;
-    let read = if name == "-" {
-        io::stdin().lock().take(limit).read_to_end(&mut bytes)
-    } else {
+    }
+
+    /// All bytes of what is open.
+    fn read(self, name: &OsStr, from: impl Read) -> Answer<Vec<u8>> {
+        let mut bytes = Vec::new();
+        // one byte more than there may be tells that there are too many
+        let read = from.take(self.most as u64 + 1).read_to_end(&mut bytes);
+        read.map_err(|error| cannot(name, "read", &error))?;
+        if bytes.len() > self.most {
+            return Err(self.exceeded(name));
+        }
+        Ok(bytes)
+    }
+
+    /// All bytes of a file, or of standard input for `-`.
+    fn bytes_of(self, name: &OsStr) -> Answer<Vec<u8>> {
+        if name == "-" {
+            return self.read(name, standard_input()?);
+        }
         let about = fs::metadata(name).map_err(|error| cannot(name, "read", &error))?;
         if about.is_dir() {
-            return Err(unusable(format!("{said} is a folder, not a file")));
+            let name = told_name(name);
+            return Err(unusable(format!("{name} is a folder, not a file")));
         }
-        if about.is_file() && about.len() > most as u64 {
-            return Err(too_long());
+        if about.is_file() && about.len() > self.most as u64 {
+            return Err(self.exceeded(name));
         }
-        fs::File::open(name).and_then(|file| file.take(limit).read_to_end(&mut bytes))
-    };
-    read.map_err(|error| cannot(name, "read", &error))?;
-    if bytes.len() > most {
-        return Err(too_long());
+        let file = File::open(name).map_err(|error| cannot(name, "read", &error))?;
+        self.read(name, file)
     }
-    Ok(bytes)
+}
+
+/// Standard input, which can be read to its end once.
+fn standard_input() -> Answer<io::StdinLock<'static>> {
+    static READ: AtomicBool = AtomicBool::new(false);
+    if READ.swap(true, Ordering::Relaxed) {
+        return Err(unusable(
+            "- is standard input, which is read once: give it once".into(),
+        ));
+    }
+    Ok(io::stdin().lock())
 }
 
 /// The bytes of a shot file, some at least and not too many.
 pub fn shot(name: &OsStr) -> Answer<Vec<u8>> {
-    let bytes = bytes_of(name, seg2::MAXIMUM_LENGTH, "a SEG-2 file")?;
+    some(name, SHOT.bytes_of(name)?)
+}
+
+/// The same of a file that is open.
+pub fn read_shot(name: &OsStr, file: &File) -> Answer<Vec<u8>> {
+    some(name, SHOT.read(name, file)?)
+}
+
+fn some(name: &OsStr, bytes: Vec<u8>) -> Answer<Vec<u8>> {
     if bytes.is_empty() {
-        let name = name.to_string_lossy();
+        let name = told_name(name);
         return Err(unusable(format!(
             "{name} is empty: a SEG-2 file has at least 32 bytes"
         )));
@@ -70,59 +132,25 @@ pub fn shot(name: &OsStr) -> Answer<Vec<u8>> {
 
 /// The bytes of a sheet; an empty one has no strings.
 pub fn sheet(name: &OsStr) -> Answer<Vec<u8>> {
-    bytes_of(name, seg2::MAXIMUM_LENGTH, "a sheet")
+    SHEET.bytes_of(name)
 }
 
 /// A text of samples.
 pub fn text(name: &OsStr) -> Answer<String> {
-    let bytes = bytes_of(name, MAXIMUM_TEXT, "a text of samples")?;
-    let not_text = |_| unusable(format!("{} is no text", name.to_string_lossy()));
+    let bytes = TEXT.bytes_of(name)?;
+    let not_text = |_| unusable(format!("{} is no text", told_name(name)));
     String::from_utf8(bytes).map_err(not_text)
 }
 
-/// Writes a file that is not there yet.
-pub fn create(name: &OsStr, bytes: &[u8]) -> Answer<()> {
-    let mut new = OpenOptions::new();
-    let file = new.write(true).create_new(true).open(name);
-    let mut file = file.map_err(|error| cannot(name, "written", &error))?;
-    let written = file.write_all(bytes).and_then(|()| file.sync_all());
-    written.map_err(|error| {
-        // what was begun here is no image
-        let _ = fs::remove_file(name);
-        cannot(name, "written", &error)
-    })
-}
-
-/// Puts a file with other bytes in the place of one that is there. They are written to a
-/// file beside it first, so a crash leaves the old one.
-pub fn replace(name: &OsStr, bytes: &[u8]) -> Answer<()> {
-    replaced(Path::new(name), bytes).map_err(|error| cannot(name, "written", &error))
-}
-
-fn replaced(name: &Path, bytes: &[u8]) -> io::Result<()> {
-    // the file itself, not a link to it
-    let old = fs::canonicalize(name)?;
-    let beside = beside(&old);
-    let mut file = OpenOptions::new()
-        .write(true)
-        .create_new(true)
-        .open(&beside)?;
-    let done = file
-        .write_all(bytes)
-        .and_then(|()| file.set_permissions(fs::metadata(&old)?.permissions()))
-        .and_then(|()| file.sync_all())
-        .and_then(|()| fs::rename(&beside, &old));
-    if done.is_err() {
-        let _ = fs::remove_file(&beside);
+/// Refuses standard input where a file is written.
+pub fn no_input(name: &OsStr) -> Answer<()> {
+    if name == "-" {
+        return Err(unusable(
+            "- is standard input, and a file is written: give its name (./- where that is its name)"
+                .into(),
+        ));
     }
-    done
-}
-
-fn beside(file: &Path) -> PathBuf {
-    let mut name = OsString::from(".");
-    name.push(file.file_name().unwrap_or_default());
-    name.push(format!(".{}.new", std::process::id()));
-    file.with_file_name(name)
+    Ok(())
 }
 
 /// Prints to standard output; status 0.
@@ -130,10 +158,14 @@ pub fn print(bytes: &[u8]) -> Answer {
     let mut out = io::stdout().lock();
     let written = out.write_all(bytes).and_then(|()| out.flush());
     written.map(|()| 0).map_err(|error| match error.kind() {
-        // who reads it has had enough
-        ErrorKind::BrokenPipe => unusable(String::new()),
+        ErrorKind::BrokenPipe => unheard(),
         _ => unusable(format!("the output cannot be written: {error}")),
     })
+}
+
+/// Prints what was done. It stays done where nobody listens.
+pub fn confirm(said: &str) -> Answer {
+    print(said.as_bytes()).or_else(|stop| if stop.is_unheard() { Ok(0) } else { Err(stop) })
 }
 
 /// A number with commas between its thousands.
@@ -160,13 +192,8 @@ mod tests {
     }
 
     #[test]
-    fn the_file_beside_is_in_the_same_folder() {
-        let beside = beside(Path::new("/shots/1.sg2"));
-        assert_eq!(beside.parent(), Some(Path::new("/shots")));
-        let name = beside.file_name().and_then(OsStr::to_str).expect("a name");
-        assert!(
-            name.starts_with(".1.sg2.") && name.ends_with(".new"),
-            "{name}"
-        );
+    fn a_name_is_told_on_one_line() {
+        let name = OsStr::new("shot 1\n\u{1b}[2J\té.sg2");
+        assert_eq!(told_name(name), "shot 1\\n\\u{1b}[2J\\té.sg2");
     }
 }

@@ -1,5 +1,7 @@
 //! How a command ends before its work is done.
 
+use std::io::Write;
+
 /// An exit status, or why there is no more to say than a sentence.
 pub type Answer<T = u8> = Result<T, Stop>;
 
@@ -26,11 +28,24 @@ pub fn unusable(sentence: String) -> Stop {
     }
 }
 
+/// Who reads the output has had enough: nothing is left to say.
+pub fn unheard() -> Stop {
+    unusable(String::new())
+}
+
 impl Stop {
-    /// Says it on standard error.
-    pub fn tell(self) -> u8 {
-        if !self.sentence.is_empty() {
-            eprintln!("seg2: {}", self.sentence.trim_end());
+    pub fn is_unheard(&self) -> bool {
+        self.sentence.is_empty()
+    }
+
+    pub fn sentence(&self) -> &str {
+        self.sentence.trim_end()
+    }
+
+    /// Says it on standard error; where that is gone too, the status says it.
+    pub fn tell(&self) -> u8 {
+        if !self.is_unheard() {
+            let _ = writeln!(std::io::stderr(), "seg2: {}", self.sentence());
         }
         self.status
     }

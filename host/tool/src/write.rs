@@ -1,91 +1,187 @@
 //! Writing files: new, add.
 
-use crate::files::{self, print};
-use crate::look::around;
-use crate::options::whole;
-use crate::stop::{refused, unusable, Answer, Stop};
-use seg2::{code, Builder, File, Order, Place, Refusal};
+use crate::files::{self, confirm, grouped, told_name};
+use crate::held::{create, Held};
+use crate::options::{whole, Options};
+use crate::stop::{unusable, Answer, Stop};
+use crate::words::{line_found, Told};
+use seg2::{code, Builder, File, Order, Refusal};
 use std::ffi::OsStr;
 use std::str::FromStr;
+use std::time::Duration;
+
+/// How long an addition waits for another, without --wait.
+const WAIT_SECONDS: u64 = 60;
 
 /// Starts a file; one that is there already stays.
-pub fn new(name: &OsStr, order: &OsStr, slots: &OsStr, sheet: Option<&OsStr>) -> Answer {
-    let order = match order.to_str() {
-        Some("low") => Order::Low,
-        Some("high") => Order::High,
-        _ => {
-            let word = order.to_string_lossy();
-            return Err(unusable(format!("`{word}` is no byte order: low or high")));
-        }
-    };
+pub fn new(given: &Options) -> Answer {
+    let [name] = given.exactly()?;
+    files::no_input(name)?;
+    let order = order(given.needed("--order")?)?;
+    let slots = given.needed("--slots")?;
     let slots: u32 = whole(slots, "number of pointer slots: 1 to 16,383")?;
-    let strings = sheet.map_or(Ok(Vec::new()), files::sheet)?;
-    let image = Builder::start(order, slots, &strings)
-        .map_err(|refusal| told(name, &[], &strings, &refusal))?;
-    files::create(name, image.bytes())?;
-    let said = format!(
+    let sheet = Sheet::of(given.value("--sheet"))?;
+    let image = Builder::start(order, slots, &sheet.bytes).map_err(|refusal| {
+        sheet
+            .told(&refusal)
+            .unwrap_or_else(|| Told::new(name, &refusal, format!("{slots} slots")).stop())
+    })?;
+    create(name, image.bytes())?;
+    confirm(&format!(
         "{}: started with {} pointer slots, {} bytes; it is a file once a trace is added\n",
-        name.to_string_lossy(),
-        files::grouped(slots as usize),
-        files::grouped(image.bytes().len())
-    );
-    print(said.as_bytes())
+        told_name(name),
+        grouped(slots as usize),
+        grouped(image.bytes().len())
+    ))
+}
+
+fn order(word: &OsStr) -> Answer<Order> {
+    match word.to_str() {
+        Some("low") => Ok(Order::Low),
+        Some("high") => Ok(Order::High),
+        _ => {
+            let word = word.to_string_lossy();
+            Err(unusable(format!("`{word}` is no byte order: low or high")))
+        }
+    }
 }
 
 /// Adds a trace to a file, which stays as it was where that cannot be done.
-pub fn add(name: &OsStr, sheet: &OsStr, code: &OsStr, samples: &OsStr) -> Answer {
-    let code: u32 = whole(code, "format code: 1 to 5")?;
+pub fn add(given: &Options) -> Answer {
+    let [name] = given.exactly()?;
+    files::no_input(name)?;
+    let wait = given
+        .value("--wait")
+        .map(|word| whole(word, "number of seconds"));
+    let wait = Duration::from_secs(wait.unwrap_or(Ok(WAIT_SECONDS))?);
+    let [sheet, code, samples] = ["--sheet", "--code", "--samples"].map(|name| given.needed(name));
+    let (sheet, code, samples) = (sheet?, code_of(code?)?, samples?);
+    let samples = Samples::of(Sheet::of(Some(sheet))?, code, samples)?;
+    // only now, so that nobody waits for a sheet or samples that are still to come
+    let held = Held::take(name, wait)?;
+    let mut image = Builder::resume(held.bytes.clone());
+    samples
+        .add_to(&mut image)
+        .map_err(|refusal| samples.told(name, &held.bytes, &refusal))?;
+    held.replace(image.bytes())?;
+    let traces = File::open(image.bytes()).map_or(0, |file| file.trace_count());
+    confirm(&format!(
+        "{}: trace {} added, now {} bytes\n",
+        told_name(name),
+        traces.saturating_sub(1),
+        grouped(image.bytes().len())
+    ))
+}
+
+fn code_of(word: &OsStr) -> Answer<u32> {
+    let code: u32 = whole(word, "format code: 1 to 5")?;
     if !(code::FIXED_16..=code::FLOAT_64).contains(&code) {
         return Err(unusable(format!("`{code}` is no format code: 1 to 5")));
     }
-    let strings = files::sheet(sheet)?;
-    let text = files::text(samples)?;
-    let old = files::shot(name)?;
-    let mut image = Builder::resume(old.clone());
-    let added = match code {
-        code::FLOAT_32 => image.add_bits(&strings, code, &rows(&text, pattern_of_code_4)?),
-        code::FLOAT_64 => image.add_bits(&strings, code, &rows(&text, pattern_of_code_5)?),
-        _ => image.add_integers(&strings, code, &rows(&text, integer)?),
-    };
-    added.map_err(|refusal| told(name, &old, &strings, &refusal))?;
-    files::replace(name, image.bytes())?;
-    let traces = File::open(image.bytes()).map_or(0, |file| file.trace_count());
-    let said = format!(
-        "{}: trace {} added, now {} bytes\n",
-        name.to_string_lossy(),
-        traces.saturating_sub(1),
-        files::grouped(image.bytes().len())
-    );
-    print(said.as_bytes())
+    Ok(code)
 }
 
-/// A refusal with what stands at its place: bytes of the file, a line of the sheet, a
-/// line of the samples.
-fn told(name: &OsStr, bytes: &[u8], sheet: &[u8], refusal: &Refusal) -> Stop {
-    let name = name.to_string_lossy();
-    let place = match refusal.counts() {
-        Place::Sheet => sheet_line(sheet, refusal.place),
-        Place::Row => format!("    line {} of the samples\n", refusal.place + 1),
-        _ => around(bytes, refusal),
-    };
-    refused(format!("{name}: {refusal}\n{place}"))
+/// A sheet and its name.
+struct Sheet<'a> {
+    name: &'a OsStr,
+    bytes: Vec<u8>,
 }
 
-/// The line of a sheet that starts at a place.
-fn sheet_line(sheet: &[u8], place: usize) -> String {
-    let (before, rest) = sheet.split_at(place.min(sheet.len()));
-    let number = before.iter().filter(|&&c| c == b'\n').count() + 1;
-    let end = rest.iter().position(|&c| c == b'\n');
-    let line = &rest[..end.unwrap_or(rest.len())];
-    let said = line.escape_ascii();
-    let why = match (line, end) {
-        (_, None) => " (it has no line end)",
-        ([], _) => " (it is empty)",
-        ([.., b'\r'], _) => " (it ends with 0Dh: save the sheet with plain line ends, 0Ah alone)",
-        _ if !line.contains(&b'\t') => " (it has no tab behind the keyword)",
-        _ => "",
-    };
-    format!("    line {number} of the sheet: {said}{why}\n")
+impl<'a> Sheet<'a> {
+    /// Without a name there are no strings.
+    fn of(name: Option<&'a OsStr>) -> Answer<Sheet<'a>> {
+        Ok(Sheet {
+            name: name.unwrap_or_default(),
+            bytes: name.map_or(Ok(Vec::new()), files::sheet)?,
+        })
+    }
+
+    /// A refusal that is the sheet's own.
+    fn told(&self, refusal: &Refusal) -> Option<Stop> {
+        let found = match refusal.number {
+            25 | 26 => line_found(&self.bytes, refusal),
+            27 => format!("the sheet has {} bytes", grouped(self.bytes.len())),
+            _ => return None,
+        };
+        Some(Told::new(self.name, refusal, found).stop())
+    }
+}
+
+/// What is added: a sheet, a code, and samples of its kind.
+struct Samples<'a> {
+    name: &'a OsStr,
+    text: String,
+    code: u32,
+    row: Row,
+    sheet: Sheet<'a>,
+}
+
+enum Row {
+    Integers(Vec<i32>),
+    Patterns(Vec<u64>),
+}
+
+impl<'a> Samples<'a> {
+    fn of(sheet: Sheet<'a>, code: u32, name: &'a OsStr) -> Answer<Samples<'a>> {
+        let text = files::text(name)?;
+        let row = match code {
+            code::FLOAT_32 => Row::Patterns(rows(&text, pattern_of_code_4)?),
+            code::FLOAT_64 => Row::Patterns(rows(&text, pattern_of_code_5)?),
+            _ => Row::Integers(rows(&text, integer)?),
+        };
+        Ok(Samples {
+            name,
+            text,
+            code,
+            row,
+            sheet,
+        })
+    }
+
+    fn add_to(&self, image: &mut Builder) -> Result<(), Refusal> {
+        match &self.row {
+            Row::Integers(row) => image.add_integers(&self.sheet.bytes, self.code, row),
+            Row::Patterns(row) => image.add_bits(&self.sheet.bytes, self.code, row),
+        }
+    }
+
+    /// A refusal of the shot file, of the sheet or of the samples.
+    fn told(&self, shot: &OsStr, bytes: &[u8], refusal: &Refusal) -> Stop {
+        if let Some(stop) = self.sheet.told(refusal) {
+            return stop;
+        }
+        let code = self.code;
+        match refusal.number {
+            1..=17 => Told::of_file(shot, bytes, refusal).stop(),
+            24 => Told::new(shot, refusal, slots_found(bytes)).stop(),
+            28 => {
+                let count = grouped(self.text.lines().count());
+                let found = format!("{count} samples for code {code}");
+                Told::new(self.name, refusal, found).stop()
+            }
+            29 => {
+                let line = self.text.lines().nth(refusal.place).unwrap_or("").trim();
+                let number = grouped(refusal.place + 1);
+                let found = format!("line {number} is `{line}`, for code {code}");
+                Told::new(self.name, refusal, found).stop()
+            }
+            _ => {
+                let found = format!("the file has {} bytes already", grouped(bytes.len()));
+                Told::new(shot, refusal, found).stop()
+            }
+        }
+    }
+}
+
+/// How many traces a full file was started for.
+fn slots_found(bytes: &[u8]) -> String {
+    match File::open(bytes).map_or(0, |file| file.pointer_room() / 4) {
+        1 => "the file was started for one trace and has it".into(),
+        slots => format!(
+            "the file was started for {} traces and has them all",
+            grouped(slots)
+        ),
+    }
 }
 
 /// Samples, one a line; blanks around one do not count.
@@ -149,15 +245,5 @@ mod tests {
         assert!(pattern_of_code_5("1e309").is_err() && pattern_of_code_5("0,5").is_err());
         assert!(pattern_of_code_5("0x+1").is_err() && pattern_of_code_5("0x").is_err());
         assert!(pattern_of_code_5("0x10000000000000000").is_err());
-    }
-
-    #[test]
-    fn the_sheets_line_is_named() {
-        let sheet = b"A\t1\r\nB 2\n\nC\t3";
-        let said = |place| sheet_line(sheet, place);
-        assert!(said(0).contains("line 1 of the sheet: A\\t1\\r (it ends with 0Dh"));
-        assert!(said(5).contains("line 2 of the sheet: B 2 (it has no tab"));
-        assert!(said(9).contains("line 3 of the sheet:  (it is empty)"));
-        assert!(said(10).contains("line 4 of the sheet: C\\t3 (it has no line end)"));
     }
 }

@@ -1,99 +1,15 @@
 //! The tool as the office and the crew run it: output, exit status, and a clear sentence
 //! where something cannot be done.
 
-use std::path::{Path, PathBuf};
+mod common;
+
+use common::{add, ended, run, sentence, text, tool, Folder};
+use std::path::Path;
 use std::process::{Command, Output, Stdio};
 
 use seg2::{Builder, Order};
 use seg2_reference::generate::{damaged, mutated, Model, Rng, WAYS};
 use seg2_reference::worked::{example, EXAMPLE_LISTED};
-
-/// A folder for one test, removed at its end.
-struct Folder(PathBuf);
-
-impl Folder {
-    fn new(name: &str) -> Folder {
-        let path = std::env::temp_dir().join(format!("seg2-tool-{}-{name}", std::process::id()));
-        std::fs::create_dir_all(&path).expect("a folder for the test");
-        Folder(path)
-    }
-
-    fn path(&self, name: &str) -> PathBuf {
-        self.0.join(name)
-    }
-
-    /// A file in it.
-    fn keep(&self, name: &str, bytes: impl AsRef<[u8]>) -> PathBuf {
-        let path = self.path(name);
-        std::fs::write(&path, bytes).expect("a file for the test");
-        path
-    }
-
-    fn names(&self) -> Vec<String> {
-        let entries = std::fs::read_dir(&self.0).expect("the folder");
-        let name = |e: std::io::Result<std::fs::DirEntry>| e.expect("an entry").file_name();
-        let mut names: Vec<String> = entries.map(|e| text(name(e).as_encoded_bytes())).collect();
-        names.sort();
-        names
-    }
-}
-
-impl Drop for Folder {
-    fn drop(&mut self) {
-        let _ = std::fs::remove_dir_all(&self.0);
-    }
-}
-
-fn text(bytes: &[u8]) -> String {
-    String::from_utf8_lossy(bytes).into_owned()
-}
-
-fn tool() -> Command {
-    Command::new(env!("CARGO_BIN_EXE_seg2"))
-}
-
-/// Words and files of a command.
-macro_rules! run {
-    ($($word:expr),* $(,)?) => {{
-        let mut command = tool();
-        $(command.arg(&$word);)*
-        ended(command.stdin(Stdio::null()).output().expect("the tool runs"))
-    }};
-}
-
-/// Exit status, output, errors.
-type Ended = (i32, String, String);
-
-fn ended(out: Output) -> Ended {
-    let status = out.status.code().expect("an exit status");
-    (status, text(&out.stdout), text(&out.stderr))
-}
-
-/// Adds a trace to a file.
-fn add(shot: &Path, sheet: &Path, code: &str, samples: &Path) -> Ended {
-    run!(
-        "add",
-        shot,
-        "--sheet",
-        sheet,
-        "--code",
-        code,
-        "--samples",
-        samples
-    )
-}
-
-/// One sentence on standard error, nothing on standard output, status 2.
-fn sentence(ended: Ended, says: &str) {
-    let (status, out, error) = ended;
-    assert_eq!((status, out.as_str()), (2, ""), "{error}");
-    assert!(
-        error.starts_with("seg2: ") && error.ends_with('\n'),
-        "{error}"
-    );
-    assert!(error.contains(says), "{error}");
-    assert!(!error.contains("panicked"), "{error}");
-}
 
 // ---- words
 
@@ -104,7 +20,6 @@ fn what_is_not_understood_is_status_2() {
         ("chekc a", "`chekc` is no command"),
         ("check", "usage: seg2 check FILE.."),
         ("list", "usage: seg2 list FILE"),
-        ("list a b", "usage: seg2 list FILE"),
         ("list --bits a", "--bits is no option of this command"),
         ("samples a", "usage: seg2 samples FILE TRACE"),
         ("samples a first", "`first` is no trace's number"),
@@ -162,7 +77,6 @@ fn files_that_cannot_be_read_get_a_sentence() {
     file.set_len(67_108_865).expect("a long file");
     let cases = [
         (missing.clone(), "cannot be read: there is no such file"),
-        (folder.0.clone(), "is a folder, not a file"),
         (empty, "is empty: a SEG-2 file has at least 32 bytes"),
         (
             long,
@@ -182,6 +96,10 @@ fn files_that_cannot_be_read_get_a_sentence() {
     sentence(add(&shot, &missing, "1", &samples), no_file);
     sentence(add(&shot, &sheet, "1", &missing), no_file);
     sentence(add(&shot, &folder.0, "1", &samples), "is a folder");
+    let no_file_either = "is a folder, not a file";
+    sentence(add(&folder.0, &sheet, "1", &samples), no_file_either);
+    sentence(run!("list", folder.0), no_file_either);
+    sentence(run!("samples", folder.0, "0"), no_file_either);
     let new = folder.path("new");
     sentence(
         run!("new", new, "--order", "low", "--slots", "1", "--sheet", missing),
@@ -224,12 +142,15 @@ fn check_names_rule_part_and_byte_and_shows_the_bytes() {
     let lines: Vec<&str> = out.lines().collect();
     let said = "refused (16) in trace 0 at byte 88: a forbidden character in a keyword or value";
     assert_eq!(lines[0], format!("{}: {said}", shot.display()));
-    assert_eq!(lines.len(), 4);
-    assert!(lines[1].starts_with("        64  "), "{out}");
-    assert!(lines[2].starts_with("        80  "), "{out}");
-    assert!(lines[2].contains("[0A]"), "{out}");
-    assert!(lines[2].ends_with("..........sTACK "), "{out}");
-    assert!(lines[3].starts_with("        96  "), "{out}");
+    let found = "    found: byte 90 is `s` (73h), a small letter, in the keyword `sTACK`";
+    assert_eq!(lines[1], found);
+    assert!(lines[2].starts_with("    to do: set the keyword in capitals"));
+    assert!(lines[3].starts_with("        64  "), "{out}");
+    assert!(lines[4].starts_with("        80  "), "{out}");
+    assert!(lines[4].contains("[0A]"), "{out}");
+    assert!(lines[4].ends_with("..........sTACK "), "{out}");
+    assert!(lines[5].starts_with("        96  "), "{out}");
+    assert_eq!(lines[6..], ["    more: ./seg2 explain 16"]);
 }
 
 #[test]
@@ -239,13 +160,13 @@ fn check_goes_on_and_the_worst_is_the_status() {
     let bad = folder.keep("bad", b"no such thing");
     let missing = folder.path("missing");
     let (status, out, _) = run!("check", good, bad, good);
-    assert_eq!((status, out.lines().count()), (1, 3));
+    assert_eq!((status, out.matches(": accepted\n").count()), (1, 2));
     assert!(out.contains("refused (1) in the file: "), "{out}");
+    assert!(out.ends_with("\n3 files: 2 accepted, 1 refused\n"), "{out}");
     let (status, out, error) = run!("check", bad, missing, good);
-    assert_eq!(
-        (status, out.lines().count(), error.lines().count()),
-        (2, 2, 1)
-    );
+    assert_eq!((status, error.lines().count()), (2, 1));
+    let last = "\n3 files: 1 accepted, 1 refused, 1 not read\n";
+    assert!(out.ends_with(last), "{out}");
 }
 
 #[test]
@@ -257,7 +178,7 @@ fn check_of_many_files_is_quiet_where_no_terminal_looks_on() {
         command.arg(folder.keep(&format!("shot-{i:02}"), example()));
     }
     let (status, out, error) = ended(command.output().expect("the tool runs"));
-    assert_eq!((status, out.lines().count(), error.as_str()), (0, 30, ""));
+    assert_eq!((status, out.lines().count(), error.as_str()), (0, 31, ""));
 }
 
 #[test]
@@ -455,7 +376,7 @@ fn samples_that_are_not_there_are_refused() {
     let (status, out, error) = run!("samples", shot, "1");
     assert_eq!((status, out.as_str()), (1, ""));
     assert!(
-        error.contains("refused (18): there is no such trace"),
+        error.contains("refused (18): the file has no such part"),
         "{error}"
     );
     let (status, _, error) = run!("samples", shot, "0", "--bits");
@@ -496,7 +417,7 @@ fn a_file_is_started_and_traces_are_added() {
     let (status, out, error) = add(&shot, &stack, "1", &samples);
     assert_eq!((status, out.as_str()), (1, ""));
     assert!(
-        error.contains("refused (24): no pointer slot is free"),
+        error.contains("refused (24): no trace slot is free"),
         "{error}"
     );
     assert_eq!(std::fs::read(&shot).expect("the file"), example());
@@ -561,7 +482,7 @@ fn new_is_refused_by_the_rules() {
         "{error}"
     );
     assert!(
-        error.contains("line 2 of the sheet: B 2 (it has no tab"),
+        error.contains("found: line 2, `B 2`: it has no tab"),
         "{error}"
     );
     assert!(!shot.exists());
@@ -583,7 +504,12 @@ fn add_is_refused_by_the_rules_and_leaves_the_file() {
         assert_eq!(std::fs::read(&shot).expect("the file"), before);
     };
     refused("1", "1\n2\n40000\n", &none, "refused (29) at sample 2: ");
-    refused("1", "1\n2\n40000\n", &none, "line 3 of the samples");
+    refused(
+        "1",
+        "1\n2\n40000\n",
+        &none,
+        "found: line 3 is `40000`, for code 1",
+    );
     refused("3", "1\n2\n", &none, "refused (28): ");
     refused("4", "0x100000000\n", &none, "refused (29) at sample 0: ");
     let order = folder.keep("order", "B\t1\nA\t1\n");
@@ -718,6 +644,6 @@ fn explain_has_every_row() {
             out.starts_with(&format!("{number}: {}\nplace: ", seg2::text(number))),
             "{out}"
         );
-        assert_eq!(out.lines().count(), 3, "{out}");
+        assert_eq!(out.lines().count(), 4, "{out}");
     }
 }

@@ -120,14 +120,39 @@ public final class Seg2 {
             this.place = place;
         }
 
-        /** The row in plain words. */
+        /** The row in plain words: those of seg2.h and of Rust. */
         public String text() {
             return nativeText(number);
         }
 
+        /** Row, part, place and words, as Rust's Display tells them. */
         @Override
         public String toString() {
-            return "refusal " + number + (part < 0 ? "" : " in trace " + part) + " at " + place + ": " + text();
+            return "refused (" + number + ")" + whose() + where() + ": " + text();
+        }
+
+        private String whose() {
+            // from 18 on the part is always -1 and says nothing
+            if (number >= NO_TRACE) {
+                return "";
+            }
+            return part < 0 ? " in the file" : " in trace " + part;
+        }
+
+        private String where() {
+            switch (number) {
+                case NO_NUMBER:
+                case DIGITS:
+                case NO_DOUBLE:
+                    return " at byte " + place + " of the value";
+                case SHEET_LINE:
+                case SHEET_ORDER:
+                    return " at byte " + place + " of the sheet";
+                case SAMPLE_RANGE:
+                    return " at sample " + place;
+                default:
+                    return number >= REVISION && number <= KEYWORD_ORDER ? " at byte " + place : "";
+            }
         }
 
         @Override
@@ -458,7 +483,8 @@ public final class Seg2 {
         return doubleValue(buffer, length, part, bytesOf(key, "keyword"));
     }
 
-    /** The value of a keyword as a location. 18 as above, 23 where the values are neither one nor three, then 20 to 22 value by value. */
+    /** The value of a keyword as a location. 18 as above, 23 where the values are neither one nor three (so where the
+     * keyword is missing), then 20 to 22 value by value. */
     public static Location location(ByteBuffer buffer, long length, int part, byte[] key) {
         long[] a = new long[7];
         nativeLocation(lent(buffer), buffer.limit(), length, part, there(key, "keyword"), a);

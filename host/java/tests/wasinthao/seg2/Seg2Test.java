@@ -2,6 +2,7 @@ package wasinthao.seg2;
 
 import java.io.IOException;
 import java.io.RandomAccessFile;
+import java.lang.reflect.Constructor;
 import java.lang.reflect.Field;
 import java.lang.reflect.Modifier;
 import java.nio.ByteBuffer;
@@ -216,7 +217,7 @@ public final class Seg2Test {
         Seg2.Verdict verdict = Seg2.check(b, 108);
         refused(16, 0, 88, verdict);
         same("a forbidden character in a keyword or value", verdict.refusal().text());
-        same("refusal 16 in trace 0 at 88: a forbidden character in a keyword or value", verdict.refusal().toString());
+        same("refused (16) in trace 0 at byte 88: a forbidden character in a keyword or value", verdict.refusal().toString());
         same(verdict.refusal(), Seg2.fileBlock(b, 108).refusal());
         same(verdict.refusal().hashCode(), Seg2.fileBlock(b, 108).refusal().hashCode());
         Seg2.FileBlock file = Seg2.fileBlock(b, 108);
@@ -225,7 +226,7 @@ public final class Seg2Test {
         for (long length : new long[] {0, 31, 201, Long.MAX_VALUE, -1, Long.MIN_VALUE}) {
             refused(1, -1, 0, Seg2.check(good, length));
         }
-        same("refusal 1 at 0: the length is under 32 bytes, over 67,108,864 bytes, or over the buffer", Seg2.check(good, 0).refusal().toString());
+        same("refused (1) in the file: the length is under 32 bytes, over 67,108,864 bytes, or over the buffer", Seg2.check(good, 0).refusal().toString());
         refused(1, -1, 0, Seg2.check(ByteBuffer.allocateDirect(0), 0));
         refused(1, -1, 0, Seg2.fileBlock(ByteBuffer.allocateDirect(0), 0));
         for (int part : new int[] {-2, 1, Integer.MIN_VALUE, Integer.MAX_VALUE}) {
@@ -285,6 +286,20 @@ public final class Seg2Test {
             same(true, m.find());
             same(Long.parseLong(m.group(1)), ((Number) Seg2.class.getField(name).get(null)).longValue());
         }
+    }
+
+    /** Every row is told in the words of a list that Rust is held to as well: number, part, place and words, with tabs between them. */
+    private static void theWords(Path list) throws Exception {
+        Constructor<Seg2.Refusal> refusal = Seg2.Refusal.class.getDeclaredConstructor(int.class, int.class, long.class);
+        refusal.setAccessible(true);
+        Set<String> numbers = new HashSet<>();
+        for (String line : Files.readAllLines(list, StandardCharsets.US_ASCII)) {
+            String[] told = line.split("\t");
+            same(4, told.length);
+            same(told[3], refusal.newInstance(Integer.parseInt(told[0]), Integer.parseInt(told[1]), Long.parseLong(told[2])).toString());
+            numbers.add(told[0]);
+        }
+        same(33, numbers.size());
     }
 
     private static void bitsAndClasses() {
@@ -616,6 +631,7 @@ public final class Seg2Test {
         test("values are the buffer's own bytes", Seg2Test::valuesAreTheBuffersOwnBytes);
         test("refusals with part, place and words", Seg2Test::refusals);
         test("numbers, names and limits are the header's", () -> theTable(Paths.get(args[0])));
+        test("a refusal is told as Rust tells it", () -> theWords(Paths.get(args[1])));
         test("bit patterns and classes", Seg2Test::bitsAndClasses);
         test("numbers, doubles and locations", Seg2Test::numbersAndLocations);
         test("the lines of a NOTE", Seg2Test::noteLines);

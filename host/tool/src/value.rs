@@ -1,0 +1,160 @@
+//! value: the value of a keyword.
+
+use crate::files::{self, print, told_name};
+use crate::options::{whole, Options};
+use crate::samples::{decimal, open, trace_of};
+use crate::stop::{refused, unusable, Answer, Stop};
+use crate::words::{value_found, Asked, Told};
+use seg2::{File, Location, Number, Refusal, Trace};
+use std::ffi::OsStr;
+use std::os::unix::ffi::OsStrExt;
+
+/// A part of an accepted file.
+enum Part<'a> {
+    File(File<'a>),
+    Trace(Trace<'a>),
+}
+
+impl<'a> Part<'a> {
+    fn value(&self, keyword: &[u8]) -> Option<&'a [u8]> {
+        match self {
+            Part::File(file) => file.value(keyword),
+            Part::Trace(trace) => trace.value(keyword),
+        }
+    }
+
+    fn number(&self, keyword: &[u8]) -> Result<Number, Refusal> {
+        match self {
+            Part::File(file) => file.number(keyword),
+            Part::Trace(trace) => trace.number(keyword),
+        }
+    }
+
+    fn double(&self, keyword: &[u8]) -> Result<f64, Refusal> {
+        match self {
+            Part::File(file) => file.double(keyword),
+            Part::Trace(trace) => trace.double(keyword),
+        }
+    }
+
+    fn location(&self, keyword: &[u8]) -> Result<Location, Refusal> {
+        match self {
+            Part::File(file) => file.location(keyword),
+            Part::Trace(trace) => trace.location(keyword),
+        }
+    }
+
+    fn name(&self) -> String {
+        match self {
+            Part::File(_) => "the file".into(),
+            Part::Trace(trace) => format!("trace {}", trace.index()),
+        }
+    }
+}
+
+/// As what a value is asked for, where not as text.
+#[derive(Clone, Copy)]
+enum Kind {
+    Number,
+    Double,
+    Location,
+}
+
+impl Kind {
+    fn of(word: Option<&OsStr>) -> Answer<Option<Kind>> {
+        let word = word.map_or("text".into(), OsStr::to_string_lossy);
+        Ok(match word.as_ref() {
+            "text" => None,
+            "number" => Some(Kind::Number),
+            "double" => Some(Kind::Double),
+            "location" => Some(Kind::Location),
+            _ => {
+                return Err(unusable(format!(
+                    "`{word}` is no kind of value: text, number, double or location"
+                )))
+            }
+        })
+    }
+}
+
+/// Prints a value, or says that there is none: status 1.
+pub fn run(given: &Options) -> Answer {
+    let [name, part, keyword] = given.exactly()?;
+    let kind = Kind::of(given.value("--as"))?;
+    let index = index_of(part)?;
+    let bytes = files::shot(name)?;
+    let file = open(name, &bytes)?;
+    let part = match index {
+        None => Part::File(file),
+        Some(index) => Part::Trace(trace_of(name, &file, index)?),
+    };
+    let mut said = match kind {
+        None => {
+            let value = part.value(keyword.as_bytes());
+            let value = value.ok_or_else(|| absent(name, &part, keyword))?;
+            text(&file, keyword.as_bytes(), value)
+        }
+        Some(kind) => number(&part, keyword.as_bytes(), kind)
+            .map_err(|refusal| told(name, &part, keyword, kind, &refusal))?
+            .into_bytes(),
+    };
+    said.push(b'\n');
+    print(&said)
+}
+
+/// A value as a number of some kind; a keyword that is missing has none.
+fn number(part: &Part, keyword: &[u8], kind: Kind) -> Result<String, Refusal> {
+    Ok(match kind {
+        Kind::Number => as_written(part.number(keyword)?),
+        Kind::Double => decimal(part.double(keyword)?),
+        Kind::Location => coordinates(part.location(keyword)?),
+    })
+}
+
+fn told(name: &OsStr, part: &Part, keyword: &OsStr, kind: Kind, refusal: &Refusal) -> Stop {
+    let asked = match kind {
+        Kind::Location => Asked::Location,
+        Kind::Number | Kind::Double => Asked::Number,
+    };
+    let keyword = keyword.as_bytes();
+    let found = value_found(refusal, keyword, part.value(keyword), asked);
+    Told::new(name, refusal, found).stop()
+}
+
+/// F or -1 is the file, any other number a trace.
+fn index_of(part: &OsStr) -> Answer<Option<usize>> {
+    if part == "F" || part == "-1" {
+        return Ok(None);
+    }
+    whole(part, "part: F for the file, else a trace's number").map(Some)
+}
+
+fn absent(name: &OsStr, part: &Part, keyword: &OsStr) -> Stop {
+    let (name, part) = (told_name(name), part.name());
+    let keyword = told_name(keyword);
+    refused(format!("{name}: {part} has no keyword {keyword}"))
+}
+
+/// A value as it stands there, the lines of a NOTE on lines of their own.
+fn text(file: &File, keyword: &[u8], value: &[u8]) -> Vec<u8> {
+    if keyword != b"NOTE" {
+        return value.to_vec();
+    }
+    file.lines(value).collect::<Vec<_>>().join(&b'\n')
+}
+
+/// Minus, all digits, E and the power of ten where it is not 0.
+fn as_written(number: Number) -> String {
+    let minus = if number.minus { "-" } else { "" };
+    let power = match number.power {
+        0 => String::new(),
+        power => format!("E{power}"),
+    };
+    format!("{minus}{}{power}", number.coefficient)
+}
+
+/// As many values as there are.
+fn coordinates(location: Location) -> String {
+    let values = [location.x, location.y, location.z].map(decimal);
+    values[..location.count as usize].join(" ")
+}

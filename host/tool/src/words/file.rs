@@ -1,0 +1,391 @@
+//! Rows 1 to 13: the blocks of a file that is refused. Nothing of such a file is sure, so
+//! what is not there is read as 0.
+
+use super::{cut_off, hex, strings, Found};
+use crate::files::grouped;
+use seg2::Refusal;
+
+/// The bytes of a refused file.
+#[derive(Clone, Copy)]
+pub struct Raw<'a> {
+    pub bytes: &'a [u8],
+}
+
+impl<'a> Raw<'a> {
+    fn high_first(self) -> bool {
+        self.bytes.starts_with(&[0x3A, 0x55])
+    }
+
+    /// Bytes of the file, fewer where it ends.
+    pub fn part(self, start: usize, size: usize) -> &'a [u8] {
+        let rest = self.bytes.get(start..).unwrap_or(&[]);
+        &rest[..rest.len().min(size)]
+    }
+
+    /// A whole number of the file's order.
+    pub fn word(self, at: usize, size: usize) -> usize {
+        let bytes = self.part(at, size).iter();
+        let push = |word: usize, &byte: &u8| word << 8 | usize::from(byte);
+        if self.high_first() {
+            bytes.fold(0, push)
+        } else {
+            bytes.rev().fold(0, push)
+        }
+    }
+
+    /// M.
+    fn pointer_room(self) -> usize {
+        self.word(4, 2)
+    }
+
+    /// N.
+    fn trace_count(self) -> usize {
+        self.word(6, 2)
+    }
+
+    /// A terminator whose length stands at a place.
+    fn terminator(self, place: usize) -> &'a [u8] {
+        self.part(place + 1, self.word(place, 1).min(2))
+    }
+
+    pub fn string_terminator(self) -> &'a [u8] {
+        self.terminator(8)
+    }
+
+    pub fn line_terminator(self) -> &'a [u8] {
+        self.terminator(11)
+    }
+
+    fn pointer(self, trace: usize) -> usize {
+        self.word(32 + 4 * trace, 4)
+    }
+
+    /// Where a trace block ends, and where its data does.
+    fn block_end(self, trace: usize) -> usize {
+        let start = self.pointer(trace);
+        start + self.word(start + 2, 2)
+    }
+
+    fn data_end(self, trace: usize) -> usize {
+        self.block_end(trace) + self.word(self.pointer(trace) + 4, 4)
+    }
+
+    /// Where the strings of a part stand: those of an image without traces run to its end.
+    pub fn area(self, part: i32) -> (usize, usize) {
+        match usize::try_from(part) {
+            Ok(trace) => (self.pointer(trace) + 32, self.block_end(trace)),
+            Err(_) if self.trace_count() == 0 => (32 + self.pointer_room(), self.bytes.len()),
+            Err(_) => (32 + self.pointer_room(), self.pointer(0)),
+        }
+    }
+}
+
+/// What stands at the place of a refusal by 1 to 17.
+pub fn found(bytes: &[u8], refusal: &Refusal) -> Found {
+    let raw = Raw { bytes };
+    // only rows 8 on can be a trace's
+    let trace = usize::try_from(refusal.part).unwrap_or(0);
+    match refusal.number {
+        1 => cut_off(bytes.len(), 32),
+        2 => format!("it starts with {}", hex(raw.part(0, 2))).into(),
+        3 => format!("bytes 2 and 3 say revision {}", raw.word(2, 2)).into(),
+        4 => format!("bytes 4 and 5 say {} bytes", grouped(raw.pointer_room())).into(),
+        5 => count_found(raw).into(),
+        6 => terminator_found(raw, refusal.place).into(),
+        7 => cut_off(bytes.len(), 32 + raw.pointer_room()),
+        8 => pointer_found(raw, trace),
+        9 => mark_found(raw, refusal.place).into(),
+        10 => block_found(raw, trace),
+        11 => data_found(raw, trace),
+        12 => format!("the code is {}", raw.word(refusal.place, 1)).into(),
+        13 => samples_found(raw, raw.pointer(trace)).into(),
+        _ => strings::found(raw, refusal).into(),
+    }
+}
+
+fn count_found(raw: Raw) -> String {
+    let room = raw.pointer_room();
+    match raw.trace_count() {
+        0 => "no trace was added yet".into(),
+        count => format!("{count} traces, and the pointer room holds {}", room / 4),
+    }
+}
+
+fn terminator_found(raw: Raw, place: usize) -> String {
+    let whose = if place == 8 { "string" } else { "line" };
+    let length = raw.word(place, 1);
+    if !(1..=2).contains(&length) {
+        return format!("the {whose} terminator's length is {length}, and 1 and 2 are allowed");
+    }
+    let characters = raw.terminator(place);
+    let bad = characters.iter().find(|&&c| c > 31 || c == b'\t');
+    let shared = characters
+        .iter()
+        .find(|c| raw.string_terminator().contains(c));
+    match (bad, shared) {
+        (Some(b'\t'), _) => format!("the {whose} terminator uses a tab (09h)"),
+        (Some(&c), _) => format!("the {whose} terminator uses {}", hex(&[c])),
+        (None, Some(&c)) => format!("both terminators use {}", hex(&[c])),
+        (None, None) => format!("the {whose} terminator is {}", hex(characters)),
+    }
+}
+
+fn pointer_found(raw: Raw, trace: usize) -> Found {
+    let start = raw.pointer(trace);
+    let before = match trace.checked_sub(1) {
+        Some(previous) => raw.data_end(previous),
+        None => 32 + raw.pointer_room(),
+    };
+    let said = format!("the pointer leads to byte {}", grouped(start));
+    if start % 4 != 0 {
+        return format!("{said}, no multiple of 4").into();
+    }
+    if start < before {
+        let before = grouped(before);
+        return format!("{said}, and what stands before ends at byte {before}").into();
+    }
+    cut_off(raw.bytes.len(), start + 32)
+}
+
+fn mark_found(raw: Raw, place: usize) -> String {
+    let there = raw.part(place, 2);
+    let mark = if raw.high_first() {
+        [0x44, 0x22]
+    } else {
+        [0x22, 0x44]
+    };
+    let turned = there.iter().rev().eq(mark.iter());
+    let why = if turned { ": the other byte order" } else { "" };
+    format!(
+        "{} stand there, and a trace block starts with {}{why}",
+        hex(there),
+        hex(&mark)
+    )
+}
+
+fn block_found(raw: Raw, trace: usize) -> Found {
+    let size = raw.word(raw.pointer(trace) + 2, 2);
+    let said = format!("the block's size is {}", grouped(size));
+    match size {
+        0..=31 => format!("{said}, under 32").into(),
+        _ if size % 4 != 0 => format!("{said}, no multiple of 4").into(),
+        _ => cut_off(raw.bytes.len(), raw.block_end(trace)),
+    }
+}
+
+fn data_found(raw: Raw, trace: usize) -> Found {
+    let size = raw.word(raw.pointer(trace) + 4, 4);
+    if size % 4 != 0 {
+        return format!("the data's size is {}, no multiple of 4", grouped(size)).into();
+    }
+    cut_off(raw.bytes.len(), raw.data_end(trace))
+}
+
+fn samples_found(raw: Raw, block: usize) -> String {
+    let (data, count, code) = (
+        raw.word(block + 4, 4),
+        raw.word(block + 8, 4),
+        raw.word(block + 12, 1),
+    );
+    let samples = format!("{} samples of code {code}", grouped(count));
+    if code == 3 && count % 4 != 0 {
+        return format!("{samples}, no multiple of 4");
+    }
+    let needed = match code {
+        1 => 2 * count,
+        3 => 10 * (count / 4),
+        5 => 8 * count,
+        _ => 4 * count,
+    };
+    format!(
+        "{samples} need {} bytes, and the data has {}",
+        grouped(needed),
+        grouped(data)
+    )
+}
+
+#[cfg(test)]
+mod tests {
+    use super::*;
+    use seg2::{Builder, Order};
+    use seg2_reference::generate::{damaged, mutated, Model, Rng, WAYS};
+    use seg2_reference::worked::example;
+
+    /// What is said of bytes that are refused, with the number before it.
+    fn said(bytes: &[u8]) -> String {
+        let refusal = seg2::check(bytes, bytes.len()).expect_err("a refusal");
+        format!("{}: {}", refusal.number, found(bytes, &refusal).text)
+    }
+
+    /// The example with some bytes changed.
+    fn changed(changes: &[(usize, &[u8])]) -> Vec<u8> {
+        let mut bytes = example();
+        for (at, new) in changes {
+            bytes[*at..at + new.len()].copy_from_slice(new);
+        }
+        bytes
+    }
+
+    #[test]
+    fn each_rule_says_what_was_found() {
+        let cases: &[(usize, &[u8], &str)] = &[
+            (0, &[0], "2: it starts with 00h 3Ah"),
+            (2, &[2], "3: bytes 2 and 3 say revision 2"),
+            (4, &[6], "4: bytes 4 and 5 say 6 bytes"),
+            (6, &[0], "5: no trace was added yet"),
+            (6, &[2], "5: 2 traces, and the pointer room holds 1"),
+            (8, &[3], "6: the string terminator's length is 3, and 1 and 2 are allowed"),
+            (9, b"A", "6: the string terminator uses 41h"),
+            (12, b"\t", "6: the line terminator uses a tab (09h)"),
+            (12, &[0], "6: both terminators use 00h"),
+            (4, &[252], "7: cut off: 108 bytes there, at least 284 needed"),
+            (32, &[58], "8: the pointer leads to byte 58, no multiple of 4"),
+            (32, &[32], "8: the pointer leads to byte 32, and what stands before ends at byte 36"),
+            (32, &[80], "8: cut off: 108 bytes there, at least 112 needed"),
+            (56, &[0], "9: 00h 44h stand there, and a trace block starts with 22h 44h"),
+            (56, &[0x44, 0x22], "9: 44h 22h stand there, and a trace block starts with 22h 44h: the other byte order"),
+            (58, &[28], "10: the block's size is 28, under 32"),
+            (58, &[46], "10: the block's size is 46, no multiple of 4"),
+            (58, &[60], "10: cut off: 108 bytes there, at least 116 needed"),
+            (60, &[6], "11: the data's size is 6, no multiple of 4"),
+            (60, &[12], "11: cut off: 108 bytes there, at least 112 needed"),
+            (68, &[9], "12: the code is 9"),
+            (64, &[5], "13: 5 samples of code 1 need 10 bytes, and the data has 8"),
+            (68, &[3], "13: 3 samples of code 3, no multiple of 4"),
+            (88, &[2], "14: the offset is 2, and the shortest string has 4 bytes"),
+            (88, &[200], "14: the offset 200 leads to byte 288, and the strings end at byte 100"),
+            (88, b"\x0C\0STACK 111\0", "14: the strings end at byte 100 without an end mark"),
+            (97, b"A", "15: byte 97 is 41h, and the string of `STACK` ends with 00h"),
+            (92, b"a", "16: byte 92 is `a` (61h), a small letter, in the keyword `STaCK`"),
+            (90, b" ", "16: the keyword is empty: byte 90 is a space (20h)"),
+            (96, &[0xE9], "16: byte 96 is E9h, no ASCII character, in the value of `STACK`"),
+        ];
+        for (at, new, words) in cases {
+            assert_eq!(said(&changed(&[(*at, new)])), *words);
+        }
+        assert_eq!(
+            said(&example()[..31]),
+            "1: cut off: 31 bytes there, at least 32 needed"
+        );
+    }
+
+    /// A file whose block has two strings, the second one's start given.
+    fn two_strings(sheet: &str, second: &str) -> (Vec<u8>, usize) {
+        let mut shot = Builder::start(Order::High, 1, b"").expect("a start");
+        shot.add_integers(sheet.as_bytes(), 1, &[])
+            .expect("a trace");
+        let bytes = shot.finish();
+        let at = bytes
+            .windows(second.len())
+            .position(|w| w == second.as_bytes());
+        (bytes, at.expect("the string"))
+    }
+
+    #[test]
+    fn the_order_is_told_with_the_keyword_before() {
+        let (mut bytes, at) = two_strings("B\t1\nC\t2\n", "C 2");
+        bytes[at] = b'A';
+        assert_eq!(said(&bytes), "17: `A` follows `B`, and comes before it");
+        bytes[at] = b'B';
+        assert_eq!(said(&bytes), "17: `B` is there twice");
+    }
+
+    #[test]
+    fn half_a_line_terminator_is_told_as_one() {
+        let (mut bytes, at) = two_strings("A\t1\nNOTE\tX?Y\n", "X?Y");
+        bytes[11..14].copy_from_slice(&[2, 13, 10]);
+        bytes[at + 1] = 10;
+        let words =
+            "is 0Ah, a control character, and no whole line terminator, in the value of `NOTE`";
+        assert_eq!(said(&bytes), format!("16: byte {} {words}", at + 1));
+    }
+
+    #[test]
+    fn a_file_that_is_cut_anywhere_is_told_to_be_cut_off() {
+        let mut rng = Rng::new(401);
+        let mut cut = 0;
+        for _ in 0..3000 {
+            let laid = Model::random(&mut rng).lay();
+            let there = rng.between(1, laid.length);
+            let bytes = &laid.buffer[..there];
+            let Err(refusal) = seg2::check(bytes, there) else {
+                continue;
+            };
+            let found = found(bytes, &refusal);
+            assert!(found.cut_off, "{refusal}: {}", found.text);
+            let digits = |text: &str| text.replace(',', "").parse::<usize>().expect("a number");
+            let words: Vec<&str> = found.text.split(' ').collect();
+            assert_eq!(digits(words[2]), there);
+            let needed = digits(words[7]);
+            assert!(there < needed && needed <= laid.length, "{}", found.text);
+            cut += 1;
+        }
+        assert!(cut > 1000, "{cut}");
+    }
+
+    /// The byte that is told to be forbidden is the one: with a good one there, something
+    /// else is said.
+    fn told_byte_matters(bytes: &[u8], words: &str) {
+        let (_, rest) = words.split_once("byte ").expect("a place");
+        let place: usize = rest
+            .split(' ')
+            .next()
+            .and_then(|n| n.parse().ok())
+            .expect("a number");
+        let mut mended = bytes.to_vec();
+        mended[place] = b'A';
+        if let Err(refusal) = seg2::check(&mended, mended.len()) {
+            assert_ne!(
+                format!("{}: {}", refusal.number, found(&mended, &refusal).text),
+                words
+            );
+        }
+    }
+
+    #[test]
+    fn every_damage_is_told_by_what_was_found() {
+        let mut rng = Rng::new(402);
+        for way in WAYS {
+            for _ in 0..60 {
+                let case = damaged(&mut rng, way);
+                let bytes = case.buffer.get(..case.length).unwrap_or(&case.buffer);
+                let Err(refusal) = seg2::check(bytes, bytes.len()) else {
+                    continue;
+                };
+                let words = found(bytes, &refusal);
+                assert_eq!(words.cut_off, words.text.starts_with("cut off: "));
+                if refusal.number == 16 {
+                    told_byte_matters(bytes, &said(bytes));
+                }
+            }
+        }
+    }
+
+    #[test]
+    fn strings_of_a_start_run_to_its_end() {
+        let image = Builder::start(Order::Low, 1, b"STACK\t1\n").expect("a start");
+        let refused = |at: usize, new: u8| {
+            let mut bytes = image.bytes().to_vec();
+            bytes[at] = new;
+            let refusal = Builder::resume(bytes.clone()).add_integers(b"", 1, &[]);
+            let refusal = refusal.expect_err("a refusal");
+            format!("{}: {}", refusal.number, found(&bytes, &refusal).text)
+        };
+        let words = "14: the offset 200 leads to byte 236, and the strings end at byte 48";
+        assert_eq!(refused(36, 200), words);
+        let words = "16: byte 38 is `s` (73h), a small letter, in the keyword `sTACK`";
+        assert_eq!(refused(38, b's'), words);
+    }
+
+    #[test]
+    fn no_bytes_at_all_are_too_strange_for_words() {
+        let mut rng = Rng::new(403);
+        for _ in 0..5000 {
+            let (buffer, length) = mutated(&mut rng);
+            let bytes = buffer.get(..length).unwrap_or(&buffer);
+            if let Err(refusal) = seg2::check(bytes, bytes.len()) {
+                assert!(!found(bytes, &refusal).text.is_empty());
+            }
+        }
+    }
+}

@@ -1,0 +1,198 @@
+//! What a crew reads where something is refused: whose fault it is, where, what was found,
+//! what to do, and where more is said.
+
+mod common;
+
+use common::{add, run, Folder};
+use std::path::Path;
+
+use seg2::{Builder, Order};
+use seg2_reference::worked::example;
+
+/// The lines of a refusal: the first with this start, what was found, something to do, and
+/// at the end the hint.
+fn told(said: &str, name: &Path, number: u32, found: &str) {
+    let lines: Vec<&str> = said.trim_end().lines().collect();
+    let name = name.display();
+    let start = format!("{name}: refused ({number})");
+    let first = lines[0].strip_prefix("seg2: ").unwrap_or(lines[0]);
+    assert!(first.starts_with(&start), "{said}");
+    assert!(first.ends_with(seg2::text(number)), "{said}");
+    assert_eq!(lines[1], format!("    found: {found}"), "{said}");
+    assert!(lines[2].starts_with("    to do: "), "{said}");
+    assert!(lines[2].len() > 15, "{said}");
+    let last = format!("    more: ./seg2 explain {number}");
+    assert_eq!(lines.last(), Some(&last.as_str()), "{said}");
+}
+
+/// A file with one trace of code 1 and one of code 5, and the values that are asked for.
+fn shot_of_two(folder: &Folder) -> std::path::PathBuf {
+    let sheet = b"DELAY\t0,5\nLONG\t1234567890123456789\nRECEIVER_LOCATION\t1 2\nSMALL\t1E-16\nSOURCE_LOCATION\t1 2 X\n";
+    let mut shot = Builder::start(Order::Low, 2, sheet).expect("a start");
+    shot.add_integers(b"DELAY\t-0.020\n", 1, &[1, 2, 3])
+        .expect("a trace");
+    shot.add_bits(b"", 5, &[0]).expect("a trace");
+    folder.keep("two", shot.bytes())
+}
+
+#[test]
+fn a_cut_off_file_is_told_so_by_every_command() {
+    let folder = Folder::new("words-cut");
+    let cut = folder.keep("cut", &example()[..104]);
+    let found = "cut off: 104 bytes there, at least 108 needed";
+    told(&run!("check", cut).1, &cut, 11, found);
+    told(&run!("list", cut).2, &cut, 11, found);
+    told(&run!("samples", cut, "0").2, &cut, 11, found);
+    told(&run!("samples", cut, "--all").2, &cut, 11, found);
+    told(&run!("value", cut, "0", "STACK").2, &cut, 11, found);
+    let (none, samples) = (folder.keep("none", ""), folder.keep("samples", "1\n"));
+    told(&add(&cut, &none, "1", &samples).2, &cut, 11, found);
+    let said = run!("check", cut).1;
+    assert!(said.contains("    to do: copy the file again from where it was recorded\n"));
+}
+
+#[test]
+fn a_trace_that_is_not_there_is_told_with_those_that_are() {
+    let folder = Folder::new("words-18");
+    let shot = shot_of_two(&folder);
+    let found = "trace 2 was asked for, and the file has 2 traces, 0 to 1";
+    told(&run!("samples", shot, "2").2, &shot, 18, found);
+    told(&run!("value", shot, "2", "DELAY").2, &shot, 18, found);
+}
+
+#[test]
+fn numbers_and_locations_say_what_is_wrong_with_them() {
+    let folder = Folder::new("words-20");
+    let shot = shot_of_two(&folder);
+    for (part, keyword, kind, number, found) in [
+        (
+            "F",
+            "DELAY",
+            "number",
+            20,
+            "the value of `DELAY` is `0,5`: a comma stands where only a point may",
+        ),
+        (
+            "1",
+            "DELAY",
+            "double",
+            20,
+            "the keyword `DELAY` is not there",
+        ),
+        (
+            "F",
+            "LONG",
+            "number",
+            21,
+            "the value of `LONG` is `1234567890123456789`: 19 digits, and 18 are allowed before E",
+        ),
+        (
+            "F",
+            "SMALL",
+            "double",
+            22,
+            "the value of `SMALL` is `1E-16`: too small, its power of ten is -16 and at least -15",
+        ),
+        (
+            "-1",
+            "RECEIVER_LOCATION",
+            "location",
+            23,
+            "`RECEIVER_LOCATION` has 2 values: `1 2`",
+        ),
+        (
+            "0",
+            "RECEIVER_LOCATION",
+            "location",
+            23,
+            "the keyword `RECEIVER_LOCATION` is not there",
+        ),
+        (
+            "F",
+            "SOURCE_LOCATION",
+            "location",
+            20,
+            "the value of `SOURCE_LOCATION` is `1 2 X`, and `X` there: it is none",
+        ),
+    ] {
+        let (status, out, error) = run!("value", shot, part, keyword, "--as", kind);
+        assert_eq!((status, out.as_str()), (1, ""), "{keyword}");
+        told(&error, &shot, number, found);
+    }
+}
+
+#[test]
+fn bit_patterns_of_whole_numbers_name_trace_and_code() {
+    let folder = Folder::new("words-33");
+    let shot = shot_of_two(&folder);
+    told(
+        &run!("samples", shot, "0", "--bits").2,
+        &shot,
+        33,
+        "trace 0 has code 1",
+    );
+    let all = run!("samples", shot, "--all", "--bits").2;
+    told(&all, &shot, 33, "trace 0 has code 1");
+}
+
+#[test]
+fn what_is_wrong_with_a_sheet_is_the_sheets() {
+    let folder = Folder::new("words-25");
+    let shot = folder.path("shot");
+    let start =
+        |sheet: &Path| run!("new", shot, "--order", "low", "--slots", "1", "--sheet", sheet);
+    let lower = folder.keep("lower", "A\t1\nb\t2\n");
+    let found = "line 2, `b\\t2`: character 1 is `b` (62h), a small letter, in the keyword";
+    told(&start(&lower).2, &lower, 25, found);
+    let order = folder.keep("order", "B\t1\nA\t2\n");
+    let found = "line 2, `A\\t2`: `A` follows `B`, and comes before it";
+    told(&start(&order).2, &order, 26, found);
+    let long = folder.keep("long", format!("A\t{}\n", "1".repeat(70_000)));
+    told(&start(&long).2, &long, 27, "the sheet has 70,003 bytes");
+    assert!(!shot.exists());
+    // the same from an addition, which does not blame the shot file
+    let full = folder.keep("full", example());
+    let image = Builder::start(Order::Low, 9, b"").expect("a start");
+    let free = folder.keep("free", image.bytes());
+    let samples = folder.keep("samples", "1\n");
+    told(&add(&free, &order, "1", &samples).2, &order, 26, found);
+    told(
+        &add(&free, &long, "1", &samples).2,
+        &long,
+        27,
+        "the sheet has 70,003 bytes",
+    );
+    let found = "the file was started for one trace and has it";
+    told(&add(&full, &order, "1", &samples).2, &full, 24, found);
+    let two = shot_of_two(&folder);
+    let found = "the file was started for 2 traces and has them all";
+    told(&add(&two, &order, "1", &samples).2, &two, 24, found);
+}
+
+#[test]
+fn what_is_wrong_with_samples_is_the_samples() {
+    let folder = Folder::new("words-29");
+    let image = Builder::start(Order::Low, 9, b"").expect("a start");
+    let shot = folder.keep("shot", image.bytes());
+    let none = folder.keep("none", "");
+    let samples = folder.keep("samples", "1\n2\n40000\n");
+    let said = add(&shot, &none, "1", &samples).2;
+    told(&said, &samples, 29, "line 3 is `40000`, for code 1");
+    let said = add(&shot, &none, "3", &samples).2;
+    told(&said, &samples, 28, "3 samples for code 3");
+}
+
+#[test]
+fn slots_that_cannot_be_and_files_that_grow_too_long() {
+    let folder = Folder::new("words-31");
+    let shot = folder.path("shot");
+    let said = run!("new", shot, "--order", "low", "--slots", "0").2;
+    told(&said, &shot, 31, "0 slots");
+    let mut image = Builder::start(Order::Low, 2, b"").expect("a start");
+    let samples = vec![0; (seg2::MAXIMUM_LENGTH - 80) / 4];
+    image.add_integers(b"", 2, &samples).expect("a long trace");
+    let long = folder.keep("long", image.bytes());
+    let (none, samples) = (folder.keep("none", ""), folder.keep("samples", "1\n"));
+    let said = add(&long, &none, "2", &samples).2;
+    told(&said, &long, 30, "the file has 67,108,864 bytes already");
+}
