@@ -73,7 +73,10 @@ mod tests {
     #[test]
     fn part_and_place_are_told() {
         for (refusal, said) in [
-            (Refusal::new(16, 3, 1234), "refused (16) in trace 3 at byte 1234"),
+            (
+                Refusal::new(16, 3, 1234),
+                "refused (16) in trace 3 at byte 1234",
+            ),
             (Refusal::file(3, 2), "refused (3) in the file at byte 2"),
             (Refusal::file(20, 1), "refused (20) at byte 1 of the text"),
             (Refusal::file(24, 0), "refused (24)"),

@@ -165,7 +165,12 @@ pub fn print(bytes: &[u8]) -> Answer {
 
 /// Prints what was done. It stays done where nobody listens.
 pub fn confirm(said: &str) -> Answer {
-    print(said.as_bytes()).or_else(|stop| if stop.is_unheard() { Ok(0) } else { Err(stop) })
+    print(said.as_bytes()).or_else(|stop| {
+        if stop.is_unheard() {
+            return Ok(0);
+        }
+        Err(unusable(format!("it is done, but {}", stop.sentence())))
+    })
 }
 
 /// A number with commas between its thousands.

@@ -1,5 +1,6 @@
 //! The words of a command: files and options.
 
+use crate::files::told_name;
 use crate::help::Command;
 use crate::stop::{unusable, Answer, Stop};
 use std::ffi::{OsStr, OsString};
@@ -117,7 +118,7 @@ fn parted_at_equals(word: &OsStr) -> (&OsStr, Option<&OsStr>) {
 }
 
 fn unknown(word: &OsStr) -> Stop {
-    let word = word.to_string_lossy();
+    let word = told_name(word);
     unusable(format!(
         "{word} is no option of this command; where it is a name, put -- before it"
     ))

@@ -10,6 +10,7 @@ use std::process::{Command, Stdio};
 use std::time::{Duration, Instant};
 
 use seg2::{Builder, Order};
+use seg2_reference::generate::{Model, Rng};
 use seg2_reference::worked::{example, EXAMPLE_LISTED};
 
 const VERBS: [&str; 7] = ["check", "list", "samples", "value", "new", "add", "explain"];
@@ -31,7 +32,8 @@ fn fed(words: &[&str], input: &[u8]) -> Ended {
 #[test]
 fn the_version_is_the_packages() {
     for word in ["--version", "-V", "version"] {
-        assert_eq!(run!(word), (0, "seg2 0.1.0\n".into(), "".into()));
+        let version = concat!("seg2 ", env!("CARGO_PKG_VERSION"), "\n");
+        assert_eq!(run!(word), (0, version.into(), "".into()));
     }
 }
 
@@ -406,38 +408,71 @@ fn list_tells_json() {
     assert!(error.contains("refused (1)"), "{error}");
 }
 
-/// What another program makes of our JSON, where there is one.
+/// What a line of Python makes of our output; none where there is no Python.
+fn python(script: &str, input: &[u8]) -> Option<String> {
+    let mut command = Command::new("python3");
+    command.args(["-c", script]);
+    command.stdin(Stdio::piped()).stdout(Stdio::piped());
+    let Ok(mut child) = command.spawn() else {
+        println!("no python3 here: JSON was not read by another program");
+        return None;
+    };
+    let mut stdin = child.stdin.take().expect("its input");
+    stdin.write_all(input).expect("written");
+    drop(stdin);
+    Some(text(&child.wait_with_output().expect("an end").stdout))
+}
+
 #[test]
-fn json_is_read_by_others() {
-    let folder = Folder::new("json-python");
+fn names_in_json_are_read_by_others() {
+    let folder = Folder::new("json-names");
     let name = std::ffi::OsStr::from_bytes(b"shot \xE9\x01\"\\");
     let shot = folder.0.join(name);
     std::fs::write(&shot, example()).expect("a file");
     let plain = folder.keep("é€", example());
     let out = tool()
-        .args(["list", "--json"])
+        .args(["check", "--json"])
         .arg(&shot)
         .arg(&plain)
         .output();
-    let out = out.expect("the tool runs").stdout;
-    let script = "import json,sys\nfor line in sys.stdin: print(ascii(json.loads(line)['name'][-9:]), len(json.loads(line)['traces']))";
-    let mut command = Command::new("python3");
-    command
-        .args(["-c", script])
-        .stdin(Stdio::piped())
-        .stdout(Stdio::piped());
-    let Ok(mut child) = command.spawn() else {
-        println!("no python3 here: JSON was not read by another program");
-        return;
-    };
-    child
-        .stdin
-        .take()
-        .expect("its input")
-        .write_all(&out)
-        .expect("written");
-    let said = text(&child.wait_with_output().expect("an end").stdout);
-    let lines: Vec<&str> = said.lines().collect();
-    assert_eq!(lines[0], r#"'shot \xe9\x01"\\' 1"#);
-    assert!(lines[1].ends_with(r"/\xe9\u20ac' 1"), "{said}");
+    let script = "import json,sys\nfor line in sys.stdin: print(ascii(json.loads(line)['name'].split('/')[-1]))";
+    let said = python(script, &out.expect("the tool runs").stdout);
+    let expected = "'shot \\xe9\\x01\"\\\\'\n'\\xe9\\u20ac'\n";
+    assert_eq!(said.unwrap_or(expected.into()), expected);
+}
+
+/// The listing of document 01, made again from the JSON.
+const AGAIN: &str = r#"
+import json, sys
+def strings(part, row):
+    for s in row:
+        for value in s.get("lines", [s["value"]]):
+            print("S", part, s["keyword"], value.replace("\t", " "), sep="\t")
+for line in sys.stdin:
+    f = json.loads(line)
+    print("FILE", f["name"], sep="\t")
+    print("SEG2", f["order"], len(f["traces"]), f["pointer_room"], sep="\t")
+    strings("F", f["strings"])
+    for t in f["traces"]:
+        print("T", t["index"], t["code"], t["sample_count"], sep="\t")
+        strings(t["index"], t["strings"])
+"#;
+
+#[test]
+fn the_json_of_a_listing_holds_the_listing() {
+    let folder = Folder::new("json-same");
+    let mut rng = Rng::new(405);
+    let (mut lines, mut json) = (tool(), tool());
+    lines.arg("list");
+    json.args(["list", "--json"]);
+    for i in 0..100 {
+        let laid = Model::random(&mut rng).lay();
+        let shot = folder.keep(&i.to_string(), &laid.buffer[..laid.length]);
+        lines.arg(&shot);
+        json.arg(&shot);
+    }
+    let lines = ended(lines.output().expect("the tool runs"));
+    assert_eq!((lines.0, lines.2.as_str()), (0, ""));
+    let json = json.output().expect("the tool runs").stdout;
+    assert_eq!(python(AGAIN, &json).unwrap_or(lines.1.clone()), lines.1);
 }

@@ -122,6 +122,13 @@ fn of_many_that_start_a_file_one_does() {
 
 // ---- runs that are ended
 
+/// Whether a hidden file has bytes already, and so its lock.
+fn is_being_written(folder: &Folder) -> bool {
+    let about = |name: &String| fs::metadata(folder.path(name));
+    let mut sizes = hidden(folder).into_iter().flat_map(|name| about(&name));
+    sizes.any(|about| about.len() > 0)
+}
+
 /// An addition that is stopped in the middle: its hidden file is there, the lock is held,
 /// and nothing is replaced yet.
 struct Inside {
@@ -142,7 +149,7 @@ impl Inside {
             let mut command = command(&shot, &sheet, &samples);
             let mut child = command.spawn().expect("the tool runs");
             let mut ended = false;
-            while hidden(&folder).is_empty() && !ended {
+            while !is_being_written(&folder) && !ended {
                 ended = child.try_wait().expect("a child").is_some();
             }
             if ended {
@@ -282,6 +289,32 @@ fn killed_at_any_time_it_is_the_old_file_or_the_new_one() {
     assert_eq!(hidden(&folder), [""; 0]);
 }
 
+#[test]
+fn a_start_that_is_killed_is_a_whole_file_or_none() {
+    let folder = Folder::new("new-killed");
+    let sheet = folder.keep("sheet", format!("A\t{}\n", "1".repeat(60_000)));
+    let image = Builder::start(Order::Low, 16_383, &fs::read(&sheet).expect("the sheet"));
+    let image = image.expect("a start").finish();
+    let shot = folder.path("shot");
+    let words = ["--order", "low", "--slots", "16383", "--sheet"];
+    for round in 0..40 {
+        let mut command = tool();
+        command.arg("new").arg(&shot).args(words).arg(&sheet);
+        command.stdout(Stdio::null()).stderr(Stdio::null());
+        let mut child = command.spawn().expect("the tool runs");
+        std::thread::sleep(Duration::from_micros(250 * round));
+        child.kill().expect("SIGKILL");
+        let whole = child.wait().expect("an end").success();
+        match fs::read(&shot) {
+            Ok(bytes) => assert!(bytes == image, "{} bytes", bytes.len()),
+            Err(_) => assert!(!whole),
+        }
+        let _ = fs::remove_file(&shot);
+    }
+    new_in(&folder);
+    assert_eq!(folder.names(), ["other", "sheet"]);
+}
+
 // ---- what may not be written
 
 fn set_mode(path: &Path, mode: u32) {
@@ -372,6 +405,12 @@ fn what_was_added_stays_added_where_nobody_listens() {
     drop(child.stdout.take());
     let out = child.wait_with_output().expect("an end");
     assert_eq!(out.status.code(), Some(0), "{}", text(&out.stderr));
+    // and where the words cannot be written, it is said that the trace came in
+    let full = fs::OpenOptions::new().write(true).open("/dev/full");
+    let mut command = command(&shot, &none, &samples);
+    command.stdout(full.expect("a device that is always full"));
+    let says = "seg2: it is done, but the output cannot be written";
+    sentence(ended(command.output().expect("the tool")), says);
     let bytes = fs::read(&shot).expect("the file");
-    assert_eq!(File::open(&bytes).expect("a file").trace_count(), 2);
+    assert_eq!(File::open(&bytes).expect("a file").trace_count(), 3);
 }

@@ -155,6 +155,7 @@ mod tests {
             ("1E-100", "21: the value of `A` is `1E-100`: 3 digits behind E, and 2 are allowed"),
             ("9007199254740992", "22: the value of `A` is `9007199254740992`: too long, its digits are over 9,007,199,254,740,991"),
             ("1.345E24", "22: the value of `A` is `1.345E24`: too large, its power of ten is 21 and at most 15"),
+            ("1E16", "22: the value of `A` is `1E16`: too large, its power of ten is 16 and at most 15"),
             ("-1E-16", "22: the value of `A` is `-1E-16`: too small, its power of ten is -16 and at least -15"),
             ("0.1E-15", "22: the value of `A` is `0.1E-15`: too small, its power of ten is -16 and at least -15"),
         ] {

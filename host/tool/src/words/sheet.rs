@@ -56,28 +56,35 @@ fn bad_line(line: &[u8], last: &[u8]) -> String {
     let Some(tab) = line.iter().position(|&c| c == b'\t') else {
         return without_tab(line);
     };
-    let (keyword, value) = (&line[..tab], &line[tab + 1..]);
-    if keyword.is_empty() {
-        return "the keyword is missing before the tab".into();
-    }
-    if let Some(bad) = keyword.iter().position(|&c| !in_keyword(c)) {
-        let said = told(&keyword[bad..]);
-        return format!("character {} is {said}, in the keyword", bad + 1);
-    }
+    let keyword = &line[..tab];
     // only the second line of a NOTE and those behind it may start with a space
     let goes_on = keyword == b"NOTE" && last == b"NOTE";
+    bad_keyword(keyword).unwrap_or_else(|| bad_value(line, tab + 1, goes_on))
+}
+
+fn bad_keyword(keyword: &[u8]) -> Option<String> {
+    if keyword.is_empty() {
+        return Some("the keyword is missing before the tab".into());
+    }
+    let bad = keyword.iter().position(|&c| !in_keyword(c))?;
+    let said = told(&keyword[bad..]);
+    Some(format!("character {} is {said}, in the keyword", bad + 1))
+}
+
+/// What is wrong with the value, which starts behind the tab.
+fn bad_value(line: &[u8], start: usize, goes_on: bool) -> String {
+    let value = &line[start..];
     if value.starts_with(b" ") && !goes_on {
         return "the value starts with a space".into();
     }
-    let bad = value.iter().position(|&c| !in_value(c));
-    let bad = tab + 1 + bad.unwrap_or(0);
-    let second = if line.get(bad) == Some(&b'\t') {
-        ", the second one"
-    } else {
-        ""
+    let bad = value.iter().position(|&c| !in_value(c)).unwrap_or(0);
+    let said = told(&value[bad..]);
+    let second = match value.get(bad) {
+        Some(b'\t') => ", the second one",
+        _ => "",
     };
-    let said = told(&line[bad.min(line.len())..]);
-    format!("character {} is {said}{second}, in the value", bad + 1)
+    let place = start + bad + 1;
+    format!("character {place} is {said}{second}, in the value")
 }
 
 fn without_tab(line: &[u8]) -> String {
