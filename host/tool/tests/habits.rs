@@ -408,19 +408,16 @@ fn list_tells_json() {
     assert!(error.contains("refused (1)"), "{error}");
 }
 
-/// What a line of Python makes of our output; none where there is no Python.
-fn python(script: &str, input: &[u8]) -> Option<String> {
+/// What a line of Python makes of our output: a reader of JSON that we did not write. `./test` installs it.
+fn python(script: &str, input: &[u8]) -> String {
     let mut command = Command::new("python3");
     command.args(["-c", script]);
     command.stdin(Stdio::piped()).stdout(Stdio::piped());
-    let Ok(mut child) = command.spawn() else {
-        println!("no python3 here: JSON was not read by another program");
-        return None;
-    };
+    let mut child = command.spawn().expect("python3");
     let mut stdin = child.stdin.take().expect("its input");
     stdin.write_all(input).expect("written");
     drop(stdin);
-    Some(text(&child.wait_with_output().expect("an end").stdout))
+    text(&child.wait_with_output().expect("an end").stdout)
 }
 
 #[test]
@@ -438,7 +435,7 @@ fn names_in_json_are_read_by_others() {
     let script = "import json,sys\nfor line in sys.stdin: print(ascii(json.loads(line)['name'].split('/')[-1]))";
     let said = python(script, &out.expect("the tool runs").stdout);
     let expected = "'shot \\xe9\\x01\"\\\\'\n'\\xe9\\u20ac'\n";
-    assert_eq!(said.unwrap_or(expected.into()), expected);
+    assert_eq!(said, expected);
 }
 
 /// The listing of document 01, made again from the JSON.
@@ -474,5 +471,5 @@ fn the_json_of_a_listing_holds_the_listing() {
     let lines = ended(lines.output().expect("the tool runs"));
     assert_eq!((lines.0, lines.2.as_str()), (0, ""));
     let json = json.output().expect("the tool runs").stdout;
-    assert_eq!(python(AGAIN, &json).unwrap_or(lines.1.clone()), lines.1);
+    assert_eq!(python(AGAIN, &json), lines.1);
 }
