@@ -12,9 +12,15 @@ value-at-spec =
     tie.close
     (tie.spec
     (λ c. search needs)
-    (λ c. let b = held _ (c .before .before .before .args .s) _ (c .before .s .given .1) (c .before .before .before .pre) in b .2)
-    (λ c. let b = held _ (c .before .before .before .args .s) _ (c .before .s .given .1) (c .before .before .before .pre) in b .2)
-    (λ c. let b = held _ (c .before .before .before .args .s) _ (c .before .s .given .1) (c .before .before .before .pre) in b .3)
+    (λ c.
+    let b = held _ (c .before .before .before .args .s) _ (c .before .s .given .1) (c .before .before .before .pre) in
+    omega (arith, b .0, b .1, b .2, b .3))
+    (λ c.
+    let b = held _ (c .before .before .before .args .s) _ (c .before .s .given .1) (c .before .before .before .pre) in
+    omega (arith, b .0, b .1, b .2, b .3))
+    (λ c.
+    let b = held _ (c .before .before .before .args .s) _ (c .before .s .given .1) (c .before .before .before .pre) in
+    omega (arith, b .0, b .1, b .2, b .3))
     (λ c. search needs)
     (λ c. search needs)
     (λ c. search needs)
