@@ -7,6 +7,8 @@ use Prim.Native.Nat.{ℕ}
 use mathlib.Core.List.{List}
 use lib.IntN.{ℤ}
 use lib.ListN.{length}
+use denote.Ref.{RefT}
+use Rattle.word.specs.Part.{PartOf}
 use Rattle.refusal.specs.declared.Verdict.{Verdict}
 use Rattle.start.specs.declared.Written.{Written}
 use Rattle.layout.specs.Layout.{Trace}
@@ -14,9 +16,13 @@ use Rattle.start.specs.Start.{startAnswer, startLeft}
 use Rattle.writer.specs.Answers.{addAnswer, addLeft}
 use Rattle.reader.specs.Questions.{integersAnswer, integersLeft, bitsAnswer, patternsLeft, classesLeft}
 
--- an answer, a returned part, or a memory
+-- an answer, or a memory
 pub one-outcome : {A : Type 0} (d r s : A) → r ≡ d → s ≡ d → r ≡ s
 one-outcome d r s h k = h ∙ sym k
+
+-- a returned part: the same bytes, in the same memory, at the same place
+pub one-part : {b r s : RefT (List ℕ)} {p : ℕ × ℕ} → PartOf b p r → PartOf b p s → (r .now ≡ s .now) × (r .ptr .0 ≡ s .ptr .0) × (r .ptr .1 ≡ s .ptr .1)
+one-part h k = (h .bytes ∙ sym (k .bytes), h .block ∙ sym (k .block), h .place ∙ sym (k .place))
 
 -- the calls that are lent memory: what they answer and what they leave
 pub one-start : (xs : List ℕ) (order slots : ℕ) (sheet : List ℕ) (r s : Written) (ys zs : List ℕ)

@@ -12,8 +12,7 @@ use borrow.Author.Tests.{eqb-true}
 use Rattle.word.specs.Tests.{both}
 use Rattle.word.specs.Part.{length-part}
 use Rattle.text.specs.Runs.{all}
-use Rattle.text.specs.Note.{LineEnd}
-use Rattle.area.specs.Spelling.{among, Terminators, terminators-end}
+use Rattle.area.specs.Spelling.{among, Terminators}
 use Rattle.head.specs.Head.{terminatorAt, stringEnd, lineEnd, lacks, apart}
 use Rattle.image.specs.Keeps.{KeepsTerminator, Keeps}
 use Rattle.growth.specs.Kept.{short-terminator}
@@ -60,6 +59,3 @@ keeps-terminators {grow} {f} h =
       u-chars = h .line-end .characters;
       apart = apart-among (stringEnd f) (lineEnd f) (h .ends-apart);
     }
-
-pub keeps-line-end : {grow : Bool} {f : List ℕ} → Keeps grow f → LineEnd (lineEnd f)
-keeps-line-end {grow} {f} h = terminators-end (stringEnd f) (lineEnd f) (keeps-terminators h)

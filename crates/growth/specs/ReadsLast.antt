@@ -11,6 +11,7 @@ use Rattle.word.specs.Bytes.{Bytes}
 use Rattle.word.specs.Round.{round4}
 use Rattle.sheet.specs.Area.{areaSize}
 use Rattle.head.specs.Head.{countOf, stringEnd, lineEnd}
+use Rattle.image.specs.Accepted.{kept-ends}
 use Rattle.layout.specs.Layout.{Trace}
 use Rattle.append.specs.Grown.{grown}
 use Rattle.writer.specs.Shown.{Added}
@@ -18,7 +19,6 @@ use Rattle.growth.specs.Frame.{lies}
 use Rattle.growth.specs.Grows.{Grows, grown-grows}
 use Rattle.growth.specs.Kept.{high-kept, string-end-kept, line-end-kept, count-grown, trace-at-new}
 use Rattle.growth.specs.NewTrace.{stands-new}
-use Rattle.growth.specs.Ends.{keeps-line-end}
 use Rattle.growth.specs.StillKeeps.{grown-accepted}
 use Rattle.growth.specs.TraceReads.{Standing, ReadsAs, reads-as}
 
@@ -30,7 +30,7 @@ last-standing {f} {g} {x} w =
       stands = rw (high-kept w, string-end-kept w, line-end-kept w) (stands-new w);
       size = areaSize (stringEnd f) (lineEnd f) (x .sheet);
       sized = rw (string-end-kept w, line-end-kept w) (w .sized);
-      ends = rw (line-end-kept w) (keeps-line-end (w .old));
+      ends = rw (line-end-kept w) (kept-ends (w .old));
       kind = w .kind;
       held = w .held;
     }

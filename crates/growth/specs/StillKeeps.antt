@@ -24,7 +24,7 @@ use Rattle.head.specs.Head.{highFirst, roomOf, countOf, stringEnd, lineEnd}
 use Rattle.block.specs.Block.{dataSize, dataAt, endAt}
 use Rattle.image.specs.Image.{checkOf}
 use Rattle.image.specs.Keeps.{traceAt, endBefore, stringsEnd, KeepsTrace, Keeps}
-use Rattle.image.specs.Accepted.{keeps-accepted}
+use Rattle.image.specs.Accepted.{keeps-accepted, kept-ends}
 use Rattle.layout.specs.Layout.{Trace, count}
 use Rattle.append.specs.Grown.{grown}
 use Rattle.writer.specs.Shown.{Added}
@@ -33,7 +33,6 @@ use Rattle.growth.specs.Grows.{Grows, grown-grows}
 use Rattle.growth.specs.Kept.{longer, low-kept, second-kept, high-kept, revision-kept, room-kept, count-grown, size-kept, string-end-kept, line-end-kept, trace-at-kept, trace-at-new, part-kept, trace-kept}
 use Rattle.layout.specs.LayoutLaws.{kinded, room-enough}
 use Rattle.growth.specs.NewTrace.{has-new}
-use Rattle.growth.specs.Ends.{keeps-line-end}
 
 -- ---- more bytes behind an area that spells strings are ignored, as "what follows in the area is ignored"
 
@@ -149,7 +148,7 @@ module _ {f g : List ℕ} {x : Trace} (w : Grows f g x) where
       let t : List ℕ = stringEnd f in
       let u : List ℕ = lineEnd f in
       rw (has-new w .strings, high-kept w, string-end-kept w, line-end-kept w)
-      (area-spells (highFirst f) t u (x .sheet) (areaSize t u (x .sheet)) (keeps-line-end (w .old)) (w .sized))
+      (area-spells (highFirst f) t u (x .sheet) (areaSize t u (x .sheet)) (kept-ends (w .old)) (w .sized))
 
   new-keeps : KeepsTrace g (countOf f)
   new-keeps =

@@ -8,13 +8,10 @@ use Prim.Native.Nat.{ℕ, zero, suc, _+_, _-_, _≤_, _<_}
 use native.Mathlib.Omega.{arith}
 use lib.ListN.{length, take, drop, length-take, length-drop}
 use lib.Seq.{take-all, take-take}
-use lib.Dec.{ltb, eqb}
-use borrow.Author.Tests.{eqb-true}
 use Rattle.word.specs.Part.{part, length-part, drop-take, part-drop, part-take, part-part, part-none}
 use Rattle.word.specs.Word.{wordAt}
 use Rattle.word.specs.WordLaws.{word-take}
-use Rattle.refusal.specs.Rows.{Rows, first, clear, pick}
-use Rattle.refusal.specs.declared.Rule.the-variants.{StringOffset}
+use Rattle.refusal.specs.Rows.{pick}
 use Rattle.refusal.specs.declared.Part.{Part}
 use Rattle.refusal.specs.declared.Verdict.{Verdict}
 use Rattle.text.specs.Runs.{same}
@@ -26,6 +23,7 @@ use Rattle.strings.specs.declared.Place.{Place}
 use Rattle.strings.specs.declared.Found.{Found}
 use Rattle.strings.specs.declared.Found.the-variants.{Nothing, Is}
 use Rattle.strings.specs.Strings.{offset, body, keyLen, gapLen, afterKey, frameRows, frameOf, judgedOf, onFrame, stepOf, onStep, stringsFrom, stringsOf, placeOf, onText, placesFrom, placesOf, keyIn, valueIn, findOf, valueFound}
+use Rattle.strings.specs.Paper.{end-told}
 use Rattle.strings.specs.Walks.{InFrame, in-frame, next-fits, next-bounds, Fits, place-fits}
 
 -- what of a string's frame is read: an end mark's two bytes, the o bytes of a string and what is read behind it, all that is left where it is broken
@@ -43,25 +41,6 @@ unfoldable pub usedOf : Bool → List ℕ → List ℕ → ℕ
 usedOf high t l = usedFrom (length l) high t l
 
 -- ---- one string
-
-abbrev isEnd : Frame → Bool
-isEnd End = true
-isEnd (Text o) = false
-isEnd (Broken r) = false
-
-marked : (b w : Bool) (x : Frame) → (x ≡ End → ⊥) → pick b (Broken StringOffset) (pick w End x) ≡ End → (b ≡ false) × (w ≡ true)
-marked true w x never e = let z : _≡_ {A = ℕ} 0 1 = cc in absurd (omega arith)
-marked false true x never e = (refl, refl)
-marked false false x never e = absurd (never e)
-
-end-told : (high : Bool) (t l : List ℕ) → frameOf high t l ≡ End → offset high l ≡ 0
-unfolding frameOf
-end-told high t l e =
-    let last : Frame = Text (offset high l) in
-    let rs : Rows Frame = drop 2 (frameRows high t l) in
-    let never : first rs last ≡ End → ⊥ =
-    λ (k : first rs last ≡ End). let j = clear isEnd End refl rs last refl k .1 in let z : _≡_ {A = ℕ} 0 1 = cc in omega arith in
-    eqb-true _ _ (marked (ltb (length l) 2) (eqb (offset high l) 0) (first rs last) never e .1)
 
 -- a frame is told by the length that is left, the offset and the bytes before the offset's end
 frame-same : (high : Bool) (t l r : List ℕ) → length l ≡ length r → offset high l ≡ offset high r
@@ -89,7 +68,7 @@ module _ (high : Bool) (t l r : List ℕ) (long : length l ≡ length r) where
   end-same : frameOf high t l ≡ End → take 2 l ≡ take 2 r → frameOf high t r ≡ End
   end-same f q =
       let o = offset-same high 2 l r (omega arith) q in
-      let z : offset high l ≡ 0 = end-told high t l f in
+      let z : offset high l ≡ 0 = end-told high t l f .1 in
       let a : ℕ = offset high l - length t in
       sym (frame-same high t l r long o (part-none a (offset high l) l (omega arith) ∙ sym (part-none a (offset high l) r (omega arith)))) ∙ f
 

@@ -133,7 +133,8 @@ terminator-good f at h = ⊎-elim (λ b. rw b (h .characters)) (λ b. rw b (h .c
 good-terminator : (f : List ℕ) (at : ℕ) → goodTerminator f at ≡ true → KeepsTerminator f at
 good-terminator f at h = record { size = good-length f at h; characters = good-chars f at h }
 
-kept-ends : {grow : Bool} {f : List ℕ} → Keeps grow f → LineEnd (lineEnd f)
+-- its line terminator starts with a byte that no value has
+pub kept-ends : {grow : Bool} {f : List ℕ} → Keeps grow f → LineEnd (lineEnd f)
 kept-ends {grow} {f} h = good-ends f 11 (omega (arith, h .room .2)) (terminator-good f 11 (h .line-end))
 
 -- ---- what an accepted image gives without checking again, for a file and for an image that grows

@@ -171,18 +171,23 @@ isEnd End = true
 isEnd (Text o) = false
 isEnd (Broken r) = false
 
-ended : (high : Bool) (t l : List ℕ) → Bytes l → frameOf high t l ≡ End → l ≡ bytesOf 2 high 0 ++ drop 2 l
-unfolding frameOf offset wordAt
-ended high t l by e =
+pub end-told : (high : Bool) (t l : List ℕ) → frameOf high t l ≡ End → (2 ≤ length l) × (offset high l ≡ 0)
+unfolding frameOf
+end-told high t l e =
     let last : Frame = Text (offset high l) in
     let rs : Rows Frame = drop 2 (frameRows high t l) in
     let never : first rs last ≡ End → ⊥ =
     λ (k : first rs last ≡ End). let j = clear isEnd End refl rs last refl k .1 in let z : _≡_ {A = ℕ} 0 1 = cc in omega arith in
     let h = marked (ltb (length l) 2) (eqb (offset high l) 0) (first rs last) never e in
-    let two : length (take 2 l) ≡ 2 = length-take-le 2 l (ltb-false _ _ (h .0)) in
-    let z : offset high l ≡ 0 = eqb-true _ _ (h .1) in
+    (ltb-false _ _ (h .0), eqb-true _ _ (h .1))
+
+ended : (high : Bool) (t l : List ℕ) → Bytes l → frameOf high t l ≡ End → l ≡ bytesOf 2 high 0 ++ drop 2 l
+unfolding offset wordAt
+ended high t l by e =
+    let h = end-told high t l e in
+    let two : length (take 2 l) ≡ 2 = length-take-le 2 l (h .0) in
     let v : bytesOf (length (take 2 l)) high 0 ≡ take 2 l =
-    ap (λ (n : ℕ). bytesOf (length (take 2 l)) high n) (sym z) ∙ bytesOf-value high (take 2 l) (bytes-take 2 l by) in
+    ap (λ (n : ℕ). bytesOf (length (take 2 l)) high n) (sym (h .1)) ∙ bytesOf-value high (take 2 l) (bytes-take 2 l by) in
     sym (take-append-drop 2 l) ∙ ap (λ (x : List ℕ). x ++ drop 2 l) (sym (ap (λ (n : ℕ). bytesOf n high 0) (sym two) ∙ v))
 
 -- what follows the keyword begins with a separator, so a value without separators before it is empty

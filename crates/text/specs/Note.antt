@@ -69,7 +69,7 @@ unfolding all
 control-ends [] some h = absurd (omega arith)
 control-ends (x ∷ u) some h = (some, control-no-value x (both (control x) (all control u) h .0))
 
--- ---- the same without any order of reading: value characters and line terminators, in any order
+-- ---- what a NOTE's value may be, without any order of reading: value characters and line terminators, in any order. `lines` says the same
 pub data Lines (u : List ℕ) : List ℕ → Type 0 where
   done : Lines u []
   char : {b : ℕ} {bs : List ℕ} → valueChar b ≡ true → Lines u bs → Lines u (b ∷ bs)
