@@ -23,7 +23,7 @@ use Rattle.reader.specs.Reach.{checked}
 rising-good : (t u prev : List ℕ) (ss : List Str) (i : ℕ) → Rising t u prev ss → i < length ss → Good t u (nthStr ss i)
 rising-good t u prev [] i r l = absurd (omega arith)
 rising-good t u prev (s ∷ ss) zero r l = r .0
-rising-good t u prev (s ∷ ss) (suc i) r l = rising-good t u (s .key) ss i (r .1 .1) (omega arith)
+rising-good t u prev (s ∷ ss) (suc i) r l = rising-good t u (s .key) ss i (r .2) (omega arith)
 
 spelled-good : {high : Bool} {t u l : List ℕ} (ss : List Str) (i : ℕ) → Spells high t u ss l → i < length ss → Good t u (nthStr ss i)
 spelled-good ss i empty l = absurd (omega arith)
