@@ -403,7 +403,7 @@ static inline const char *seg2_text(uint32_t number) {
     case SEG2_SAMPLE_COUNT: return "the samples need more bytes than the data has, or are no multiple of 4 under code 3";
     case SEG2_STRING_OFFSET: return "a string's offset is missing, too small for a keyword, or leads past its area";
     case SEG2_STRING_END: return "the string terminator is not at the string's end";
-    case SEG2_CHARACTER: return "a forbidden character in a keyword or value";
+    case SEG2_CHARACTER: return "a forbidden character in a keyword or value, or an empty keyword";
     case SEG2_KEYWORD_ORDER: return "the keyword is out of order, or there twice";
     case SEG2_NO_TRACE: return "the file has no such part; traces count from 0";
     case SEG2_INPUT_SIZE: return "the listing program's input is longer than 65,536 bytes";

@@ -8,7 +8,7 @@ use std::fmt;
 /// let refusal = seg2::Refusal { number: 16, part: 3, place: 1234 };
 /// assert_eq!(
 ///     refusal.to_string(),
-///     "refused (16) in trace 3 at byte 1234: a forbidden character in a keyword or value"
+///     "refused (16) in trace 3 at byte 1234: a forbidden character in a keyword or value, or an empty keyword"
 /// );
 /// ```
 #[derive(Clone, Copy, Debug, PartialEq, Eq, Hash)]
@@ -119,7 +119,7 @@ pub fn text(number: u32) -> &'static str {
         13 => "the samples need more bytes than the data has, or are no multiple of 4 under code 3",
         14 => "a string's offset is missing, too small for a keyword, or leads past its area",
         15 => "the string terminator is not at the string's end",
-        16 => "a forbidden character in a keyword or value",
+        16 => "a forbidden character in a keyword or value, or an empty keyword",
         17 => "the keyword is out of order, or there twice",
         18 => "the file has no such part; traces count from 0",
         19 => "the listing program's input is longer than 65,536 bytes",

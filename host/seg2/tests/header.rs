@@ -55,7 +55,7 @@ row 100000 -32768 1073709056 20
 bits: 0 -1 0
 row 7FF0000000000000 3 8000000000000000 0
 location: 0 -1 0 count 3 1 -2.5 3
-16 in trace 0 at its first string 1: a forbidden character in a keyword or value
+16 in trace 0 at its first string 1: a forbidden character in a keyword or value, or an empty keyword
 ";
 
 /// The answers, then the words of each row, which are those of the Rust side.

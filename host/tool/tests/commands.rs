@@ -140,7 +140,7 @@ fn check_names_rule_part_and_byte_and_shows_the_bytes() {
     let (status, out, error) = run!("check", shot);
     assert_eq!((status, error.as_str()), (1, ""));
     let lines: Vec<&str> = out.lines().collect();
-    let said = "refused (16) in trace 0 at byte 88: a forbidden character in a keyword or value";
+    let said = "refused (16) in trace 0 at byte 88: a forbidden character in a keyword or value, or an empty keyword";
     assert_eq!(lines[0], format!("{}: {said}", shot.display()));
     let found = "    found: byte 90 is `s` (73h), a small letter, in the keyword `sTACK`";
     assert_eq!(lines[1], found);

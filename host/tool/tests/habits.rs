@@ -370,7 +370,7 @@ fn check_tells_json() {
         format!(r#"{{"name":"{path}/good \"1\"","accepted":true}}"#)
     );
     let start = format!(
-        r#"{{"name":"{path}/bad","accepted":false,"number":16,"part":0,"place":88,"text":"a forbidden character in a keyword or value","found":"byte 90 is `s` (73h), a small letter, in the keyword `sTACK`","to_do":""#
+        r#"{{"name":"{path}/bad","accepted":false,"number":16,"part":0,"place":88,"text":"a forbidden character in a keyword or value, or an empty keyword","found":"byte 90 is `s` (73h), a small letter, in the keyword `sTACK`","to_do":""#
     );
     assert!(
         lines[1].starts_with(&start) && lines[1].ends_with("\"}"),

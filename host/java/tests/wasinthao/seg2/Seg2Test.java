@@ -216,8 +216,8 @@ public final class Seg2Test {
         b.put(90, (byte) 's');
         Seg2.Verdict verdict = Seg2.check(b, 108);
         refused(16, 0, 88, verdict);
-        same("a forbidden character in a keyword or value", verdict.refusal().text());
-        same("refused (16) in trace 0 at byte 88: a forbidden character in a keyword or value", verdict.refusal().toString());
+        same("a forbidden character in a keyword or value, or an empty keyword", verdict.refusal().text());
+        same("refused (16) in trace 0 at byte 88: a forbidden character in a keyword or value, or an empty keyword", verdict.refusal().toString());
         same(verdict.refusal(), Seg2.fileBlock(b, 108).refusal());
         same(verdict.refusal().hashCode(), Seg2.fileBlock(b, 108).refusal().hashCode());
         Seg2.FileBlock file = Seg2.fileBlock(b, 108);
