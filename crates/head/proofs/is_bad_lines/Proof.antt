@@ -14,4 +14,15 @@ is-bad-lines-spec =
     (λ c κs. search needs)
     (λ c κs. (search needs, (sym (c .before .before .is-good .ensures) ∙ not-false _ (c .before .if1 .left))))
     (λ c κs. search needs)
-    (λ c. rw ((sym (c .before .before .before .before .is-good .ensures) ∙ not-false _ (c .before .before .before .if1 .left)), c .is-apart .ensures, c .before .before .terminator .ensures .0, c .before .terminator2 .ensures .0)))
+    (λ c.
+    (let c1 = c .before in
+    let c2 = c1 .before in
+    let c3 = c2 .before in
+    let c4 = c3 .before in
+    rw (
+      (sym (c4 .is-good .ensures) ∙ not-false _ (c3 .if1 .left)),
+      c .is-apart .ensures,
+      c2 .terminator .ensures .0,
+      c1 .terminator2 .ensures
+          .0,
+    ))))

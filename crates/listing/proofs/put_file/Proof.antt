@@ -10,13 +10,68 @@ put-file-spec =
     tie.close
     (tie.spec
     (λ c κs. c .before .before .pre .1)
-    (λ c. let a = room-told (c .before .before .before .before .args .f .now) (c .before .before .before .before .pre .0) (c .before .before .before .before .pre .1) _ (c .before .file-block .ensures) in omega (arith, a .0, a .1, c .before .before .before .before .pre .2))
-    (λ c κs. first-slot (c .before .before .before .before .args .f .now) (c .before .before .before .before .pre .0) (c .before .before .before .before .pre .1))
-    (λ c κs. file-first (c .before .before .before .before .before .before .args .f .now) (c .before .before .before .before .before .before .pre .0) (c .before .before .before .before .before .before .pre .1) _ (c .before .before .before .file-block .ensures) _ (c .before .pointer .ensures .0) (c .before .before .before .before .before .before .args .out .now) (c .before .before .before .before .before .before .pre .3))
-    (λ c κs. (omega (arith, c .before .before .before .before .before .before .before .before .before .before .pre .1), ends-good (c .before .before .before .before .before .before .before .before .before .before .args .f .now) (c .before .before .before .before .before .before .before .before .before .before .pre .0) (c .before .before .before .before .before .before .before .before .before .before .pre .1) .0))
-    (λ c κs. (omega (arith, c .before .before .before .before .before .before .before .before .before .before .before .pre .1), ends-good (c .before .before .before .before .before .before .before .before .before .before .before .args .f .now) (c .before .before .before .before .before .before .before .before .before .before .before .pre .0) (c .before .before .before .before .before .before .before .before .before .before .before .pre .1) .1))
-    (λ c κs. let a = file-area (c .before .before .before .before .before .before .before .before .before .before .before .before .args .f .now) (c .before .before .before .before .before .before .before .before .before .before .before .before .pre .0) (c .before .before .before .before .before .before .before .before .before .before .before .before .pre .1) _ (c .before .before .before .before .before .before .before .before .before .file-block .ensures) _ (c .before .before .before .before .before .before .before .pointer .ensures .0) in (a .0, a .1, line-some (c .before .before .before .before .before .before .before .before .before .before .before .before .args .f .now) (c .before .before .before .before .before .before .before .before .before .before .before .before .pre .0) (c .before .before .before .before .before .before .before .before .before .before .before .before .pre .1) _ (c .terminator2 .ensures .0), file-second (c .before .before .before .before .before .before .before .before .before .before .before .before .args .f .now) (c .before .before .before .before .before .before .before .before .before .before .before .before .pre .0) (c .before .before .before .before .before .before .before .before .before .before .before .before .pre .1) _ (c .before .before .before .before .before .before .before .before .before .file-block .ensures) _ (c .before .before .before .before .before .before .before .pointer .ensures .0) (c .before .before .before .before .before .before .before .before .before .before .before .before .args .out .now) (c .before .before .before .before .before .before .before .before .before .before .before .before .pre .3) _ _ (c .before .terminator .ensures .0) (c .terminator2 .ensures .0) _ _ (c .before .before .before .before .before .put-head .ensures)))
-    (λ c. let a = room-told (c .before .before .before .before .before .before .before .before .before .before .before .before .before .before .before .before .before .args .f .now) (c .before .before .before .before .before .before .before .before .before .before .before .before .before .before .before .before .before .pre .0) (c .before .before .before .before .before .before .before .before .before .before .before .before .before .before .before .before .before .pre .1) _ (c .before .before .before .before .before .before .before .before .before .before .before .before .before .before .file-block .ensures) in omega (arith, a .0, a .1, c .before .before .before .before .before .before .before .before .before .before .before .before .before .before .before .before .before .pre .2))
-    (λ c κs. (c .before .before .before .before .before .before .before .before .before .before .before .before .before .before .before .before .before .pre .0, c .before .before .before .before .before .before .before .before .before .before .before .before .before .before .before .before .before .pre .1, count-told (c .before .before .before .before .before .before .before .before .before .before .before .before .before .before .before .before .before .args .f .now) (c .before .before .before .before .before .before .before .before .before .before .before .before .before .before .before .before .before .pre .0) (c .before .before .before .before .before .before .before .before .before .before .before .before .before .before .before .before .before .pre .1) _ (c .before .before .before .before .before .before .before .before .before .before .before .before .before .before .file-block .ensures), file-third (c .before .before .before .before .before .before .before .before .before .before .before .before .before .before .before .before .before .args .f .now) (c .before .before .before .before .before .before .before .before .before .before .before .before .before .before .before .before .before .pre .0) (c .before .before .before .before .before .before .before .before .before .before .before .before .before .before .before .before .before .pre .1) _ (c .before .before .before .before .before .before .before .before .before .before .before .before .before .before .file-block .ensures) _ (c .before .before .before .before .before .before .before .before .before .before .before .before .pointer .ensures .0) (c .before .before .before .before .before .before .before .before .before .before .before .before .before .before .before .before .before .args .out .now) (c .before .before .before .before .before .before .before .before .before .before .before .before .before .before .before .before .before .pre .3) _ _ (c .before .before .before .before .before .before .terminator .ensures .0) (c .before .before .before .before .before .terminator2 .ensures .0) _ _ (c .before .before .before .before .before .before .before .before .before .before .put-head .ensures) _ _ (c .before .before .before .before .put-strings .ensures)))
+    (λ c.
+    (let c1 = c .before in
+    let c4 = c1 .before .before .before in
+    let a = room-told (c4 .args .f .now) (c4 .pre .0) (c4 .pre .1) _ (c1 .file-block .ensures) in omega (arith, a .0, a .1, c4 .pre .2)))
+    (λ c κs.
+    (let c4 = c .before .before .before .before in
+    first-slot (c4 .args .f .now) (c4 .pre .0) (c4 .pre .1)))
+    (λ c κs.
+    (let c1 = c .before in
+    let c3 = c1 .before .before in
+    let c6 = c3 .before .before .before in
+    file-first (c6 .args .f .now) (c6 .pre .0) (c6 .pre .1) _ (c3 .file-block .ensures) _ (c1 .pointer .ensures .0) (c6 .args .out .now) (c6 .pre
+    .3)))
+    (λ c κs.
+    (let c10 = c .before .before .before .before .before .before .before .before .before .before in
+    (omega (arith, c10 .pre .1), ends-good (c10 .args .f .now) (c10 .pre .0) (c10 .pre .1) .0)))
+    (λ c κs.
+    (let c11 = c .before .before .before .before .before .before .before .before .before .before .before in
+    (omega (arith, c11 .pre .1), ends-good (c11 .args .f .now) (c11 .pre .0) (c11 .pre .1) .1)))
+    (λ c κs.
+    (let c1 = c .before in
+    let c5 = c1 .before .before .before .before in
+    let c7 = c5 .before .before in
+    let c9 = c7 .before .before in
+    let c12 = c9 .before .before .before in
+    let a = file-area (c12 .args .f .now) (c12 .pre .0) (c12 .pre .1) _ (c9 .file-block .ensures) _ (c7 .pointer .ensures .0) in (
+      a .0,
+      a .1,
+      line-some (c12 .args .f .now) (c12 .pre .0) (c12 .pre .1) _ (c .terminator2 .ensures .0),
+      file-second (c12 .args .f .now) (c12 .pre .0) (c12
+          .pre .1) _ (c9 .file-block .ensures) _ (c7 .pointer .ensures .0) (c12 .args .out .now) (c12 .pre .3) _ _ (c1 .terminator .ensures .0) (c
+          .terminator2 .ensures .0) _ _ (c5 .put-head .ensures),
+    )))
+    (λ c.
+    (let c14 = c .before .before .before .before .before .before .before .before .before .before .before .before .before .before in
+    let c17 = c14 .before .before .before in
+    let a = room-told (c17 .args .f .now) (c17 .pre .0) (c17 .pre .1) _ (c14 .file-block .ensures) in omega (arith, a .0, a .1, c17 .pre .2)))
+    (λ c κs.
+    (let c4 = c .before .before .before .before in
+    let c5 = c4 .before in
+    let c6 = c5 .before in
+    let c10 = c6 .before .before .before .before in
+    let c12 = c10 .before .before in
+    let c14 = c12 .before .before in
+    let c17 = c14 .before .before .before in (
+      c17 .pre .0,
+      c17 .pre .1,
+      count-told (c17 .args .f .now) (c17 .pre .0) (c17 .pre .1) _ (c14 .file-block .ensures),
+      file-third (c17 .args .f
+          .now) (c17 .pre .0) (c17 .pre .1) _ (c14 .file-block .ensures) _ (c12 .pointer .ensures .0) (c17 .args .out .now) (c17 .pre .3) _ _ (c6
+          .terminator .ensures .0) (c5 .terminator2 .ensures .0) _ _ (c10 .put-head .ensures) _ _ (c4 .put-strings .ensures),
+    )))
     (λ c. search needs)
-    (λ c. file-all (c .before .before .before .before .before .before .before .before .before .before .before .before .before .before .before .before .before .before .before .before .args .f .now) (c .before .before .before .before .before .before .before .before .before .before .before .before .before .before .before .before .before .before .before .before .pre .0) (c .before .before .before .before .before .before .before .before .before .before .before .before .before .before .before .before .before .before .before .before .pre .1) _ (c .before .before .before .before .before .before .before .before .before .before .before .before .before .before .before .before .before .file-block .ensures) _ (c .before .before .before .before .before .before .before .before .before .before .before .before .before .before .before .pointer .ensures .0) (c .before .before .before .before .before .before .before .before .before .before .before .before .before .before .before .before .before .before .before .before .args .out .now) (c .before .before .before .before .before .before .before .before .before .before .before .before .before .before .before .before .before .before .before .before .pre .3) _ _ (c .before .before .before .before .before .before .before .before .before .terminator .ensures .0) (c .before .before .before .before .before .before .before .before .terminator2 .ensures .0) _ _ (c .before .before .before .before .before .before .before .before .before .before .before .before .before .put-head .ensures) _ _ (c .before .before .before .before .before .before .before .put-strings .ensures) _ _ (c .before .before .put-traces .ensures)))
+    (λ c.
+    (let c2 = c .before .before in
+    let c7 = c2 .before .before .before .before .before in
+    let c8 = c7 .before in
+    let c9 = c8 .before in
+    let c13 = c9 .before .before .before .before in
+    let c15 = c13 .before .before in
+    let c17 = c15 .before .before in
+    let c20 = c17 .before .before .before in
+    file-all (c20 .args .f .now) (c20 .pre .0) (c20 .pre .1) _ (c17 .file-block .ensures) _ (c15 .pointer .ensures .0) (c20 .args .out .now) (c20
+    .pre .3) _ _ (c9 .terminator .ensures .0) (c8 .terminator2 .ensures .0) _ _ (c13 .put-head .ensures) _ _ (c7 .put-strings .ensures) _ _ (c2
+    .put-traces .ensures))))

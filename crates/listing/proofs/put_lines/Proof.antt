@@ -20,18 +20,74 @@ put-lines-spec =
     Inv-loop
     μ-loop
     (λ c κs. search needs)
-    (λ c. lining-start (c .before .before .before .before .before .args .out .now) (c .before .before .before .before .before .args .at) (c .before .before .before .before .before .args .part) (c .before .before .before .before .before .args .key .now) (c .before .before .before .before .before .args .u .now) (c .before .before .before .before .before .args .v .now) _ (c .line-end .ensures))
-    (λ c. let b = lining-fits (c .before .before .before .before .before .before .before .before .args .out .now) (c .before .before .before .before .before .before .before .before .args .at) (c .before .before .before .before .before .before .before .before .args .part) (c .before .before .before .before .before .before .before .before .args .key .now) (c .before .before .before .before .before .before .before .before .args .u .now) (c .before .before .before .before .before .before .before .before .args .v .now) (c .before .before .loop .from) (c .before .before .loop .to) (c .before .before .loop .e) (c .before .before .loop .out) (c .before .before .loop .inv) (c .before .before .before .before .before .before .before .before .pre .0) (c .before .loop-test .taken) in omega (arith, b .0, b .1))
-    (λ c. let b = lining-fits (c .before .before .before .before .before .before .before .before .args .out .now) (c .before .before .before .before .before .before .before .before .args .at) (c .before .before .before .before .before .before .before .before .args .part) (c .before .before .before .before .before .before .before .before .args .key .now) (c .before .before .before .before .before .before .before .before .args .u .now) (c .before .before .before .before .before .before .before .before .args .v .now) (c .before .before .loop .from) (c .before .before .loop .to) (c .before .before .loop .e) (c .before .before .loop .out) (c .before .before .loop .inv) (c .before .before .before .before .before .before .before .before .pre .0) (c .before .loop-test .taken) in omega (arith, b .0, b .1))
-    (λ c. let b = lining-fits (c .before .before .before .before .before .before .before .before .args .out .now) (c .before .before .before .before .before .before .before .before .args .at) (c .before .before .before .before .before .before .before .before .args .part) (c .before .before .before .before .before .before .before .before .args .key .now) (c .before .before .before .before .before .before .before .before .args .u .now) (c .before .before .before .before .before .before .before .before .args .v .now) (c .before .before .loop .from) (c .before .before .loop .to) (c .before .before .loop .e) (c .before .before .loop .out) (c .before .before .loop .inv) (c .before .before .before .before .before .before .before .before .pre .0) (c .before .loop-test .taken) in omega (arith, b .0, b .1))
-    (λ c κs. lining-room (c .before .before .before .before .before .before .before .before .before .args .out .now) (c .before .before .before .before .before .before .before .before .before .args .at) (c .before .before .before .before .before .before .before .before .before .args .part) (c .before .before .before .before .before .before .before .before .before .args .key .now) (c .before .before .before .before .before .before .before .before .before .args .u .now) (c .before .before .before .before .before .before .before .before .before .args .v .now) (c .before .before .before .loop .from) (c .before .before .before .loop .to) (c .before .before .before .loop .e) (c .before .before .before .loop .out) (c .before .before .before .loop .inv) (c .before .before .before .before .before .before .before .before .before .pre .0) (c .before .before .loop-test .taken) (c .before .before .before .before .before .before .before .before .before .pre .1))
-    (λ c. let b = lining-fits (c .before .before .before .before .before .before .before .before .before .before .before .before .args .out .now) (c .before .before .before .before .before .before .before .before .before .before .before .before .args .at) (c .before .before .before .before .before .before .before .before .before .before .before .before .args .part) (c .before .before .before .before .before .before .before .before .before .before .before .before .args .key .now) (c .before .before .before .before .before .before .before .before .before .before .before .before .args .u .now) (c .before .before .before .before .before .before .before .before .before .before .before .before .args .v .now) (c .before .before .before .before .before .before .loop .from) (c .before .before .before .before .before .before .loop .to) (c .before .before .before .before .before .before .loop .e) (c .before .before .before .before .before .before .loop .out) (c .before .before .before .before .before .before .loop .inv) (c .before .before .before .before .before .before .before .before .before .before .before .before .pre .0) (c .before .before .before .before .before .loop-test .taken) in omega (arith, b .0, b .1))
+    (λ c.
+    (let c5 = c .before .before .before .before .before in
+    lining-start (c5 .args .out .now) (c5 .args .at) (c5 .args .part) (c5 .args .key .now) (c5 .args .u .now) (c5 .args .v .now) _ (c .line-end
+    .ensures)))
+    (λ c.
+    (let c1 = c .before in
+    let c2 = c1 .before in
+    let c8 = c2 .before .before .before .before .before .before in
+    let b = lining-fits (c8 .args .out .now) (c8 .args .at) (c8 .args .part) (c8 .args .key .now) (c8 .args .u .now) (c8 .args .v .now) (c2 .loop
+    .from) (c2 .loop .to) (c2 .loop .e) (c2 .loop .out) (c2 .loop .inv) (c8 .pre .0) (c1 .loop-test .taken) in omega (arith, b .0, b .1)))
+    (λ c.
+    (let c1 = c .before in
+    let c2 = c1 .before in
+    let c8 = c2 .before .before .before .before .before .before in
+    let b = lining-fits (c8 .args .out .now) (c8 .args .at) (c8 .args .part) (c8 .args .key .now) (c8 .args .u .now) (c8 .args .v .now) (c2 .loop
+    .from) (c2 .loop .to) (c2 .loop .e) (c2 .loop .out) (c2 .loop .inv) (c8 .pre .0) (c1 .loop-test .taken) in omega (arith, b .0, b .1)))
+    (λ c.
+    (let c1 = c .before in
+    let c2 = c1 .before in
+    let c8 = c2 .before .before .before .before .before .before in
+    let b = lining-fits (c8 .args .out .now) (c8 .args .at) (c8 .args .part) (c8 .args .key .now) (c8 .args .u .now) (c8 .args .v .now) (c2 .loop
+    .from) (c2 .loop .to) (c2 .loop .e) (c2 .loop .out) (c2 .loop .inv) (c8 .pre .0) (c1 .loop-test .taken) in omega (arith, b .0, b .1)))
+    (λ c κs.
+    (let c2 = c .before .before in
+    let c3 = c2 .before in
+    let c9 = c3 .before .before .before .before .before .before in
+    lining-room (c9 .args .out .now) (c9 .args .at) (c9 .args .part) (c9 .args .key .now) (c9 .args .u .now) (c9 .args .v .now) (c3 .loop .from)
+    (c3 .loop .to) (c3 .loop .e) (c3 .loop .out) (c3 .loop .inv) (c9 .pre .0) (c2 .loop-test .taken) (c9 .pre .1)))
+    (λ c.
+    (let c5 = c .before .before .before .before .before in
+    let c6 = c5 .before in
+    let c12 = c6 .before .before .before .before .before .before in
+    let b = lining-fits (c12 .args .out .now) (c12 .args .at) (c12 .args .part) (c12 .args .key .now) (c12 .args .u .now) (c12 .args .v .now) (c6
+    .loop .from) (c6 .loop .to) (c6 .loop .e) (c6 .loop .out) (c6 .loop .inv) (c12 .pre .0) (c5 .loop-test .taken) in omega (arith, b .0, b .1)))
     (λ c κs. search needs)
-    (λ c. let b = lining-fits (c .before .before .before .before .before .before .before .before .before .before .before .before .before .args .out .now) (c .before .before .before .before .before .before .before .before .before .before .before .before .before .args .at) (c .before .before .before .before .before .before .before .before .before .before .before .before .before .args .part) (c .before .before .before .before .before .before .before .before .before .before .before .before .before .args .key .now) (c .before .before .before .before .before .before .before .before .before .before .before .before .before .args .u .now) (c .before .before .before .before .before .before .before .before .before .before .before .before .before .args .v .now) (c .before .before .before .before .before .before .before .loop .from) (c .before .before .before .before .before .before .before .loop .to) (c .before .before .before .before .before .before .before .loop .e) (c .before .before .before .before .before .before .before .loop .out) (c .before .before .before .before .before .before .before .loop .inv) (c .before .before .before .before .before .before .before .before .before .before .before .before .before .pre .0) (c .before .before .before .before .before .before .loop-test .taken) in omega (arith, b .0, b .1, c .before .before .before .before .before .before .before .before .before .before .before .before .before .pre .0))
-    (λ c. lining-turn (c .before .before .before .before .before .before .before .before .before .before .before .before .before .args .out .now) (c .before .before .before .before .before .before .before .before .before .before .before .before .before .args .at) (c .before .before .before .before .before .before .before .before .before .before .before .before .before .args .part) (c .before .before .before .before .before .before .before .before .before .before .before .before .before .args .key .now) (c .before .before .before .before .before .before .before .before .before .before .before .before .before .args .u .now) (c .before .before .before .before .before .before .before .before .before .before .before .before .before .args .v .now) (c .before .before .before .before .before .before .before .loop .from) (c .before .before .before .before .before .before .before .loop .to) (c .before .before .before .before .before .before .before .loop .e) (c .before .before .before .before .before .before .before .loop .out) (c .before .before .before .before .before .before .before .loop .inv) (c .before .before .before .before .before .before .before .before .before .before .before .before .before .pre .0) (c .before .before .before .before .before .before .loop-test .taken) _ _ (c .before .before .before .put-line .ensures) _ (c .line-end2 .ensures))
+    (λ c.
+    (let c6 = c .before .before .before .before .before .before in
+    let c7 = c6 .before in
+    let c13 = c7 .before .before .before .before .before .before in
+    let b = lining-fits (c13 .args .out .now) (c13 .args .at) (c13 .args .part) (c13 .args .key .now) (c13 .args .u .now) (c13 .args .v .now) (c7
+    .loop .from) (c7 .loop .to) (c7 .loop .e) (c7 .loop .out) (c7 .loop .inv) (c13 .pre .0) (c6 .loop-test .taken) in omega (
+      arith,
+      b .0,
+      b .1,
+      c13 .pre .0,
+    )))
+    (λ c.
+    (let c3 = c .before .before .before in
+    let c6 = c3 .before .before .before in
+    let c7 = c6 .before in
+    let c13 = c7 .before .before .before .before .before .before in
+    lining-turn (c13 .args .out .now) (c13 .args .at) (c13 .args .part) (c13 .args .key .now) (c13 .args .u .now) (c13 .args .v .now) (c7 .loop
+    .from) (c7 .loop .to) (c7 .loop .e) (c7 .loop .out) (c7 .loop .inv) (c13 .pre .0) (c6 .loop-test .taken) _ _ (c3 .put-line .ensures) _ (c
+    .line-end2 .ensures)))
     (λ c. omega (arith, c .before .before .loop .inv .1 .0, c .before .before .loop .inv .1 .1))
     (λ c. omega (arith, c .before .before .loop .inv .1 .0, c .before .before .loop .inv .1 .1))
     (λ c. search needs)
-    (λ c κs. lining-last-room (c .before .before .before .before .before .before .before .before .before .args .out .now) (c .before .before .before .before .before .before .before .before .before .args .at) (c .before .before .before .before .before .before .before .before .before .args .part) (c .before .before .before .before .before .before .before .before .before .args .key .now) (c .before .before .before .before .before .before .before .before .before .args .u .now) (c .before .before .before .before .before .before .before .before .before .args .v .now) (c .before .before .before .loop .from) (c .before .before .before .loop .to) (c .before .before .before .loop .e) (c .before .before .before .loop .out) (c .before .before .before .loop .inv) (c .before .before .loop-test .left) (c .before .before .before .before .before .before .before .before .before .pre .1) _ (omega (arith, c .before .before .before .loop .inv .1 .0)))
+    (λ c κs.
+    (let c2 = c .before .before in
+    let c3 = c2 .before in
+    let c9 = c3 .before .before .before .before .before .before in
+    lining-last-room (c9 .args .out .now) (c9 .args .at) (c9 .args .part) (c9 .args .key .now) (c9 .args .u .now) (c9 .args .v .now) (c3 .loop
+    .from) (c3 .loop .to) (c3 .loop .e) (c3 .loop .out) (c3 .loop .inv) (c2 .loop-test .left) (c9 .pre .1) _ (omega (arith, c3 .loop .inv .1 .0))))
     (λ c. search needs)
-    (λ c. lining-last (c .before .before .before .before .before .before .before .before .before .before .before .before .args .out .now) (c .before .before .before .before .before .before .before .before .before .before .before .before .args .at) (c .before .before .before .before .before .before .before .before .before .before .before .before .args .part) (c .before .before .before .before .before .before .before .before .before .before .before .before .args .key .now) (c .before .before .before .before .before .before .before .before .before .before .before .before .args .u .now) (c .before .before .before .before .before .before .before .before .before .before .before .before .args .v .now) (c .before .before .before .before .before .before .loop .from) (c .before .before .before .before .before .before .loop .to) (c .before .before .before .before .before .before .loop .e) (c .before .before .before .before .before .before .loop .out) (c .before .before .before .before .before .before .loop .inv) (c .before .before .before .before .before .loop-test .left) _ _ (c .before .before .put-line2 .ensures)))
+    (λ c.
+    (let c2 = c .before .before in
+    let c5 = c2 .before .before .before in
+    let c6 = c5 .before in
+    let c12 = c6 .before .before .before .before .before .before in
+    lining-last (c12 .args .out .now) (c12 .args .at) (c12 .args .part) (c12 .args .key .now) (c12 .args .u .now) (c12 .args .v .now) (c6 .loop
+    .from) (c6 .loop .to) (c6 .loop .e) (c6 .loop .out) (c6 .loop .inv) (c5 .loop-test .left) _ _ (c2 .put-line2 .ensures))))
