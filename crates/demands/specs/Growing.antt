@@ -7,10 +7,10 @@ use mathlib.Core.Path.{_≡_, refl, sym, _∙_}
 use mathlib.Core.Bool.{Bool, false}
 use mathlib.Core.List.{List, [], _∷_, _++_}
 use mathlib.Core.Logic.{_⊎_}
-use Prim.Native.Nat.{ℕ, _+_, _*_, _≤_, _<_}
+use Prim.Native.Nat.{ℕ, _+_, _-_, _*_, _≤_, _<_}
 use native.Mathlib.Omega.{arith}
 use lib.IntN.{ℤ, pos, negsuc}
-use lib.ListN.{length, getD, take, drop}
+use lib.ListN.{length, getD, take, drop, replicate}
 use lib.Seq.{length-take-le}
 use lib.Dec.{eqb}
 use Rattle.word.specs.Bytes.{Bytes}
@@ -26,7 +26,7 @@ use Rattle.reader.specs.declared.FileAnswer.the-variants as file
 use Rattle.reader.specs.Questions.{fileAnswer, traceAnswer, countAnswer, nthAnswer, findAnswer, keywordAnswer, valueAnswer, numberAnswer, doubleAnswer, locationAnswer, integersAnswer, bitsAnswer, integersLeft, patternsLeft, classesLeft}
 use Rattle.start.specs.declared.Written.{Written}
 use Rattle.start.specs.declared.Written.the-variants.{To, Refused}
-use Rattle.layout.specs.Layout.{startSize, Trace}
+use Rattle.layout.specs.Layout.{startSize, Trace, traceBytes}
 use Rattle.start.specs.Start.{startAnswer, startLeft}
 use Rattle.append.specs.Grown.{newBytes}
 use Rattle.writer.specs.Answers.{addAnswer, addLeft}
@@ -131,7 +131,8 @@ module _ (xs : List ℕ) (n : ℕ) (x : Trace) (end : ℕ) (to : addAnswer xs n 
   pub these-bytes-become : Bytes xs
       → (wordAt 2 (highFirst (take n xs)) (addLeft xs n x) 6 ≡ countOf (take n xs) + 1)
       × (wordAt 4 (highFirst (take n xs)) (addLeft xs n x) (32 + 4 * countOf (take n xs)) ≡ round4 n)
-      × (part n end (addLeft xs n x) ≡ newBytes (take n xs) n x)
+      × (part n end (addLeft xs n x) ≡ replicate (round4 n - n) 0 ++ traceBytes (highFirst (take n xs)) (stringEnd (take n xs)) (lineEnd (take n xs)) x)
+  unfolding newBytes
   these-bytes-become by =
       let h = added xs n x end to in
       rw (add-left xs n x end to) (grown-count h by, grown-pointer h, grown-new h)

@@ -12,7 +12,7 @@ use lib.IntN.{ℤ, pos, negsuc, negℤ, natAbs, _-ℤ_, _*ℤ_, pos-*ℤ-pos, ne
 use lib.Pow.{pow-pos}
 use Rattle.encode.specs.Write.{smallest, exponentOf, mantissaOf}
 use Rattle.encode.specs.WriteLaws.{Smallest, no-less, exponent-smallest}
-use Rattle.encode.specs.Cut.{cut, cut-near, cut-between, cut-exact}
+use Rattle.encode.specs.Cut.{cut, size-neg, size-mantissa, cut-near, cut-between, cut-exact}
 use Rattle.growth.specs.TraceReads.{readBack}
 
 -- y is what is read back of z
@@ -31,10 +31,6 @@ pub record LowBitsCut (z y : ℤ) : Type 0 where
   pub near : natAbs (z -ℤ y) < 2 ^ exponent
 
 -- ---- there is one such value
-
-size-neg : (n : ℕ) → natAbs (negℤ (pos n)) ≡ n
-size-neg zero = refl
-size-neg (suc n) = refl
 
 size-times : (m : ℤ) (q : ℕ) → natAbs (m *ℤ pos q) ≡ natAbs m * q
 size-times (pos n) q = ap natAbs (pos-*ℤ-pos n q)
@@ -87,11 +83,6 @@ one-loss z y w c d =
     on-side z y (c .toward-zero) ∙ ap (alongside z) n ∙ sym (on-side z w (d .toward-zero))
 
 -- ---- and it is what is read back: codes 1 and 2 as they were given, and code 3 with its low bits cut
-
-size-mantissa : (z : ℤ) → natAbs (mantissaOf z) ≡ natAbs z / 2 ^ exponentOf z
-unfolding mantissaOf
-size-mantissa (pos n) = refl
-size-mantissa (negsuc n) = size-neg (suc n / 2 ^ exponentOf (negsuc n))
 
 low-bits-cut : (z : ℤ) → natAbs z < 1073741824 → LowBitsCut z (cut z)
 unfolding cut

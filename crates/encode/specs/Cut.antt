@@ -39,7 +39,7 @@ cut-neg : (n : ℕ) → cut (negsuc n) ≡ negℤ (pos (suc n / 2 ^ exponentOf (
 unfolding cut mantissaOf
 cut-neg n = minus-times (suc n / 2 ^ exponentOf (negsuc n)) (2 ^ exponentOf (negsuc n))
 
-size-neg : (n : ℕ) → natAbs (negℤ (pos n)) ≡ n
+pub size-neg : (n : ℕ) → natAbs (negℤ (pos n)) ≡ n
 size-neg zero = refl
 size-neg (suc n) = refl
 
@@ -156,7 +156,7 @@ unfolding ones onesBits
 ones-back (pos n) h = rw (lt-ltb n 32768 (omega arith))
 ones-back (negsuc n) h = let e : 65535 - (65535 - suc n) ≡ suc n = omega arith in rw (le-ltb (65535 - suc n) 32768 (omega arith), e)
 
-size-mantissa : (z : ℤ) → natAbs (mantissaOf z) ≡ natAbs z / 2 ^ exponentOf z
+pub size-mantissa : (z : ℤ) → natAbs (mantissaOf z) ≡ natAbs z / 2 ^ exponentOf z
 unfolding mantissaOf
 size-mantissa (pos n) = refl
 size-mantissa (negsuc n) = size-neg (suc n / 2 ^ exponentOf (negsuc n))

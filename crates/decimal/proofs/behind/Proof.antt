@@ -26,4 +26,5 @@ behind-spec =
     (λ c.
     let s = c .before .before .args .s .now in
     let e = rest (length s) s in
-    (e ∙ drop-length s ∙ sym (drop-of-length-le s {i = c .before .before .args .n} (omega arith)), rest-from (length s) (omega arith) e refl (omega arith))))
+    let none = drop-of-length-le s {i = c .before .before .args .n} (omega arith) in
+    (e ∙ drop-length s ∙ sym none, rest-from (length s) (omega arith) e refl (omega arith))))
