@@ -102,7 +102,7 @@ unfolding digits
 digits-few k n p h = omega (arith, onto-few (suc n) n k [] p h)
 
 -- ---- turns of the loop that stores them from the end of a row
-pub drop-set-here : (row : List ℕ) (i b : ℕ) → i < length row → drop i (set row i b) ≡ b ∷ drop (i + 1) row
+drop-set-here : (row : List ℕ) (i b : ℕ) → i < length row → drop i (set row i b) ≡ b ∷ drop (i + 1) row
 drop-set-here [] i b h = absurd (omega arith)
 drop-set-here (x ∷ row) zero b h = refl
 drop-set-here (x ∷ row) (suc i) b h = let e : suc i + 1 ≡ suc (i + 1) = omega arith in rw e (drop-set-here row i b (omega arith))

@@ -1,5 +1,4 @@
 pub mod Digits
-pub mod Numbers
 pub mod Wrote
 pub mod Lines
 pub mod Sizes

@@ -8,9 +8,9 @@ use native.Mathlib.Omega.{arith}
 use lib.ListN.{length, length-append}
 use Rattle.refusal.specs.declared.Part.{Part}
 use Rattle.lines.specs.Digits.{digits, digits-few}
-use Rattle.lines.specs.Numbers.{below-hundred}
 use Rattle.refusal.specs.declared.Rule.{Rule}
 use Rattle.refusal.specs.Table.{numberOf}
+use Rattle.refusal.proofs.Numbers.{below-hundred}
 use Rattle.lines.specs.Lines.{ended, whose, order, headLine, traceLine, spaced, label, stringLine}
 
 pub length-ended : (n b : ℕ) → length (ended n b) ≡ length (digits n) + 1

@@ -7,6 +7,7 @@ use mathlib.Core.List.{List, [], _∷_, _++_}
 use mathlib.Core.Logic.{_⊎_, inl, inr, ⊎-elim}
 use Prim.Native.Nat.{ℕ}
 use native.Mathlib.Omega.{arith}
+use Rattle.refusal.specs.declared.Rule.{Rule}
 
 -- where the test holds the first, else the second
 abbrev pub pick {ℓ} : {A : Type ℓ} → Bool → A → A → A
@@ -63,3 +64,25 @@ module _ {A : Type 0} where
       (λ c. inl ((refl, c .0), c .1))
       (λ m. inr ((false, b) ∷ m .0, m .1, ap (λ (zs : Rows A). (false, b) ∷ zs) (m .2), (refl, m .3)))
       (first-met rs a y e)
+
+-- ---- tests with the rules that they break: the first rule, told in an answer's own words, or else the answer
+module _ {A : Type 0} where
+  abbrev pub ruled : Rows Rule → (Rule → A) → A → A
+  ruled [] bad a = a
+  ruled (r ∷ rs) bad a = pick (r .0) (bad (r .1)) (ruled rs bad a)
+
+  pub ruled-through : (rs : Rows Rule) (bad : Rule → A) (a : A) → Clear rs → ruled rs bad a ≡ a
+  ruled-through [] bad a h = refl
+  ruled-through (r ∷ rs) bad a h = rw (h .0) (ruled-through rs bad a (h .1))
+
+  -- an answer that is no rule's is the check's own, and no row's test held
+  pub ruled-clear : (bad : Rule → A) (y : A) → ((r : Rule) → bad r ≡ y → ⊥) → (rs : Rows Rule) (a : A) → ruled rs bad a ≡ y → Clear rs × (a ≡ y)
+  ruled-clear bad y n [] a e = (tt, e)
+  ruled-clear bad y n ((true, r) ∷ rs) a e = absurd (n r e)
+  ruled-clear bad y n ((false, r) ∷ rs) a e = let c = ruled-clear bad y n rs a e in ((refl, c .0), c .1)
+
+-- what is made of an answer is made of each rule's
+pub ruled-map : {A B : Type 0} (f : A → B) (rs : Rows Rule) (bad : Rule → A) (a : A) → f (ruled rs bad a) ≡ ruled rs (λ r. f (bad r)) (f a)
+ruled-map f [] bad a = refl
+ruled-map f ((true, r) ∷ rs) bad a = refl
+ruled-map f ((false, r) ∷ rs) bad a = ruled-map f rs bad a

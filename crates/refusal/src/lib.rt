@@ -2,43 +2,44 @@
 // Document 01, "Refusal numbers, in order of checking": Table has the numbers, Rows how the first row met answers. Stands on nothing.
 // The rules in words: docs/FORMAT.md, "Refusal numbers, in order of checking".
 ghost use mathlib.Core.Path.{_≡_};
-ghost use Rattle.refusal.specs.Table.{numberOf, partOf};
+ghost use Rattle.refusal.specs.Table.{numberOf, Numbered, partOf};
 
-// The rules that an input can break, in the order of the table's numbers: `specs/Table.antt` has each one's number and words.
+// The rules that an input can break, in the order of their numbers, which are those of `specs/Table.antt`: `number`
+// promises it. The words stand there.
 pub enum Rule {
-    Length,
-    FirstBytes,
-    Revision,
-    PointerRoom,
-    TraceCount,
-    Terminator,
-    RoomEnd,
-    Pointer,
-    TraceMark,
-    BlockSize,
-    DataSize,
-    FormatCode,
-    SampleCount,
-    StringOffset,
-    StringEnd,
-    Character,
-    KeywordOrder,
-    NoTrace,
-    InputSize,
-    NoNumber,
-    Digits,
-    NoDouble,
-    ValueCount,
-    NoSlot,
-    SheetLine,
-    SheetOrder,
-    AreaSize,
-    EntryCode,
-    SampleRange,
-    NoRoom,
-    StartValues,
-    RowLength,
-    CodeKind,
+    Length = 1,
+    FirstBytes = 2,
+    Revision = 3,
+    PointerRoom = 4,
+    TraceCount = 5,
+    Terminator = 6,
+    RoomEnd = 7,
+    Pointer = 8,
+    TraceMark = 9,
+    BlockSize = 10,
+    DataSize = 11,
+    FormatCode = 12,
+    SampleCount = 13,
+    StringOffset = 14,
+    StringEnd = 15,
+    Character = 16,
+    KeywordOrder = 17,
+    NoTrace = 18,
+    InputSize = 19,
+    NoNumber = 20,
+    Digits = 21,
+    NoDouble = 22,
+    ValueCount = 23,
+    NoSlot = 24,
+    SheetLine = 25,
+    SheetOrder = 26,
+    AreaSize = 27,
+    EntryCode = 28,
+    SampleRange = 29,
+    NoRoom = 30,
+    StartValues = 31,
+    RowLength = 32,
+    CodeKind = 33,
 }
 
 // Where a rule was broken: in the file's own block, or in a trace.
@@ -59,45 +60,18 @@ pub enum Verdict {
     Refused(Refusal),
 }
 
+// The number that the enum has for a rule, as a cast of an enum gives it: a signed one.
+fn row(rule: Rule) -> i64
+    ensures { λ r. ⌜ Numbered rule r ⌝ }
+{
+    rule as i64
+}
+
 // The table's number for a rule.
 pub fn number(rule: Rule) -> u32
     ensures { λ r. ⌜ r ≡ numberOf rule ⌝ }
 {
-    match rule {
-        Rule::Length => 1,
-        Rule::FirstBytes => 2,
-        Rule::Revision => 3,
-        Rule::PointerRoom => 4,
-        Rule::TraceCount => 5,
-        Rule::Terminator => 6,
-        Rule::RoomEnd => 7,
-        Rule::Pointer => 8,
-        Rule::TraceMark => 9,
-        Rule::BlockSize => 10,
-        Rule::DataSize => 11,
-        Rule::FormatCode => 12,
-        Rule::SampleCount => 13,
-        Rule::StringOffset => 14,
-        Rule::StringEnd => 15,
-        Rule::Character => 16,
-        Rule::KeywordOrder => 17,
-        Rule::NoTrace => 18,
-        Rule::InputSize => 19,
-        Rule::NoNumber => 20,
-        Rule::Digits => 21,
-        Rule::NoDouble => 22,
-        Rule::ValueCount => 23,
-        Rule::NoSlot => 24,
-        Rule::SheetLine => 25,
-        Rule::SheetOrder => 26,
-        Rule::AreaSize => 27,
-        Rule::EntryCode => 28,
-        Rule::SampleRange => 29,
-        Rule::NoRoom => 30,
-        Rule::StartValues => 31,
-        Rule::RowLength => 32,
-        Rule::CodeKind => 33,
-    }
+    row(rule) as u32
 }
 
 // The part as the table counts it: -1 for the file, else the trace.

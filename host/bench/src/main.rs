@@ -58,12 +58,12 @@ fn value(buffer: &[u8], part: i32, key: &[u8]) -> (u32, usize, usize) {
         number: 1,
         part: 0,
         place: 0,
-        start: 0,
-        size: 0,
+        value_start: 0,
+        value_length: 0,
     };
     // SAFETY: as above.
     unsafe { raw::seg2_value(&mut answer, at, size, size, part, key.as_ptr(), key.len()) }
-    (answer.number, answer.start, answer.size)
+    (answer.number, answer.value_start, answer.value_length)
 }
 
 fn add(buffer: &mut [u8], length: usize, sheet: &[u8], code: u32, row: &Row) -> (u32, usize) {

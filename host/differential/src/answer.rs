@@ -55,12 +55,30 @@ macro_rules! told {
 }
 
 told!(Verdict, a => []);
-told!(File, a => [u64::from(a.order), a.room as u64, a.count as u64, a.strings as u64, a.lines as u64]);
-told!(Trace, a => [a.start as u64, a.block as u64, a.bytes as u64, a.count as u64, u64::from(a.code)]);
+told!(File, a => [
+    u64::from(a.order),
+    a.pointer_room as u64,
+    a.trace_count as u64,
+    a.string_terminator_size as u64,
+    a.line_terminator_size as u64
+]);
+told!(Trace, a => [
+    a.start as u64,
+    a.block_size as u64,
+    a.data_size as u64,
+    a.sample_count as u64,
+    u64::from(a.format_code)
+]);
 told!(Count, a => [a.count as u64]);
-told!(Text, a => [u64::from(a.found), a.key as u64, a.letters as u64, a.value as u64, a.size as u64]);
+told!(Text, a => [
+    u64::from(a.found),
+    a.key_start as u64,
+    a.key_length as u64,
+    a.value_start as u64,
+    a.value_length as u64
+]);
 told!(Keyword, a => [u64::from(a.found)]);
-told!(Value, a => [a.start as u64, a.size as u64]);
+told!(Value, a => [a.value_start as u64, a.value_length as u64]);
 told!(Number, a => [u64::from(a.minus), signed(a.power), a.coefficient]);
 told!(Double, a => [a.value.to_bits()]);
 told!(Location, a => [u64::from(a.count), a.x.to_bits(), a.y.to_bits(), a.z.to_bits()]);

@@ -4,20 +4,24 @@ use crate::answer::Answer;
 use crate::call::{Call, Library};
 use crate::expected::expected;
 use crate::lent::{Lent, Memory};
+use seg2_reference::ALL;
 use std::fmt;
+
+/// One place for each number up to the table's last.
+const PLACES: usize = ALL[ALL.len() - 1] as usize + 1;
 
 /// How often each refusal was met through the archive; row 0 counts acceptances.
 #[derive(Clone, Debug, PartialEq, Eq)]
 pub struct Tally {
     pub calls: u64,
-    pub met: [u64; 34],
+    pub met: [u64; PLACES],
 }
 
 impl Default for Tally {
     fn default() -> Tally {
         Tally {
             calls: 0,
-            met: [0; 34],
+            met: [0; PLACES],
         }
     }
 }

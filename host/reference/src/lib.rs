@@ -35,7 +35,7 @@ pub use questions::{
     file_block, keyword, keyword_value, note_lines, samples_as_bits, samples_as_integers, string,
     string_count, trace_block, FileBlock,
 };
-pub use refusal::{Refusal, ALL};
+pub use refusal::{is_of_check, Refusal, ALL};
 pub use strings::StringPlace;
 pub use words::Order;
 pub use write::{add, add_bits, add_integers, file_of, start, Row, TraceGiven};

@@ -2,7 +2,7 @@
 
 use std::fmt;
 
-/// Every refusal number of the base.
+/// Every refusal number.
 pub const ALL: &[u8] = &[
     1, 2, 3, 4, 5, 6, 7, 8, 9, 10, 11, 12, 13, 14, 15, 16, 17, 18, 19, 20, 21, 22, 23, 24, 25, 26,
     27, 28, 29, 30, 31, 32, 33,
@@ -33,10 +33,16 @@ impl Refusal {
         }
     }
 
-    /// A refusal whose part is -1: rows 1 to 7, the file's strings, 18 to 33.
+    /// A refusal whose part is -1: rows 1 to 7, the file's strings, and every row that is
+    /// none of the check.
     pub fn file(number: u8, place: usize) -> Refusal {
         Refusal::new(number, FILE_PART, place)
     }
+}
+
+/// Whether a row is one of a file's check, with its part and a byte of the file.
+pub fn is_of_check(number: u8) -> bool {
+    matches!(number, 1..=17)
 }
 
 /// One row of the table: when the test holds, this is the answer.
@@ -53,8 +59,10 @@ impl fmt::Display for Refusal {
     fn fmt(&self, out: &mut fmt::Formatter<'_>) -> fmt::Result {
         write!(out, "refused ({})", self.number)?;
         match self.number {
-            1..=17 if self.part < 0 => write!(out, " in the file at byte {}", self.place)?,
-            1..=17 => write!(out, " in trace {} at byte {}", self.part, self.place)?,
+            number if is_of_check(number) => match self.part < 0 {
+                true => write!(out, " in the file at byte {}", self.place)?,
+                false => write!(out, " in trace {} at byte {}", self.part, self.place)?,
+            },
             20..=22 => write!(out, " at byte {} of the text", self.place)?,
             25 | 26 => write!(out, " at byte {} of the sheet", self.place)?,
             29 => write!(out, " at sample {}", self.place)?,
@@ -85,6 +93,5 @@ mod tests {
         ] {
             assert_eq!(refusal.to_string(), said);
         }
-        assert_eq!(ALL, (1..=33).collect::<Vec<u8>>());
     }
 }

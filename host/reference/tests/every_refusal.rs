@@ -1,4 +1,4 @@
-//! Every refusal number of the base occurs in the generated cases.
+//! Every refusal number occurs in the generated cases.
 
 mod common;
 
@@ -65,7 +65,7 @@ fn every_number_is_met() {
 fn every_row_of_the_check_has_its_ways() {
     let names: BTreeSet<&str> = WAYS.iter().map(|way| way.name).collect();
     assert_eq!(names.len(), WAYS.len());
-    for number in 1..=17 {
+    for number in ALL.iter().copied().filter(|&number| is_of_check(number)) {
         let ways = WAYS.iter().filter(|way| way.number == number).count();
         let least = if number == 3 || number == 12 { 1 } else { 2 };
         assert!(ways >= least, "row {number}");

@@ -115,7 +115,8 @@ fn additions_on_any_file() {
         only_the_named_bytes_change(&case.buffer, &buffer, &before, case.length, length);
         reads_as_before_and_the_new_trace_last(&case, &buffer, &before, length);
     }
-    let expected: BTreeSet<u8> = (0..=17).chain(24..=30).collect();
+    let of_check = ALL.iter().copied().filter(|&number| is_of_check(number));
+    let expected: BTreeSet<u8> = of_check.chain(24..=30).chain([0]).collect();
     assert_eq!(met, expected);
 }
 

@@ -113,7 +113,7 @@ impl<'a> File<'a> {
     /// # Ok::<(), seg2::Refusal>(())
     /// ```
     pub fn pointer_room(&self) -> usize {
-        self.block.room
+        self.block.pointer_room
     }
 
     /// N, the number of traces. Free.
@@ -127,7 +127,7 @@ impl<'a> File<'a> {
     /// # Ok::<(), seg2::Refusal>(())
     /// ```
     pub fn trace_count(&self) -> usize {
-        self.block.count
+        self.block.trace_count
     }
 
     /// The characters that end each string, one or two. Free.
@@ -141,7 +141,7 @@ impl<'a> File<'a> {
     /// # Ok::<(), seg2::Refusal>(())
     /// ```
     pub fn string_terminator(&self) -> &'a [u8] {
-        &self.part.buffer[9..9 + self.block.strings]
+        &self.part.buffer[9..9 + self.block.string_terminator_size]
     }
 
     /// The characters that part the lines of a NOTE, one or two. Free.
@@ -155,7 +155,7 @@ impl<'a> File<'a> {
     /// # Ok::<(), seg2::Refusal>(())
     /// ```
     pub fn line_terminator(&self) -> &'a [u8] {
-        &self.part.buffer[12..12 + self.block.lines]
+        &self.part.buffer[12..12 + self.block.line_terminator_size]
     }
 
     /// A trace, counted from 0; 18 where there is none.

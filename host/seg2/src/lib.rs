@@ -52,7 +52,7 @@ mod write;
 
 pub use file::{File, Traces};
 pub use part::{Lines, Strings};
-pub use refusal::{text, Place, Refusal};
+pub use refusal::{numbers, text, Place, Refusal};
 pub use trace::{Bits, Class, Trace};
 pub use walk::{Step, Walk};
 pub use write::{add_bits, add_integers, start, Builder};

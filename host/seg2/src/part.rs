@@ -21,8 +21,8 @@ impl<'a> Part<'a> {
 
     pub fn string(self, index: usize) -> Option<(&'a [u8], &'a [u8])> {
         let found = calls::string(self.buffer, self.length, self.number, index);
-        let keyword = &self.buffer[found.key..found.key + found.letters];
-        let value = &self.buffer[found.value..found.value + found.size];
+        let keyword = &self.buffer[found.key_start..found.key_start + found.key_length];
+        let value = &self.buffer[found.value_start..found.value_start + found.value_length];
         (found.found == 1).then_some((keyword, value))
     }
 
@@ -40,7 +40,8 @@ impl<'a> Part<'a> {
     pub fn value(self, keyword: &[u8]) -> Option<&'a [u8]> {
         let value = calls::value(self.buffer, self.length, self.number, keyword);
         // a no is start 0, where no value stands: not even an empty one is in the first 32 bytes
-        (value.start > 0).then(|| &self.buffer[value.start..value.start + value.size])
+        let end = value.value_start + value.value_length;
+        (value.value_start > 0).then(|| &self.buffer[value.value_start..end])
     }
 
     /// The lines of its NOTE, by the file's line terminator.

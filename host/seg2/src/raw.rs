@@ -1,5 +1,5 @@
 //! The exported functions as they are: what `include/seg2.h` declares, in Rust. The
-//! answers' fields have the names that `crates/seg2` gives them.
+//! answers' fields have the header's names, as those of `crates/face` have.
 //!
 //! A slice goes as its pointer and its size, one behind the other. A struct of more
 //! than 16 bytes comes back through a place that is the first argument, on x86-64 and
@@ -46,11 +46,17 @@ answer!(
 );
 answer!(
     /// Order (0 low first, 1 high first), M, N, lengths of the string and the line terminator.
-    File { order: u32, room: usize, count: usize, strings: usize, lines: usize }
+    File {
+        order: u32,
+        pointer_room: usize,
+        trace_count: usize,
+        string_terminator_size: usize,
+        line_terminator_size: usize,
+    }
 );
 answer!(
     /// Start of the block, B, D, S, format code.
-    Trace { start: usize, block: usize, bytes: usize, count: usize, code: u32 }
+    Trace { start: usize, block_size: usize, data_size: usize, sample_count: usize, format_code: u32 }
 );
 answer!(
     /// How many there are.
@@ -58,7 +64,7 @@ answer!(
 );
 answer!(
     /// Whether it is there; start and length of keyword and value in the buffer.
-    Text { found: u32, key: usize, letters: usize, value: usize, size: usize }
+    Text { found: u32, key_start: usize, key_length: usize, value_start: usize, value_length: usize }
 );
 answer!(
     /// Whether it is there.
@@ -66,7 +72,7 @@ answer!(
 );
 answer!(
     /// Start and length of a value in the buffer.
-    Value { start: usize, size: usize }
+    Value { value_start: usize, value_length: usize }
 );
 answer!(
     /// Sign (1 minus), power of ten, coefficient.

@@ -73,7 +73,7 @@ impl<'a> Trace<'a> {
     /// # Ok::<(), seg2::Refusal>(())
     /// ```
     pub fn code(&self) -> u32 {
-        self.block.code
+        self.block.format_code
     }
 
     /// S, the number of samples. Free.
@@ -87,7 +87,7 @@ impl<'a> Trace<'a> {
     /// # Ok::<(), seg2::Refusal>(())
     /// ```
     pub fn sample_count(&self) -> usize {
-        self.block.count
+        self.block.sample_count
     }
 
     /// Where its block starts in the file. Free.
@@ -115,7 +115,7 @@ impl<'a> Trace<'a> {
     /// # Ok::<(), seg2::Refusal>(())
     /// ```
     pub fn block_size(&self) -> usize {
-        self.block.block
+        self.block.block_size
     }
 
     /// D, the size of its data. Free.
@@ -129,7 +129,7 @@ impl<'a> Trace<'a> {
     /// # Ok::<(), seg2::Refusal>(())
     /// ```
     pub fn data_size(&self) -> usize {
-        self.block.bytes
+        self.block.data_size
     }
 
     /// Its data as it stands in the file, D bytes. Free.
@@ -143,8 +143,8 @@ impl<'a> Trace<'a> {
     /// # Ok::<(), seg2::Refusal>(())
     /// ```
     pub fn data(&self) -> &'a [u8] {
-        let from = self.block.start + self.block.block;
-        &self.part.buffer[from..from + self.block.bytes]
+        let from = self.block.start + self.block.block_size;
+        &self.part.buffer[from..from + self.block.data_size]
     }
 
     /// How many strings its block has.
@@ -294,7 +294,7 @@ impl<'a> Trace<'a> {
     /// # Ok::<(), seg2::Refusal>(())
     /// ```
     pub fn is_integers(&self) -> bool {
-        code::is_integers(self.block.code)
+        code::is_integers(self.block.format_code)
     }
 
     /// The samples of codes 1 to 3; 33 for the others.
@@ -308,7 +308,7 @@ impl<'a> Trace<'a> {
     /// # Ok::<(), seg2::Refusal>(())
     /// ```
     pub fn integers(&self) -> Result<Vec<i32>, Refusal> {
-        let mut row = vec![0; self.block.count];
+        let mut row = vec![0; self.block.sample_count];
         self.integers_into(&mut row)?;
         Ok(row)
     }
@@ -348,8 +348,8 @@ impl<'a> Trace<'a> {
     /// ```
     pub fn bits(&self) -> Result<Bits, Refusal> {
         let mut bits = Bits {
-            patterns: vec![0; self.block.count],
-            classes: vec![0; self.block.count],
+            patterns: vec![0; self.block.sample_count],
+            classes: vec![0; self.block.sample_count],
         };
         self.bits_into(&mut bits.patterns, &mut bits.classes)?;
         Ok(bits)
@@ -394,7 +394,7 @@ impl<'a> Trace<'a> {
             return Ok(self.integers()?.into_iter().map(f64::from).collect());
         }
         let patterns = self.bits()?.patterns.into_iter();
-        Ok(match self.block.code {
+        Ok(match self.block.format_code {
             // a pattern of code 4 has 32 bits
             code::FLOAT_32 => patterns.map(|p| f32::from_bits(p as u32).into()).collect(),
             _ => patterns.map(f64::from_bits).collect(),

@@ -1,6 +1,6 @@
 //! The three places that name the face agree: the crates (functions in
 //! `crates/seg2`, structs in `crates/face`), `include/seg2.h` and `src/raw.rs` have the
-//! same functions and lay their structs out in the same way.
+//! same functions and structs with the same fields in the same order, laid out alike.
 
 mod c;
 
@@ -104,24 +104,32 @@ fn laid_out(kinds: &[&str]) -> Layout {
     (end.next_multiple_of(widest), fields)
 }
 
-/// The structs that cross to another language, by C's name.
-fn structs_of_the_face() -> BTreeMap<String, Layout> {
-    let text = face();
+/// The structs that cross to another language, by C's name: their fields and their layout.
+fn structs_of_the_face() -> BTreeMap<String, (Vec<String>, Layout)> {
+    structs_in_rattle(&face())
+}
+
+fn structs_in_rattle(text: &str) -> BTreeMap<String, (Vec<String>, Layout)> {
     let mut structs = BTreeMap::new();
     for piece in text.split("pub struct Seg2").skip(1) {
         let (name, rest) = piece.split_once('{').expect("a struct's fields");
         let (body, _) = rest.split_once('}').expect("a struct's end");
         let fields = body.split(',').filter_map(|f| f.split_once(':'));
-        let kinds: Vec<&str> = fields.map(|(_, kind)| kind.trim()).collect();
+        let (names, kinds): (Vec<String>, Vec<&str>) = fields
+            .map(|(field, kind)| (field.trim().trim_start_matches("pub ").into(), kind.trim()))
+            .unzip();
         let name = format!("seg2_{}", name.trim().to_lowercase());
-        structs.insert(name, laid_out(&kinds));
+        structs.insert(name, (names, laid_out(&kinds)));
     }
     structs
 }
 
 /// The structs of the header with their fields.
 fn structs_of_the_header() -> BTreeMap<String, Vec<String>> {
-    let text = header();
+    structs_in_c(&header())
+}
+
+fn structs_in_c(text: &str) -> BTreeMap<String, Vec<String>> {
     let mut structs = BTreeMap::new();
     for piece in text.split("struct seg2_").skip(1) {
         let Some((name, rest)) = piece.split_once(" {\n") else {
@@ -135,6 +143,32 @@ fn structs_of_the_header() -> BTreeMap<String, Vec<String>> {
         structs.insert(format!("seg2_{name}"), fields.map(String::from).collect());
     }
     structs
+}
+
+/// The structs of `crates/face` whose fields the header does not have, by name and in order.
+fn named_otherwise(face: &str, header: &str) -> Vec<String> {
+    let declared = structs_in_c(header);
+    let library = structs_in_rattle(face).into_iter();
+    library
+        .filter(|(name, (fields, _))| declared.get(name) != Some(fields))
+        .map(|(name, _)| name)
+        .collect()
+}
+
+#[test]
+fn the_header_names_fields_as_the_library_does() {
+    let (face, header) = (face(), header());
+    assert_eq!(named_otherwise(&face, &header), [""; 0]);
+    // another name is found, on either side, and so are two fields of one type exchanged
+    let room = face.replace("pub pointer_room: usize", "pub room: usize");
+    assert_eq!(named_otherwise(&room, &header), ["seg2_file"]);
+    let letters = header.replace("size_t key_length;", "size_t letters;");
+    assert_eq!(named_otherwise(&face, &letters), ["seg2_string"]);
+    let exchanged = face
+        .replace("pub x: f64", "pub t: f64")
+        .replace("pub y: f64", "pub x: f64")
+        .replace("pub t: f64", "pub y: f64");
+    assert_eq!(named_otherwise(&exchanged, &header), ["seg2_location"]);
 }
 
 #[test]
@@ -168,7 +202,7 @@ fn the_header_lays_structs_out_as_the_library_does() {
             .map(|n| n.parse().expect("a number"))
             .collect();
         let fields = numbers[1..].chunks(2).map(|f| (f[0], f[1])).collect();
-        assert_eq!((numbers[0], fields), library[name], "{name}");
+        assert_eq!((numbers[0], fields), library[name].1, "{name}");
         seen += 1;
     }
     assert_eq!(seen, library.len());
@@ -194,16 +228,17 @@ fn raw_lays_structs_out_as_the_library_does() {
         ("seg2_verdict", raw_layout!(Verdict: number, part, place)),
         (
             "seg2_file",
-            raw_layout!(File: number, part, place, order, room, count, strings, lines),
+            raw_layout!(File: number, part, place, order, pointer_room, trace_count,
+                string_terminator_size, line_terminator_size),
         ),
         (
             "seg2_trace",
-            raw_layout!(Trace: number, part, place, start, block, bytes, count, code),
+            raw_layout!(Trace: number, part, place, start, block_size, data_size, sample_count, format_code),
         ),
         ("seg2_count", raw_layout!(Count: number, part, place, count)),
         (
             "seg2_string",
-            raw_layout!(Text: number, part, place, found, key, letters, value, size),
+            raw_layout!(Text: number, part, place, found, key_start, key_length, value_start, value_length),
         ),
         (
             "seg2_keyword",
@@ -211,7 +246,7 @@ fn raw_lays_structs_out_as_the_library_does() {
         ),
         (
             "seg2_value",
-            raw_layout!(Value: number, part, place, start, size),
+            raw_layout!(Value: number, part, place, value_start, value_length),
         ),
         (
             "seg2_number",
@@ -234,7 +269,8 @@ fn raw_lays_structs_out_as_the_library_does() {
     assert_eq!(table.len(), library.len());
     let source = read(here().join("src/raw.rs"));
     for (name, (kind, fields, layout)) in table {
-        assert_eq!(layout, library[name], "{name}");
+        assert_eq!(fields, library[name].0, "{name}");
+        assert_eq!(layout, library[name].1, "{name}");
         // the table above has all fields of the source, in its order
         let (_, body) = source
             .split_once(&format!("    {kind} {{"))

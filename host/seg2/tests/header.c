@@ -190,7 +190,7 @@ int main(void) {
         v = seg2_check(buffer, size, length);
         printf("%u in trace %d at its first string %d: %s\n", (unsigned)v.number, (int)v.part, v.place == offset, seg2_text(v.number));
     }
-    for (i = 0; i <= 34; i++) {
+    for (i = 0; i < 100; i++) {
         printf("%u %s\n", (unsigned)i, seg2_text(i));
     }
     return 0;

@@ -58,9 +58,10 @@ location: 0 -1 0 count 3 1 -2.5 3
 16 in trace 0 at its first string 1: a forbidden character in a keyword or value, or an empty keyword
 ";
 
-/// The answers, then the words of each row, which are those of the Rust side.
+/// The answers, then the words of each number of two digits, which are those of the Rust
+/// side. No row of the table has more (refusal/proofs/Numbers, `below-hundred`).
 fn expected() -> String {
-    let words = (0..=34).map(|number| format!("{number} {}\n", seg2::text(number)));
+    let words = (0..100).map(|number| format!("{number} {}\n", seg2::text(number)));
     ANSWERS.to_string() + &words.collect::<String>()
 }
 
@@ -132,13 +133,15 @@ fn the_header_has_every_number_of_the_table_once() {
         .filter_map(|line| line.trim().strip_prefix("SEG2_")?.split_once(" = "))
         .filter_map(|(_, rest)| rest.split([',', ' ']).next()?.parse().ok())
         .collect();
-    assert_eq!(numbers, (0..=33).collect::<Vec<u32>>());
+    let table: Vec<u32> = std::iter::once(0).chain(seg2::numbers()).collect();
+    assert_eq!(numbers, table);
 }
 
 #[test]
 fn every_row_has_its_own_words() {
-    let words: std::collections::BTreeSet<_> = (0..=34).map(seg2::text).collect();
-    assert_eq!(words.len(), 35);
+    // those of the table, "accepted", and the words for what is not in the table
+    let words: std::collections::BTreeSet<_> = (0..100).map(seg2::text).collect();
+    assert_eq!(words.len(), seg2::numbers().count() + 2);
 }
 
 /// The list that Java's tests read too: number, part, place, words. With the table that
@@ -160,7 +163,7 @@ fn a_refusal_is_told_as_the_list_has_it() {
         assert_eq!(refusal.to_string(), words);
         numbers.insert(refusal.number);
     }
-    assert_eq!(numbers, (1..=33).collect());
+    assert_eq!(numbers, seg2::numbers().collect());
 }
 
 #[test]

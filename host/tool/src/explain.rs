@@ -8,10 +8,14 @@ use seg2::{Place, Refusal};
 /// A row: what it says, what its place is, what the rule is, and what to do.
 pub fn run(given: &Options) -> Answer {
     let [number] = given.exactly()?;
-    let number: u32 = whole(number, "refusal's number: 1 to 33")?;
+    let number: u32 = whole(
+        number,
+        &format!("refusal's number: {}", told(seg2::numbers())),
+    )?;
     let Some((rule, to_do)) = row(number) else {
+        let there = told(seg2::numbers());
         return Err(unusable(format!(
-            "the table has no number {number}: it has 1 to 33"
+            "the table has no number {number}: it has {there}"
         )));
     };
     let said = format!(
@@ -20,6 +24,22 @@ pub fn run(given: &Options) -> Answer {
         place(number)
     );
     print(said.as_bytes())
+}
+
+/// Rising numbers as their runs: `1 to 3, 5`.
+fn told(numbers: impl Iterator<Item = u32>) -> String {
+    let mut runs: Vec<(u32, u32)> = Vec::new();
+    for number in numbers {
+        match runs.last_mut() {
+            Some((_, last)) if *last + 1 == number => *last = number,
+            _ => runs.push((number, number)),
+        }
+    }
+    let run = |&(first, last): &(u32, u32)| match first == last {
+        true => first.to_string(),
+        false => format!("{first} to {last}"),
+    };
+    runs.iter().map(run).collect::<Vec<_>>().join(", ")
 }
 
 fn place(number: u32) -> &'static str {
@@ -123,11 +143,20 @@ mod tests {
 
     #[test]
     fn every_row_has_a_rule_of_its_own_and_something_to_do() {
-        let rows: Vec<_> = (1..=33).filter_map(row).collect();
-        assert_eq!(rows.len(), 33);
-        let rules: std::collections::BTreeSet<_> = rows.iter().map(|(rule, _)| rule).collect();
-        assert_eq!(rules.len(), 33);
-        assert!(rows.iter().all(|(_, to_do)| !to_do.is_empty()));
-        assert_eq!((row(0), row(34), to_do(34)), (None, None, ""));
+        let rows: Vec<_> = (0..100).filter(|&number| row(number).is_some()).collect();
+        assert_eq!(rows, seg2::numbers().collect::<Vec<_>>());
+        let words: Vec<_> = rows.into_iter().filter_map(row).collect();
+        let rules: std::collections::BTreeSet<_> = words.iter().map(|(rule, _)| rule).collect();
+        assert_eq!(rules.len(), words.len());
+        assert!(words
+            .iter()
+            .all(|(rule, to_do)| !rule.is_empty() && !to_do.is_empty()));
+        assert_eq!((row(0), row(99), to_do(99)), (None, None, ""));
+    }
+
+    #[test]
+    fn numbers_are_told_by_their_runs() {
+        assert_eq!(told([1, 2, 3, 5, 7, 8].into_iter()), "1 to 3, 5, 7 to 8");
+        assert_eq!(told([4].into_iter()), "4");
     }
 }

@@ -152,7 +152,7 @@ impl<'a> Samples<'a> {
         }
         let code = self.code;
         match refusal.number {
-            1..=17 => Told::of_file(shot, bytes, refusal).stop(),
+            _ if refusal.is_of_check() => Told::of_file(shot, bytes, refusal).stop(),
             24 => Told::new(shot, refusal, slots_found(bytes)).stop(),
             28 => {
                 let count = grouped(self.text.lines().count());

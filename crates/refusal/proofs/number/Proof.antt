@@ -1,75 +1,26 @@
--- `refusal::number` meets its contract: each arm has its own rule. Assumes nothing.
+-- `refusal::number` meets its contract: every number is below 100, so it is kept as a signed one and fits 32 bits. Assumes nothing.
+use mathlib.Core.Path.{_≡_, sym, ap, _∙_}
+use native.Mathlib.Omega.{arith}
+use lib.IntN.{ℤ, pos, natAbs}
+use mir.Syntax.{w64}
+use mir.Val.{toZ, ofZ}
+use mir.Facts.{toZ-ofZ}
 use borrow.Author.Needs.{needs}
+use Rattle.refusal.specs.Table.{numberOf, Numbered}
+use Rattle.refusal.specs.declared.Rule.{Rule}
+use Rattle.refusal.proofs.Numbers.{below-hundred}
 use Rattle.refusal.proofs.number.Statement.{statement}
 use Rattle.refusal.proofs.number.Tie as tie
+
+said : (r : Rule) (z : ℤ) → Numbered r z → toZ w64 (ofZ w64 z) ≡ pos (numberOf r)
+said r z h =
+    let e : z ≡ pos (numberOf r) = h .2 ∙ ap (λ (s : Rule). pos (numberOf s)) (sym (h .1)) in
+    rw e (toZ-ofZ {w = w64} {z = pos (numberOf r)} (record { sfits = omega (arith, below-hundred r) }))
 
 pub number-spec : {M : Type 1} → statement M
 number-spec =
     tie.close
     (tie.spec
-    (λ c. search needs)
-    (λ c. search needs)
-    (λ c. search needs)
-    (λ c. search needs)
-    (λ c. search needs)
-    (λ c. search needs)
-    (λ c. search needs)
-    (λ c. search needs)
-    (λ c. search needs)
-    (λ c. search needs)
-    (λ c. search needs)
-    (λ c. search needs)
-    (λ c. search needs)
-    (λ c. search needs)
-    (λ c. search needs)
-    (λ c. search needs)
-    (λ c. search needs)
-    (λ c. search needs)
-    (λ c. search needs)
-    (λ c. search needs)
-    (λ c. search needs)
-    (λ c. search needs)
-    (λ c. search needs)
-    (λ c. search needs)
-    (λ c. search needs)
-    (λ c. search needs)
-    (λ c. search needs)
-    (λ c. search needs)
-    (λ c. search needs)
-    (λ c. search needs)
-    (λ c. search needs)
-    (λ c. search needs)
-    (λ c. search needs)
-    (λ c. rw (c .enum-told .given .1))
-    (λ c. rw (c .enum-told2 .given .1))
-    (λ c. rw (c .enum-told3 .given .1))
-    (λ c. rw (c .enum-told4 .given .1))
-    (λ c. rw (c .enum-told5 .given .1))
-    (λ c. rw (c .enum-told6 .given .1))
-    (λ c. rw (c .enum-told7 .given .1))
-    (λ c. rw (c .enum-told8 .given .1))
-    (λ c. rw (c .enum-told9 .given .1))
-    (λ c. rw (c .enum-told10 .given .1))
-    (λ c. rw (c .enum-told11 .given .1))
-    (λ c. rw (c .enum-told12 .given .1))
-    (λ c. rw (c .enum-told13 .given .1))
-    (λ c. rw (c .enum-told14 .given .1))
-    (λ c. rw (c .enum-told15 .given .1))
-    (λ c. rw (c .enum-told16 .given .1))
-    (λ c. rw (c .enum-told17 .given .1))
-    (λ c. rw (c .enum-told18 .given .1))
-    (λ c. rw (c .enum-told19 .given .1))
-    (λ c. rw (c .enum-told20 .given .1))
-    (λ c. rw (c .enum-told21 .given .1))
-    (λ c. rw (c .enum-told22 .given .1))
-    (λ c. rw (c .enum-told23 .given .1))
-    (λ c. rw (c .enum-told24 .given .1))
-    (λ c. rw (c .enum-told25 .given .1))
-    (λ c. rw (c .enum-told26 .given .1))
-    (λ c. rw (c .enum-told27 .given .1))
-    (λ c. rw (c .enum-told28 .given .1))
-    (λ c. rw (c .enum-told29 .given .1))
-    (λ c. rw (c .enum-told30 .given .1))
-    (λ c. rw (c .enum-told31 .given .1))
-    (λ c. rw (c .enum-told32 .given .1))
-    (λ c. rw (c .enum-told33 .given .1)))
+    (λ c κs. search needs)
+    (λ c. rw (said _ _ (c .row .ensures)) (tt, record { fits = omega (arith, below-hundred (c .before .args .rule)) }))
+    (λ c. ap natAbs (said _ _ (c .row .ensures))))

@@ -71,7 +71,7 @@ impl Told {
         }
     }
 
-    /// A refusal by 1 to 17, of a file with these bytes.
+    /// A refusal by a row of the check, of a file with these bytes.
     pub fn of_file(name: &OsStr, bytes: &[u8], refusal: &Refusal) -> Told {
         Told {
             shown: around(bytes, refusal),
@@ -95,11 +95,11 @@ impl Told {
     }
 }
 
-/// The bytes around the place of a refusal by 2 to 17, which is in brackets; three lines
-/// at most. Nothing for a refusal without a byte of the file.
+/// The bytes around the place of a refusal by a row of the check but 1, which is in
+/// brackets; three lines at most. Nothing for a refusal without a byte of the file.
 fn around(bytes: &[u8], refusal: &Refusal) -> String {
     let mut out = String::new();
-    if !(2..=17).contains(&refusal.number) {
+    if refusal.number == 1 || !refusal.is_of_check() {
         return out;
     }
     let line = refusal.place / 16;

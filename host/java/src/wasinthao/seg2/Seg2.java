@@ -107,7 +107,7 @@ public final class Seg2 {
         public static final int ROW_LENGTH = 32;
         public static final int CODE_KIND = 33;
 
-        /** The row of the table, 1 to 33. */
+        /** The row of the table: one of the numbers above. */
         public final int number;
         /** -1 for the file, else the trace. */
         public final int part;
@@ -131,9 +131,14 @@ public final class Seg2 {
             return "refused (" + number + ")" + whose() + where() + ": " + text();
         }
 
+        /** Whether the row is one of a file's check: its part is the file or a trace, and its place a byte of the file. */
+        private boolean isOfCheck() {
+            return number >= LENGTH && number <= KEYWORD_ORDER;
+        }
+
         private String whose() {
-            // from 18 on the part is always -1 and says nothing
-            if (number >= NO_TRACE) {
+            // of other rows the part is always -1 and says nothing
+            if (!isOfCheck()) {
                 return "";
             }
             return part < 0 ? " in the file" : " in trace " + part;
@@ -141,6 +146,9 @@ public final class Seg2 {
 
         private String where() {
             switch (number) {
+                case LENGTH:
+                case FIRST_BYTES:
+                    return "";
                 case NO_NUMBER:
                 case DIGITS:
                 case NO_DOUBLE:
@@ -151,7 +159,7 @@ public final class Seg2 {
                 case SAMPLE_RANGE:
                     return " at sample " + place;
                 default:
-                    return number >= REVISION && number <= KEYWORD_ORDER ? " at byte " + place : "";
+                    return isOfCheck() ? " at byte " + place : "";
             }
         }
 
