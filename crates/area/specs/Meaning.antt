@@ -41,7 +41,7 @@ all-note prev (l ∷ ls) n g =
     let k = note-next n (g .0) in
     (k, all-note (l .key) ls (rw k (same-refl note)) (g .1))
 
-pub record Parted (u : List ℕ) (ls : List Line) : Type 0 where
+pub record NoteParted (u : List ℕ) (ls : List Line) : Type 0 where
   pub before : List Line
   pub notes : List Line
   pub whole : ls ≡ before ++ notes
@@ -49,12 +49,12 @@ pub record Parted (u : List ℕ) (ls : List Line) : Type 0 where
   pub last : AllNote notes
   pub strings : joined u ls ≡ strsOf before ++ noteStr u notes
 
-parts-from : (u prev : List ℕ) (ls : List Line) → GoodLines prev ls → Parted u ls
+parts-from : (u prev : List ℕ) (ls : List Line) → GoodLines prev ls → NoteParted u ls
 unfolding joined
 parts-from u prev [] g = record { before = []; notes = []; whole = refl; free = tt; last = tt; strings = refl }
 parts-from u prev (l ∷ ls) g = go (same (l .key) note) refl (parts-from u (l .key) ls (g .1))
   where
-    go : (w : Bool) → same (l .key) note ≡ w → Parted u ls → Parted u (l ∷ ls)
+    go : (w : Bool) → same (l .key) note ≡ w → NoteParted u ls → NoteParted u (l ∷ ls)
     go true e p =
         record {
           before = [];
@@ -75,7 +75,7 @@ parts-from u prev (l ∷ ls) g = go (same (l .key) note) refl (parts-from u (l .
         }
 
 -- the strings of good lines
-pub lines-parted : (u : List ℕ) (ls : List Line) → GoodLines [] ls → Parted u ls
+pub lines-parted : (u : List ℕ) (ls : List Line) → GoodLines [] ls → NoteParted u ls
 lines-parted u ls g = parts-from u [] ls g
 
 -- ---- a NOTE's value, read by its line terminators, is its lines

@@ -1,7 +1,7 @@
 -- The written area spells exactly the strings that the sheet means, in `strings`' sense, for every order and terminators that a file can have; its
 -- size; and every list of good lines whose area is not too large is let through.
 -- Assumes nothing.
-use mathlib.Core.Path.{_≡_, refl}
+use mathlib.Core.Path.{_≡_, refl, sym, _∙_}
 use mathlib.Core.Bool.{Bool, true, false, _||_}
 use mathlib.Core.List.{List, [], _∷_}
 use Prim.Native.Nat.{ℕ, _%_, _≤_, _<_}
@@ -11,6 +11,7 @@ use lib.Dec.{leb, ltb, eqb}
 use borrow.Author.Tests.{leb-true, ne-eqb, le-ltb, ltb-false}
 use Rattle.word.specs.Tests.{both}
 use Rattle.word.specs.Round.{round4}
+use Rattle.refusal.specs.Verdicts.{asked}
 use Rattle.refusal.specs.Rows.{pick}
 use Rattle.refusal.specs.Table.{refusal}
 use Rattle.refusal.specs.declared.Rule.the-variants.{AreaSize}
@@ -18,17 +19,18 @@ use Rattle.refusal.specs.declared.Part.{Part}
 use Rattle.refusal.specs.declared.Part.the-variants.{File}
 use Rattle.refusal.specs.declared.Verdict.{Verdict}
 use Rattle.refusal.specs.declared.Verdict.the-variants.{Accepted, Refused}
+use Rattle.text.specs.declared.Manner.the-variants.{Strict}
 use Rattle.text.specs.Chars.{blank, valueChar, control, note, blank-value}
 use Rattle.text.specs.Runs.{all, same, same-eq, same-not, Stops, all-weaker}
-use Rattle.text.specs.Order.{rises}
+use Rattle.text.specs.Order.{rises, rises-note}
 use Rattle.text.specs.Note.{withEnds, Each, Characters, LineEnd, control-ends, characters-are-lines}
 use Rattle.strings.specs.Strings as Strings
 use Rattle.strings.specs.Paper.{spelled-accepted}
-use Rattle.strings.specs.Spelled.{Good, Rising, sizeOf, Spells, Spells.full}
+use Rattle.strings.specs.Spelled.{GoodString, Rising, sizeOf, Ends.mark, Spells, Spells.full}
 use Rattle.sheet.specs.declared.Measured as measured
 use Rattle.sheet.specs.declared.Measured.the-variants.{Size}
-use Rattle.sheet.specs.Lines.{Line, plain, spaced, continues, linesVerdict, linesOf}
-use Rattle.sheet.specs.Area.{strOf, values, noteOf, joined, stringsOf, textSize, padding, areaOf, areaSize, sized, onVerdict, measuredOf}
+use Rattle.sheet.specs.Lines.{Line, plain, spaced, continues, linesVerdict, sheetLines}
+use Rattle.sheet.specs.Area.{strOf, values, noteOf, joined, sheetStrings, textSize, padding, areaOf, areaSize, sized, measuredOf}
 use Rattle.sheet.specs.Sizes.{length-area, textSize-low}
 use Rattle.sheet.specs.Paper.{sheetOf, GoodLine, GoodLines, good-accepted, lines-read, accepted-lines}
 
@@ -76,7 +78,7 @@ no-value-blank b h = go (blank b) refl
 
 -- behind a NOTE line there are only NOTE lines
 pub note-next : {prev : List ℕ} {l : Line} → same prev note ≡ true → GoodLine prev l → l .key ≡ note
-unfolding continues rises
+unfolding continues
 note-next {prev} {l} n g = same-eq (l .key) note (go (same (l .key) note) refl)
   where
     go : (w : Bool) → same (l .key) note ≡ w → w ≡ true
@@ -84,7 +86,7 @@ note-next {prev} {l} n g = same-eq (l .key) note (go (same (l .key) note) refl)
     go false e =
         let c : continues prev (l .key) ≡ false = rw (n, e) in
         let f : rises prev (l .key) ≡ true = g .follows c in
-        let r : false ≡ true = rw n at f in
+        let r : false ≡ true = sym (rises-note prev (l .key) n) ∙ f in
         let z : _≡_ {A = ℕ} 0 1 = cc in
         absurd (omega arith)
 
@@ -112,7 +114,7 @@ value-open (b ∷ v) h s = plain-blank b (both (plain b) (all plain v) h .0) s
 one-space : (v : List ℕ) → _≡_ {A = List ℕ} (32 ∷ []) [] → v ≡ []
 one-space v e = let z : _≡_ {A = ℕ} 0 1 = cc in absurd (omega arith)
 
-str-good : (t u prev : List ℕ) (l : Line) → GoodLine prev l → same (l .key) note ≡ false → spaced (l .value) ≡ false → sizeOf t (strOf l) < 65536 → Good t u (strOf l)
+str-good : (t u prev : List ℕ) (l : Line) → GoodLine prev l → same (l .key) note ≡ false → spaced (l .value) ≡ false → sizeOf t (strOf l) < 65536 → GoodString Strict t u (strOf l)
 unfolding all
 str-good t u prev l g n s small =
     record {
@@ -127,7 +129,7 @@ str-good t u prev l g n s small =
     }
 
 note-good : (t u prev : List ℕ) (l : Line) (ls : List Line) → LineEnd u → GoodLines prev (l ∷ ls) → spaced (l .value) ≡ false
-    → sizeOf t (noteOf u (l ∷ ls)) < 65536 → Good t u (noteOf u (l ∷ ls))
+    → sizeOf t (noteOf u (l ∷ ls)) < 65536 → GoodString Strict t u (noteOf u (l ∷ ls))
 unfolding all
 note-good t u prev l ls e g s small =
     record {
@@ -142,7 +144,7 @@ note-good t u prev l ls e g s small =
     }
 
 lines-rise : (t u prev : List ℕ) (ls : List Line) → LineEnd u → same prev note ≡ false → GoodLines prev ls → textSize t (joined u ls) < 65536
-    → Rising t u prev (joined u ls)
+    → Rising Strict t u prev (joined u ls)
 unfolding joined textSize continues
 lines-rise t u prev [] e n g h = tt
 lines-rise t u prev (l ∷ ls) e n g h = go (same (l .key) note) refl h (lines-rise t u (l .key) ls e)
@@ -151,8 +153,8 @@ lines-rise t u prev (l ∷ ls) e n g h = go (same (l .key) note) refl h (lines-r
     c = rw n
 
     go : (w : Bool) → same (l .key) note ≡ w → textSize t (pick w (noteOf u (l ∷ ls) ∷ []) (strOf l ∷ joined u ls)) < 65536
-        → (same (l .key) note ≡ false → GoodLines (l .key) ls → textSize t (joined u ls) < 65536 → Rising t u (l .key) (joined u ls))
-        → Rising t u prev (pick w (noteOf u (l ∷ ls) ∷ []) (strOf l ∷ joined u ls))
+        → (same (l .key) note ≡ false → GoodLines (l .key) ls → textSize t (joined u ls) < 65536 → Rising Strict t u (l .key) (joined u ls))
+        → Rising Strict t u prev (pick w (noteOf u (l ∷ ls) ∷ []) (strOf l ∷ joined u ls))
     go true q k i =
         let s = same-eq (l .key) note q in
         (note-good t u prev l ls e g (g .0 .opens c) (omega arith), rw s at (g .0 .follows c), tt)
@@ -174,7 +176,7 @@ measured-size t u s n e = go (linesVerdict s) refl e
         let l = ltb-false 65500 (areaSize t u s) q in
         (a, omega arith)
 
-    go : (v : Verdict) → linesVerdict s ≡ v → onVerdict v (sized (areaSize t u s)) ≡ Size n → (linesVerdict s ≡ Accepted) × (areaSize t u s ≡ n) × (n ≤ 65500)
+    go : (v : Verdict) → linesVerdict s ≡ v → asked measured.the-variants.Refused v (sized (areaSize t u s)) ≡ Size n → (linesVerdict s ≡ Accepted) × (areaSize t u s ≡ n) × (n ≤ 65500)
     go Accepted q k = let b = sizes (ltb 65500 (areaSize t u s)) refl k in (q, b .0, b .1)
     go (Refused r) q k = let z : _≡_ {A = ℕ} 0 1 = cc in absurd (omega arith)
 
@@ -186,31 +188,31 @@ pub area-bounds : (high : Bool) (t u s : List ℕ) (n : ℕ) → measuredOf t u 
 unfolding areaSize
 area-bounds high t u s n e =
     let b = measured-size t u s n e in
-    let a : round4 (textSize t (stringsOf u s)) ≡ n = b .1 in
+    let a : round4 (textSize t (sheetStrings u s)) ≡ n = b .1 in
     let l = length-area high t u s in
-    let low = textSize-low t (stringsOf u s) in
+    let low = textSize-low t (sheetStrings u s) in
     (omega arith, omega arith, omega arith, b .2)
 
-pub area-spells : (high : Bool) (t u s : List ℕ) (n : ℕ) → LineEnd u → measuredOf t u s ≡ Size n → Spells high t u (stringsOf u s) (areaOf high t u s)
-unfolding areaOf areaSize stringsOf same
+pub area-spells : (high : Bool) (t u s : List ℕ) (n : ℕ) → LineEnd u → measuredOf t u s ≡ Size n → Spells Strict high t u (sheetStrings u s) (areaOf high t u s)
+unfolding areaOf areaSize sheetStrings same
 area-spells high t u s n e m =
     let b = measured-size t u s n m in
-    let a : round4 (textSize t (joined u (linesOf s))) ≡ n = b .1 in
+    let a : round4 (textSize t (joined u (sheetLines s))) ≡ n = b .1 in
     let k : n ≤ 65500 = b .2 in
     let g = accepted-lines s (b .0) .1 in
-    full (padding (textSize t (joined u (linesOf s)))) (lines-rise t u [] (linesOf s) e refl g (omega arith))
+    full (mark (padding (textSize t (joined u (sheetLines s))))) (lines-rise t u [] (sheetLines s) e refl g (omega arith))
 
 -- so in a file with these terminators `strings`' check accepts the area, wherever it stands
 pub area-accepted : (high : Bool) (t u s : List ℕ) (n : ℕ) (p : Part) (at : ℕ) → Terminators t u → measuredOf t u s ≡ Size n
-    → Strings.stringsOf high t u p (areaOf high t u s) at ≡ Accepted
+    → Strings.stringsOf Strict high t u p (areaOf high t u s) at ≡ Accepted
 area-accepted high t u s n p at e m =
     let ends = terminators-end t u e in
-    spelled-accepted p at ends (area-spells high t u s n ends m)
+    spelled-accepted Strict p at ends (area-spells high t u s n ends m)
 
 -- every list of good lines whose area is not too large is let through, and means the strings of those lines
 pub good-measured : (t u : List ℕ) (ls : List Line) → GoodLines [] ls → round4 (textSize t (joined u ls)) ≤ 65500
-    → (measuredOf t u (sheetOf ls) ≡ Size (round4 (textSize t (joined u ls)))) × (stringsOf u (sheetOf ls) ≡ joined u ls)
-unfolding measuredOf areaSize stringsOf
+    → (measuredOf t u (sheetOf ls) ≡ Size (round4 (textSize t (joined u ls)))) × (sheetStrings u (sheetOf ls) ≡ joined u ls)
+unfolding measuredOf areaSize sheetStrings
 good-measured t u ls g h =
-    let l : linesOf (sheetOf ls) ≡ ls = lines-read [] ls g in
+    let l : sheetLines (sheetOf ls) ≡ ls = lines-read [] ls g in
     (rw (good-accepted ls g, l, le-ltb 65500 (round4 (textSize t (joined u ls))) h), rw l)

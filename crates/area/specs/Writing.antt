@@ -17,10 +17,10 @@ use Rattle.refusal.specs.declared.Verdict.the-variants.{Accepted}
 use Rattle.text.specs.Chars.{keyChar, note}
 use Rattle.text.specs.Runs.{run, same, same-eq, same-refl}
 use Rattle.text.specs.Note.{withEnds}
-use Rattle.strings.specs.Spelled.{Str, textOf, sizeOf, written}
+use Rattle.strings.specs.Spelled.{Str, textOf, sizeOf, texts, written}
 use Rattle.sheet.specs.declared.Measured.the-variants.{Size}
-use Rattle.sheet.specs.Lines.{Line, lineLen, linesVerdict, linesOf}
-use Rattle.sheet.specs.Area.{strOf, values, noteOf, joined, stringsOf, textSize, padding, areaOf, areaSize, measuredOf}
+use Rattle.sheet.specs.Lines.{Line, lineLen, linesVerdict, sheetLines}
+use Rattle.sheet.specs.Area.{strOf, values, noteOf, joined, sheetStrings, textSize, padding, areaOf, areaSize, measuredOf}
 use Rattle.sheet.specs.Counting.{past-line, lines-none}
 use Rattle.sheet.specs.Paper.{bytesOfLine, sheetOf, GoodLine, GoodLines, long-line, good-line, good-key, after-line, line-key, lines-read, accepted-lines}
 use Rattle.area.specs.Spelling.{note-next, measured-size}
@@ -50,7 +50,7 @@ length-string high t s =
     omega arith
 
 written-texts : (high : Bool) (t : List ℕ) (ss : List Str) (rest : List ℕ) → written high t ss rest ≡ textsOf high t ss ++ (bytesOf 2 high 0 ++ rest)
-unfolding written textsOf stringBytes
+unfolding texts textsOf stringBytes
 written-texts high t [] rest = refl
 written-texts high t (s ∷ ss) rest = rw (written-texts high t ss rest) (sym (simp append-assoc))
 
@@ -90,29 +90,29 @@ put-before (b ∷ bs) cs xs at j h =
 -- ---- what is left of a sheet is lines
 
 pub record Lined (prev s : List ℕ) : Type 0 where
-  pub spelled : s ≡ sheetOf (linesOf s)
-  pub good : GoodLines prev (linesOf s)
+  pub spelled : s ≡ sheetOf (sheetLines s)
+  pub good : GoodLines prev (sheetLines s)
 
 -- the first line of what is left: n is its length
 pub record Ahead (prev s : List ℕ) (n : ℕ) : Type 0 where
   pub line : Line
   pub rest : List Line
-  pub read : linesOf s ≡ line ∷ rest
+  pub read : sheetLines s ≡ line ∷ rest
   pub good : GoodLine prev line
   pub long : n ≡ length (line .key) + 1 + length (line .value)
   pub bytes : take n s ≡ bytesOfLine line
   pub keys : run keyChar (take n s) ≡ length (line .key)
   pub key : take (length (line .key)) s ≡ line .key
   pub fits : n < length s
-  pub after : linesOf (drop (n + 1) s) ≡ rest
+  pub after : sheetLines (drop (n + 1) s) ≡ rest
   pub next : Lined (line .key) (drop (n + 1) s)
 
-no-lines : linesOf [] ≡ []
-unfolding linesOf
+no-lines : sheetLines [] ≡ []
+unfolding sheetLines
 no-lines = lines-none 0 [] refl
 
-pub lines-over : (s : List ℕ) (at : ℕ) → length s ≤ at → linesOf (drop at s) ≡ []
-lines-over s at h = ap linesOf (drop-of-length-le s h) ∙ no-lines
+pub lines-over : (s : List ℕ) (at : ℕ) → length s ≤ at → sheetLines (drop at s) ≡ []
+lines-over s at h = ap sheetLines (drop-of-length-le s h) ∙ no-lines
 
 no-sheet : sheetOf [] ≡ []
 unfolding sheetOf
@@ -123,9 +123,9 @@ unfolding sheetOf
 a-sheet l ls = refl
 
 pub ahead : (prev s : List ℕ) (n : ℕ) → Lined prev s → 0 < length s → n ≡ lineLen s → Ahead prev s n
-ahead prev s n d some e = go (linesOf s) refl (d .spelled) (d .good)
+ahead prev s n d some e = go (sheetLines s) refl (d .spelled) (d .good)
   where
-    go : (ls : List Line) → linesOf s ≡ ls → s ≡ sheetOf ls → GoodLines prev ls → Ahead prev s n
+    go : (ls : List Line) → sheetLines s ≡ ls → s ≡ sheetOf ls → GoodLines prev ls → Ahead prev s n
     go [] q w g = absurd (let z = ap length (w ∙ no-sheet) in omega arith)
     go (l ∷ ls) q w g =
         let b : List ℕ = bytesOfLine l in
@@ -133,7 +133,7 @@ ahead prev s n d some e = go (linesOf s) refl (d .spelled) (d .good)
         let n-is : n ≡ length b = e ∙ ap lineLen all-of ∙ good-line (g .0) (sheetOf ls) in
         let a : length s ≡ length b + suc (length (sheetOf ls)) = ap length all-of ∙ length-append b (10 ∷ sheetOf ls) in
         let r : drop (n + 1) s ≡ sheetOf ls = ap₂ (λ (j : ℕ) (x : List ℕ). drop (j + 1) x) n-is all-of ∙ after-line b (sheetOf ls) in
-        let y : linesOf (drop (n + 1) s) ≡ ls = ap linesOf r ∙ lines-read (l .key) ls (g .1) in
+        let y : sheetLines (drop (n + 1) s) ≡ ls = ap sheetLines r ∙ lines-read (l .key) ls (g .1) in
         let t : take n s ≡ b = ap₂ (λ (j : ℕ) (x : List ℕ). take j x) n-is all-of ∙ take-append-seam b (10 ∷ sheetOf ls) in
         record {
           line = l;
@@ -214,8 +214,8 @@ pub record Noted (s : List ℕ) : Type 0 where
 -- where a line starts: what is left to store, stored, makes the whole
 pub record Noting (u s buf₀ : List ℕ) (to₀ at to : ℕ) (buf : List ℕ) : Type 0 where
   pub left : Noted (drop at s)
-  pub place : to + length (moreOf u (linesOf (drop at s))) ≡ to₀ + length (moreOf u (linesOf s))
-  pub makes : put buf to (moreOf u (linesOf (drop at s))) ≡ put buf₀ to₀ (moreOf u (linesOf s))
+  pub place : to + length (moreOf u (sheetLines (drop at s))) ≡ to₀ + length (moreOf u (sheetLines s))
+  pub makes : put buf to (moreOf u (sheetLines (drop at s))) ≡ put buf₀ to₀ (moreOf u (sheetLines s))
 
 pub noting-start : (u s buf₀ : List ℕ) (to₀ : ℕ) → Noted s → Noting u s buf₀ to₀ 0 to₀ buf₀
 noting-start u s buf₀ to₀ n = record { left = n; place = refl; makes = refl }
@@ -238,21 +238,21 @@ module _ (u s buf₀ : List ℕ) (to₀ at to : ℕ) (buf : List ℕ) (c : Notin
   line-noted : line-ahead .line .key ≡ note
   line-noted = note-next (c .left .noted) (line-ahead .good)
 
-  line-more : moreOf u (linesOf (drop at s)) ≡ (u ++ part (at + 5) (at + n) s) ++ moreOf u (linesOf (drop (at + n + 1) s))
+  line-more : moreOf u (sheetLines (drop at s)) ≡ (u ++ part (at + 5) (at + n) s) ++ moreOf u (sheetLines (drop (at + n + 1) s))
   line-more =
       let a = line-ahead in
       let d : drop (n + 1) (drop at s) ≡ drop (at + n + 1) s = past-line s at n in
-      let r : linesOf (drop (at + n + 1) s) ≡ a .rest = ap linesOf (sym d) ∙ a .after in
+      let r : sheetLines (drop (at + n + 1) s) ≡ a .rest = ap sheetLines (sym d) ∙ a .after in
       let v : part (at + 5) (at + n) s ≡ a .line .value = value-part s at n (a .line) line-noted (a .bytes) in
       ap (moreOf u) (a .read) ∙ more-cons u (a .line) (a .rest) ∙ rw (r, v) (sym (append-assoc u (a .line .value) (moreOf u (a .rest))))
 
-  pub noting-fits : (5 ≤ n) × (at + n < length s) × (to + (length u + length (part (at + 5) (at + n) s)) ≤ to₀ + length (moreOf u (linesOf s)))
+  pub noting-fits : (5 ≤ n) × (at + n < length s) × (to + (length u + length (part (at + 5) (at + n) s)) ≤ to₀ + length (moreOf u (sheetLines s)))
   noting-fits =
       let a = line-ahead in
       let d = length-drop at s in
       let k : length (a .line .key) ≡ 4 = ap length line-noted in
       let m = ap length line-more in
-      let x = length-append (u ++ part (at + 5) (at + n) s) (moreOf u (linesOf (drop (at + n + 1) s))) in
+      let x = length-append (u ++ part (at + 5) (at + n) s) (moreOf u (sheetLines (drop (at + n + 1) s))) in
       let y = length-append u (part (at + 5) (at + n) s) in
       let p = c .place in
       (omega (arith, a .long), omega (arith, a .fits), omega arith)
@@ -263,18 +263,18 @@ module _ (u s buf₀ : List ℕ) (to₀ at to : ℕ) (buf : List ℕ) (c : Notin
       let a = line-ahead in
       let d : drop (n + 1) (drop at s) ≡ drop (at + n + 1) s = past-line s at n in
       let m = ap length line-more in
-      let x = length-append (u ++ part (at + 5) (at + n) s) (moreOf u (linesOf (drop (at + n + 1) s))) in
+      let x = length-append (u ++ part (at + 5) (at + n) s) (moreOf u (sheetLines (drop (at + n + 1) s))) in
       let y = length-append u (part (at + 5) (at + n) s) in
       let p = c .place in
       record {
         left = record { prev = a .line .key; noted = rw line-noted (same-refl note); lined = rw d at (a .next) };
         place = omega arith;
-        makes = rw eb (put-then buf (u ++ part (at + 5) (at + n) s) (moreOf u (linesOf (drop (at + n + 1) s))) to z (omega arith))
+        makes = rw eb (put-then buf (u ++ part (at + 5) (at + n) s) (moreOf u (sheetLines (drop (at + n + 1) s))) to z (omega arith))
             ∙ ap (λ (r : List ℕ). put buf to r) (sym line-more) ∙ c .makes;
       }
 
 pub noting-over : (u s buf₀ : List ℕ) (to₀ at to : ℕ) (buf : List ℕ) → Noting u s buf₀ to₀ at to buf → length s ≤ at
-    → (to ≡ to₀ + length (moreOf u (linesOf s))) × (buf ≡ put buf₀ to₀ (moreOf u (linesOf s)))
+    → (to ≡ to₀ + length (moreOf u (sheetLines s))) × (buf ≡ put buf₀ to₀ (moreOf u (sheetLines s)))
 unfolding moreOf
 noting-over u s buf₀ to₀ at to buf c h =
     let e = lines-over s at h in
@@ -291,7 +291,7 @@ pub record Headed (s : List ℕ) : Type 0 where
   pub some : 0 < length s
   pub line : Line
   pub rest : List Line
-  pub read : linesOf s ≡ line ∷ rest
+  pub read : sheetLines s ≡ line ∷ rest
   pub noted : line .key ≡ note
 
 -- NOTE and a space
@@ -302,9 +302,9 @@ pub record NoteAt (u s : List ℕ) (n : ℕ) : Type 0 where
   pub low : 5 ≤ n
   pub fits : n < length s
   pub noted : Noted (drop (n + 1) s)
-  pub bytes : textOf (noteOf u (linesOf s)) ≡ noteHead ++ (part 5 n s ++ moreOf u (linesOf (drop (n + 1) s)))
+  pub bytes : textOf (noteOf u (sheetLines s)) ≡ noteHead ++ (part 5 n s ++ moreOf u (sheetLines (drop (n + 1) s)))
   pub long : length (part 5 n s) ≡ n - 5
-  pub size : length (textOf (noteOf u (linesOf s))) ≡ n + length (moreOf u (linesOf (drop (n + 1) s)))
+  pub size : length (textOf (noteOf u (sheetLines s))) ≡ n + length (moreOf u (sheetLines (drop (n + 1) s)))
 
 pub note-at : (u s : List ℕ) (n : ℕ) → Headed s → n ≡ lineLen s → NoteAt u s n
 note-at u s n h e =
@@ -314,9 +314,9 @@ note-at u s n h e =
     let k : a .line .key ≡ note = ap (λ (x : Line). x .key) l ∙ h .noted in
     let lk : length (a .line .key) ≡ 4 = ap length k in
     let v : part 5 n s ≡ a .line .value = sym (drop-take 5 n s) ∙ ap (λ (x : List ℕ). drop 5 x) (a .bytes ∙ ap (λ (j : List ℕ). j ++ (9 ∷ a .line .value)) k) in
-    let b : withEnds u (values (linesOf s)) ≡ part 5 n s ++ moreOf u (linesOf (drop (n + 1) s)) =
+    let b : withEnds u (values (sheetLines s)) ≡ part 5 n s ++ moreOf u (sheetLines (drop (n + 1) s)) =
     ap (λ (x : List Line). withEnds u (values x)) (a .read) ∙ ends-more u (a .line .value) (a .rest) ∙ rw (v, a .after) in
-    let x = length-append (part 5 n s) (moreOf u (linesOf (drop (n + 1) s))) in
+    let x = length-append (part 5 n s) (moreOf u (sheetLines (drop (n + 1) s))) in
     let y : length (part 5 n s) ≡ n - 5 = length-part 5 n s (omega (arith, a .fits)) in
     let z = ap length b in
     record {
@@ -330,21 +330,21 @@ note-at u s n h e =
 
 -- the offset is stored last, when the lines have shown how long the NOTE is
 module _ (buf b1 b2 b3 b4 b5 : List ℕ) (high : Bool) (t u s : List ℕ) (n to : ℕ) (h : NoteAt u s n) where
-  pub note-written : (a b c e z : ℕ) → a ≡ to + 2 → b ≡ a + 5 → c ≡ a + n → e ≡ c + length (moreOf u (linesOf (drop (n + 1) s))) → z ≡ sizeOf t (noteOf u (linesOf s))
-      → b1 ≡ put buf a noteHead → b2 ≡ put b1 b (part 5 n s) → b3 ≡ put b2 c (moreOf u (linesOf (drop (n + 1) s))) → b4 ≡ put b3 e t
+  pub note-written : (a b c e z : ℕ) → a ≡ to + 2 → b ≡ a + 5 → c ≡ a + n → e ≡ c + length (moreOf u (sheetLines (drop (n + 1) s))) → z ≡ sizeOf t (noteOf u (sheetLines s))
+      → b1 ≡ put buf a noteHead → b2 ≡ put b1 b (part 5 n s) → b3 ≡ put b2 c (moreOf u (sheetLines (drop (n + 1) s))) → b4 ≡ put b3 e t
       → b5 ≡ put b4 to (bytesOf 2 high z)
-      → b5 ≡ put buf to (stringBytes high t (noteOf u (linesOf s)))
+      → b5 ≡ put buf to (stringBytes high t (noteOf u (sheetLines s)))
   unfolding stringBytes
   note-written a b c e z ea eb ec ee ez e1 e2 e3 e4 e5 =
       let v : List ℕ = part 5 n s in
-      let m : List ℕ = moreOf u (linesOf (drop (n + 1) s)) in
+      let m : List ℕ = moreOf u (sheetLines (drop (n + 1) s)) in
       let lv : length v ≡ n - 5 = h .long in
       let low : 5 ≤ n = h .low in
       let l2 : length (bytesOf 2 high z) ≡ 2 = length-bytesOf 2 high z in
       let p4 : b4 ≡ put b2 c (m ++ t) = e4 ∙ rw e3 (put-then b2 m t c e ee) in
       let p3 : b4 ≡ put b1 b (v ++ (m ++ t)) = p4 ∙ rw e2 (put-then b1 v (m ++ t) b c (omega arith)) in
       let p2 : b4 ≡ put buf a (noteHead ++ (v ++ (m ++ t))) = p3 ∙ rw e1 (put-then buf noteHead (v ++ (m ++ t)) a b eb) in
-      let text : textOf (noteOf u (linesOf s)) ++ t ≡ noteHead ++ (v ++ (m ++ t)) =
+      let text : textOf (noteOf u (sheetLines s)) ++ t ≡ noteHead ++ (v ++ (m ++ t)) =
       ap (λ (x : List ℕ). x ++ t) (h .bytes) ∙ ap (λ (x : List ℕ). noteHead ++ x) (append-assoc v m t) in
       e5 ∙ ap (λ (x : List ℕ). put x to (bytesOf 2 high z)) p2
       ∙ put-before (noteHead ++ (v ++ (m ++ t))) (bytesOf 2 high z) buf to a (omega arith)
@@ -356,22 +356,22 @@ module _ (buf b1 b2 b3 b4 b5 : List ℕ) (high : Bool) (t u s : List ℕ) (n to 
 pub record Strung (high : Bool) (t u s buf₀ : List ℕ) (at to : ℕ) (buf : List ℕ) : Type 0 where
   pub prev : List ℕ
   pub lined : Lined prev (drop at s)
-  pub place : to + length (textsOf high t (joined u (linesOf (drop at s)))) ≡ length (textsOf high t (stringsOf u s))
-  pub makes : put buf to (textsOf high t (joined u (linesOf (drop at s)))) ≡ put buf₀ 0 (textsOf high t (stringsOf u s))
+  pub place : to + length (textsOf high t (joined u (sheetLines (drop at s)))) ≡ length (textsOf high t (sheetStrings u s))
+  pub makes : put buf to (textsOf high t (joined u (sheetLines (drop at s)))) ≡ put buf₀ 0 (textsOf high t (sheetStrings u s))
 
 pub strung-start : (high : Bool) (t u s buf₀ : List ℕ) (room : ℕ) → Writable t u s room → Strung high t u s buf₀ 0 0 buf₀
-unfolding stringsOf
+unfolding sheetStrings
 strung-start high t u s buf₀ room w =
     let b = accepted-lines s (w .lines) in
     record { prev = []; lined = record { spelled = b .0; good = b .1 }; place = omega arith; makes = refl }
 
 pub texts-room : (high : Bool) (t u s : List ℕ) (room : ℕ) → Writable t u s room
-    → (length (textsOf high t (stringsOf u s)) + 2 ≤ 65500) × (round4 (length (textsOf high t (stringsOf u s)) + 2) ≤ room)
+    → (length (textsOf high t (sheetStrings u s)) + 2 ≤ 65500) × (round4 (length (textsOf high t (sheetStrings u s)) + 2) ≤ room)
 unfolding areaSize
 texts-room high t u s room w =
-    let a = texts-size high t (stringsOf u s) in
-    let b : round4 (textSize t (stringsOf u s)) ≤ 65500 = w .limit in
-    let c : round4 (textSize t (stringsOf u s)) ≤ room = w .fits in
+    let a = texts-size high t (sheetStrings u s) in
+    let b : round4 (textSize t (sheetStrings u s)) ≤ 65500 = w .limit in
+    let c : round4 (textSize t (sheetStrings u s)) ≤ room = w .fits in
     (omega arith, omega arith)
 
 joined-note : (u : List ℕ) (ls : List Line) (l : Line) (rest : List Line) → ls ≡ l ∷ rest → same (l .key) note ≡ true → joined u ls ≡ noteOf u ls ∷ []
@@ -423,20 +423,20 @@ module _ (high : Bool) (t u s buf₀ : List ℕ) (at to : ℕ) (buf : List ℕ) 
 
   -- a line that is no NOTE
   module _ (o : same (part at (at + w) s) note ≡ false) where
-    str-texts : textsOf high t (joined u (linesOf (drop at s)))
-        ≡ stringBytes high t (strOf (lineAt w (part at (at + n) s))) ++ textsOf high t (joined u (linesOf (drop (at + n + 1) s)))
+    str-texts : textsOf high t (joined u (sheetLines (drop at s)))
+        ≡ stringBytes high t (strOf (lineAt w (part at (at + n) s))) ++ textsOf high t (joined u (sheetLines (drop (at + n + 1) s)))
     str-texts =
         let a = str-ahead in
         let d : drop (n + 1) (drop at s) ≡ drop (at + n + 1) s = past-line s at n in
-        let r : linesOf (drop (at + n + 1) s) ≡ a .rest = ap linesOf (sym d) ∙ a .after in
+        let r : sheetLines (drop (at + n + 1) s) ≡ a .rest = ap sheetLines (sym d) ∙ a .after in
         let m : same (a .line .key) note ≡ false = rw key-is at o in
-        ap (textsOf high t) (joined-line u (linesOf (drop at s)) (a .line) (a .rest) (a .read) m) ∙ texts-cons high t (strOf (a .line)) (joined u (a .rest))
+        ap (textsOf high t) (joined-line u (sheetLines (drop at s)) (a .line) (a .rest) (a .read) m) ∙ texts-cons high t (strOf (a .line)) (joined u (a .rest))
         ∙ ap₂ (λ (l : Line) (x : List Line). stringBytes high t (strOf l) ++ textsOf high t (joined u x)) (sym as-string) (sym r)
 
-    pub strung-room : to + (2 + length (part at (at + n) s) + length t) ≤ length (textsOf high t (stringsOf u s))
+    pub strung-room : to + (2 + length (part at (at + n) s) + length t) ≤ length (textsOf high t (sheetStrings u s))
     strung-room =
         let m = ap length str-texts in
-        let x = length-append (stringBytes high t (strOf (lineAt w (part at (at + n) s)))) (textsOf high t (joined u (linesOf (drop (at + n + 1) s)))) in
+        let x = length-append (stringBytes high t (strOf (lineAt w (part at (at + n) s)))) (textsOf high t (joined u (sheetLines (drop (at + n + 1) s)))) in
         let y = length-string high t (strOf (lineAt w (part at (at + n) s))) in
         let z = line-size t w (part at (at + n) s) (strung-fits .2) in
         let p = c .place in
@@ -448,7 +448,7 @@ module _ (high : Bool) (t u s buf₀ : List ℕ) (at to : ℕ) (buf : List ℕ) 
         let a = str-ahead in
         let d : drop (n + 1) (drop at s) ≡ drop (at + n + 1) s = past-line s at n in
         let sb : List ℕ = stringBytes high t (strOf (lineAt w (part at (at + n) s))) in
-        let r : List ℕ = textsOf high t (joined u (linesOf (drop (at + n + 1) s))) in
+        let r : List ℕ = textsOf high t (joined u (sheetLines (drop (at + n + 1) s))) in
         let m = ap length str-texts in
         let k = length-append sb r in
         let y = length-string high t (strOf (lineAt w (part at (at + n) s))) in
@@ -477,26 +477,26 @@ module _ (high : Bool) (t u s buf₀ : List ℕ) (at to : ℕ) (buf : List ℕ) 
           noted = same-eq (a .line .key) note m;
         }
 
-    note-texts : textsOf high t (joined u (linesOf (drop at s))) ≡ stringBytes high t (noteOf u (linesOf (drop at s)))
+    note-texts : textsOf high t (joined u (sheetLines (drop at s))) ≡ stringBytes high t (noteOf u (sheetLines (drop at s)))
     note-texts =
         let a = str-ahead in
         let m : same (a .line .key) note ≡ true = rw key-is at o in
-        ap (textsOf high t) (joined-note u (linesOf (drop at s)) (a .line) (a .rest) (a .read) m) ∙ texts-one high t (noteOf u (linesOf (drop at s)))
+        ap (textsOf high t) (joined-note u (sheetLines (drop at s)) (a .line) (a .rest) (a .read) m) ∙ texts-one high t (noteOf u (sheetLines (drop at s)))
 
-    pub strung-note-room : to + sizeOf t (noteOf u (linesOf (drop at s))) ≡ length (textsOf high t (stringsOf u s))
+    pub strung-note-room : to + sizeOf t (noteOf u (sheetLines (drop at s))) ≡ length (textsOf high t (sheetStrings u s))
     strung-note-room =
         let m = ap length note-texts in
-        let y = length-string high t (noteOf u (linesOf (drop at s))) in
+        let y = length-string high t (noteOf u (sheetLines (drop at s))) in
         let p = c .place in
         omega arith
 
-    pub strung-note : (x : ℕ) (bs : List ℕ) → x ≡ to + sizeOf t (noteOf u (linesOf (drop at s)))
-        → bs ≡ put buf to (stringBytes high t (noteOf u (linesOf (drop at s))))
-        → (x ≡ length (textsOf high t (stringsOf u s))) × (bs ≡ put buf₀ 0 (textsOf high t (stringsOf u s)))
+    pub strung-note : (x : ℕ) (bs : List ℕ) → x ≡ to + sizeOf t (noteOf u (sheetLines (drop at s)))
+        → bs ≡ put buf to (stringBytes high t (noteOf u (sheetLines (drop at s))))
+        → (x ≡ length (textsOf high t (sheetStrings u s))) × (bs ≡ put buf₀ 0 (textsOf high t (sheetStrings u s)))
     strung-note x bs ex eb = (ex ∙ strung-note-room, eb ∙ ap (λ (l : List ℕ). put buf to l) (sym note-texts) ∙ c .makes)
 
 pub strung-over : (high : Bool) (t u s buf₀ : List ℕ) (at to : ℕ) (buf : List ℕ) → Strung high t u s buf₀ at to buf → length s ≤ at
-    → (to ≡ length (textsOf high t (stringsOf u s))) × (buf ≡ put buf₀ 0 (textsOf high t (stringsOf u s)))
+    → (to ≡ length (textsOf high t (sheetStrings u s))) × (buf ≡ put buf₀ 0 (textsOf high t (sheetStrings u s)))
 unfolding textsOf joined
 strung-over high t u s buf₀ at to buf c h =
     let e = lines-over s at h in
@@ -506,16 +506,16 @@ strung-over high t u s buf₀ at to buf c h =
 
 -- ---- the whole area: the strings, the end mark, the zeros
 
-pub area-written : (buf b1 b2 b3 : List ℕ) (high : Bool) (t u s : List ℕ) (to a e : ℕ) → to ≡ length (textsOf high t (stringsOf u s)) → a ≡ to + 2 → e ≡ round4 a
-    → b1 ≡ put buf 0 (textsOf high t (stringsOf u s)) → b2 ≡ put b1 to (bytesOf 2 high 0) → b3 ≡ put b2 a (replicate (e - a) 0)
+pub area-written : (buf b1 b2 b3 : List ℕ) (high : Bool) (t u s : List ℕ) (to a e : ℕ) → to ≡ length (textsOf high t (sheetStrings u s)) → a ≡ to + 2 → e ≡ round4 a
+    → b1 ≡ put buf 0 (textsOf high t (sheetStrings u s)) → b2 ≡ put b1 to (bytesOf 2 high 0) → b3 ≡ put b2 a (replicate (e - a) 0)
     → b3 ≡ put buf 0 (areaOf high t u s)
 unfolding areaOf
 area-written buf b1 b2 b3 high t u s to a e eto ea ee e1 e2 e3 =
-    let x : List ℕ = textsOf high t (stringsOf u s) in
-    let n : textSize t (stringsOf u s) ≡ a = sym (texts-size high t (stringsOf u s)) ∙ (let z : length x + 2 ≡ a = omega arith in z) in
+    let x : List ℕ = textsOf high t (sheetStrings u s) in
+    let n : textSize t (sheetStrings u s) ≡ a = sym (texts-size high t (sheetStrings u s)) ∙ (let z : length x + 2 ≡ a = omega arith in z) in
     let l2 : length (bytesOf 2 high 0) ≡ 2 = length-bytesOf 2 high 0 in
     let r : List ℕ = replicate (e - a) 0 in
-    let p : padding (textSize t (stringsOf u s)) ≡ r = rw (n, ee) in
+    let p : padding (textSize t (sheetStrings u s)) ≡ r = rw (n, ee) in
     let p2 : put b2 a r ≡ put b1 to (bytesOf 2 high 0 ++ r) = rw e2 (put-then b1 (bytesOf 2 high 0) r to a (omega arith)) in
     let p1 : put b1 to (bytesOf 2 high 0 ++ r) ≡ put buf 0 (x ++ (bytesOf 2 high 0 ++ r)) = rw e1 (put-then buf x (bytesOf 2 high 0 ++ r) 0 to (omega arith)) in
-    e3 ∙ p2 ∙ p1 ∙ rw (p, written-texts high t (stringsOf u s) r)
+    e3 ∙ p2 ∙ p1 ∙ rw (p, written-texts high t (sheetStrings u s) r)

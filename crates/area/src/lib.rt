@@ -2,14 +2,15 @@
 // Writing has what each store leaves, Spelling and Meaning that the area spells exactly the sheet's list. Stands on `sheet`, `strings`, `text`, `word`.
 // part is the lent memory, to the next free place in it; t, u and `high` are the file's terminators and byte order.
 // The rules in words: docs/FORMAT.md, "What we write".
+use text::Manner;
 ghost use mathlib.Core.Path.{_≡_};
 ghost use mathlib.Core.List.{_++_};
 ghost use Prim.Native.Nat.{_+_, _≤_, _<_};
 ghost use lib.ListN.{length};
 ghost use Rattle.word.specs.Put.{put};
 ghost use Rattle.strings.specs.Spelled.{sizeOf};
-ghost use Rattle.sheet.specs.Lines.{linesOf};
-ghost use Rattle.sheet.specs.Area.{strOf, noteOf, stringsOf, areaOf};
+ghost use Rattle.sheet.specs.Lines.{sheetLines};
+ghost use Rattle.sheet.specs.Area.{strOf, noteOf, sheetStrings, areaOf};
 ghost use Rattle.area.specs.Writing.{stringBytes, textsOf, moreOf, lineAt, Noted, Headed, Writable};
 
 // A line as a string of its own, stored from place `to` on; w is its keyword's length. Answers the place behind it.
@@ -44,8 +45,8 @@ fn write_more(part: &mut [u8], u: &[u8], v: &[u8], to: usize) -> usize
 
 // The further lines of a NOTE, of which s has nothing but. Answers the place behind them.
 fn write_lines(part: &mut [u8], u: &[u8], s: &[u8], to: usize) -> usize
-    requires { ⌜ Noted (now s) × (to + length (moreOf (now u) (linesOf (now s))) ≤ length (now part)) ⌝ }
-    ensures { λ r. ⌜ (r ≡ to + length (moreOf (now (u .entry)) (linesOf (now (s .entry))))) × (now (part .exit) ≡ put (now (part .entry)) to (moreOf (now (u .entry)) (linesOf (now (s .entry))))) ⌝ }
+    requires { ⌜ Noted (now s) × (to + length (moreOf (now u) (sheetLines (now s))) ≤ length (now part)) ⌝ }
+    ensures { λ r. ⌜ (r ≡ to + length (moreOf (now (u .entry)) (sheetLines (now (s .entry))))) × (now (part .exit) ≡ put (now (part .entry)) to (moreOf (now (u .entry)) (sheetLines (now (s .entry))))) ⌝ }
 {
     let mut at: usize = 0;
     let mut end = to;
@@ -62,8 +63,8 @@ fn write_lines(part: &mut [u8], u: &[u8], s: &[u8], to: usize) -> usize
 // A NOTE of all the lines of s, stored from place `to` on. Its offset is stored last: the lines are gone through once, and the place behind them tells
 // its size. Answers the place behind it.
 fn write_note(part: &mut [u8], high: bool, t: &[u8], u: &[u8], s: &[u8], to: usize) -> usize
-    requires { ⌜ Headed (now s) × (sizeOf (now t) (noteOf (now u) (linesOf (now s))) < 65536) × (to + sizeOf (now t) (noteOf (now u) (linesOf (now s))) ≤ length (now part)) ⌝ }
-    ensures { λ r. ⌜ (r ≡ to + sizeOf (now (t .entry)) (noteOf (now (u .entry)) (linesOf (now (s .entry))))) × (now (part .exit) ≡ put (now (part .entry)) to (stringBytes high (now (t .entry)) (noteOf (now (u .entry)) (linesOf (now (s .entry)))))) ⌝ }
+    requires { ⌜ Headed (now s) × (sizeOf (now t) (noteOf (now u) (sheetLines (now s))) < 65536) × (to + sizeOf (now t) (noteOf (now u) (sheetLines (now s))) ≤ length (now part)) ⌝ }
+    ensures { λ r. ⌜ (r ≡ to + sizeOf (now (t .entry)) (noteOf (now (u .entry)) (sheetLines (now (s .entry))))) × (now (part .exit) ≡ put (now (part .entry)) to (stringBytes high (now (t .entry)) (noteOf (now (u .entry)) (sheetLines (now (s .entry)))))) ⌝ }
 {
     let n = sheet::line_len(s);
     let a = to + 2;
@@ -82,14 +83,14 @@ fn write_note(part: &mut [u8], high: bool, t: &[u8], u: &[u8], s: &[u8], to: usi
 // The strings of a sheet, one behind the other. Answers the place behind them.
 fn write_strings(part: &mut [u8], high: bool, t: &[u8], u: &[u8], sheet: &[u8]) -> usize
     requires { ⌜ Writable (now t) (now u) (now sheet) (length (now part)) ⌝ }
-    ensures { λ r. ⌜ (r ≡ length (textsOf high (now (t .entry)) (stringsOf (now (u .entry)) (now (sheet .entry))))) × (now (part .exit) ≡ put (now (part .entry)) 0 (textsOf high (now (t .entry)) (stringsOf (now (u .entry)) (now (sheet .entry))))) ⌝ }
+    ensures { λ r. ⌜ (r ≡ length (textsOf high (now (t .entry)) (sheetStrings (now (u .entry)) (now (sheet .entry))))) × (now (part .exit) ≡ put (now (part .entry)) 0 (textsOf high (now (t .entry)) (sheetStrings (now (u .entry)) (now (sheet .entry))))) ⌝ }
 {
     let mut at: usize = 0;
     let mut to: usize = 0;
     while at < sheet.len() {
         let n = sheet::line_len(&sheet[at..]);
         let e = at + n;
-        let w = text::key_run(&sheet[at..e]);
+        let w = text::key_run(&sheet[at..e], Manner::Strict);
         let k = at + w;
         if text::is_note(&sheet[at..k]) {
             return write_note(part, high, t, u, &sheet[at..], to);

@@ -13,8 +13,10 @@ use Rattle.strings.specs.declared.Frame.{Frame}
 use Rattle.strings.specs.declared.Frame.the-variants.{End, Text, Broken}
 use Rattle.strings.specs.declared.Place.{Place}
 use Rattle.strings.specs.declared.Found.the-variants.{Nothing, Is}
+use Rattle.text.specs.declared.Manner.{Manner}
 use Rattle.text.specs.Runs.{same}
-use Rattle.strings.specs.Strings.{frameOf, placeOf, onText, placesFrom, placesOf, keyIn, nthOf, findOf}
+use Rattle.text.specs.Manner.{named}
+use Rattle.strings.specs.Strings.{frameOf, placeOf, onText, placesFrom, placesOf, keyIn, PlaceIn, nthOf, findOf}
 use Rattle.strings.specs.Walks.{place-fits}
 
 pub nth-none : (ss : List Place) (k : ℕ) → [] ≡ ss → Nothing ≡ nthOf ss k
@@ -30,59 +32,56 @@ unfolding nthOf
 nth-later ss s rest zero e n = absurd (n refl)
 nth-later ss s rest (suc k) e n = let q : suc k - 1 ≡ k = omega arith in rw (q, e)
 
-pub find-none : (f : List ℕ) (ss : List Place) (key : List ℕ) → [] ≡ ss → Nothing ≡ findOf f ss key
+pub find-none : (how : Manner) (f : List ℕ) (ss : List Place) (key : List ℕ) → [] ≡ ss → Nothing ≡ findOf how f ss key
 unfolding findOf
-find-none f ss key e = rw (sym e)
+find-none how f ss key e = rw (sym e)
 
-pub find-here : (f : List ℕ) (ss : List Place) (s : Place) (rest : List Place) (key : List ℕ) → ss ≡ s ∷ rest → same (keyIn f s) key ≡ true
-    → Is s ≡ findOf f ss key
+pub find-here : (how : Manner) (f : List ℕ) (ss : List Place) (s : Place) (rest : List Place) (key : List ℕ) → ss ≡ s ∷ rest → same (named how (keyIn f s)) key ≡ true
+    → Is s ≡ findOf how f ss key
 unfolding findOf
-find-here f ss s rest key e h = rw (e, h)
+find-here how f ss s rest key e h = rw (e, h)
 
-pub find-later : (f : List ℕ) (ss : List Place) (s : Place) (rest : List Place) (key : List ℕ) → ss ≡ s ∷ rest → same (keyIn f s) key ≡ false
-    → findOf f rest key ≡ findOf f ss key
+pub find-later : (how : Manner) (f : List ℕ) (ss : List Place) (s : Place) (rest : List Place) (key : List ℕ) → ss ≡ s ∷ rest → same (named how (keyIn f s)) key ≡ false
+    → findOf how f rest key ≡ findOf how f ss key
 unfolding findOf
-find-later f ss s rest key e h = rw (e, h)
+find-later how f ss s rest key e h = rw (e, h)
 
 -- ---- a place that is found lies in the file
 
-abbrev pub In : ℕ → Place → Type 0
-In e s = (s .key ≤ s .gap) × (s .gap ≤ s .value) × (s .value ≤ s .end) × (s .end ≤ e)
-
 abbrev pub AllIn : ℕ → List Place → Type 0
 AllIn e [] = Unit {0}
-AllIn e (s ∷ ss) = In e s × AllIn e ss
+AllIn e (s ∷ ss) = PlaceIn e s × AllIn e ss
 
-pub places-in : (e m : ℕ) (high : Bool) (t l : List ℕ) (at : ℕ) → at + length l ≤ e → AllIn e (placesFrom m high t l at)
+pub places-in : (how : Manner) (e m : ℕ) (high : Bool) (t l : List ℕ) (at : ℕ) → at + length l ≤ e → AllIn e (placesFrom how m high t l at)
 unfolding placesFrom onText
-places-in e zero high t l at h = tt
-places-in e (suc m) high t l at h = go (frameOf high t l) refl (λ o q. places-in e m high t (drop o l) (at + o) q)
+places-in how e zero high t l at h = tt
+places-in how e (suc m) high t l at h = go (frameOf how high t l) refl (λ o q. places-in how e m high t (drop o l) (at + o) q)
   where
-    go : (w : Frame) → frameOf high t l ≡ w → ((o : ℕ) → at + o + length (drop o l) ≤ e → AllIn e (placesFrom m high t (drop o l) (at + o)))
-        → AllIn e (onText w [] (λ o. placeOf t o l at ∷ placesFrom m high t (drop o l) (at + o)))
+    go : (w : Frame) → frameOf how high t l ≡ w → ((o : ℕ) → at + o + length (drop o l) ≤ e → AllIn e (placesFrom how m high t (drop o l) (at + o)))
+        → AllIn e (onText w [] (λ o. placeOf t o l at ∷ placesFrom how m high t (drop o l) (at + o)))
     go End f i = tt
     go (Broken r) f i = tt
     go (Text o) f i =
-        let b = place-fits high t l at o f in
+        let b = place-fits how high t l at o f in
         let d = length-drop o l in
-        ((b .gap, b .value, b .end, omega (arith, b .last, b .within)), i o (omega (arith, b .within)))
+        ((b .inside .0, b .inside .1, b .inside .2, omega (arith, b .inside .3, b .within)), i o (omega (arith, b .within)))
 
-pub nth-in : (e : ℕ) (ss : List Place) (i : ℕ) (s : Place) → AllIn e ss → nthOf ss i ≡ Is s → In e s
+pub nth-in : (e : ℕ) (ss : List Place) (i : ℕ) (s : Place) → AllIn e ss → nthOf ss i ≡ Is s → PlaceIn e s
 unfolding nthOf
 nth-in e [] i s a h = absurd (let z : _≡_ {A = ℕ} 0 1 = cc in omega arith)
 nth-in e (r ∷ rs) zero s a h = let q : r ≡ s = cc in rw q at (a .0)
 nth-in e (r ∷ rs) (suc i) s a h = nth-in e rs i s (a .1) h
 
-pub find-in : (e : ℕ) (f : List ℕ) (ss : List Place) (key : List ℕ) (s : Place) → AllIn e ss → findOf f ss key ≡ Is s → In e s
+pub find-in : (how : Manner) (e : ℕ) (f : List ℕ) (ss : List Place) (key : List ℕ) (s : Place) → AllIn e ss → findOf how f ss key ≡ Is s → PlaceIn e s
 unfolding findOf
-find-in e f [] key s a h = absurd (let z : _≡_ {A = ℕ} 0 1 = cc in omega arith)
-find-in e f (r ∷ rs) key s a h = go (same (keyIn f r) key) h (find-in e f rs key s (a .1))
+find-in how e f [] key s a h = absurd (let z : _≡_ {A = ℕ} 0 1 = cc in omega arith)
+find-in how e f (r ∷ rs) key s a h = go (same (named how (keyIn f r)) key) h (find-in how e f rs key s (a .1))
   where
-    go : (w : Bool) → pick w (Is r) (findOf f rs key) ≡ Is s → (findOf f rs key ≡ Is s → In e s) → In e s
+    go : (w : Bool) → pick w (Is r) (findOf how f rs key) ≡ Is s → (findOf how f rs key ≡ Is s → PlaceIn e s) → PlaceIn e s
     go true k i = let q : r ≡ s = cc in rw q at (a .0)
     go false k i = i k
 
 -- the strings of the area from a to e of f
-pub area-in : (high : Bool) (t f : List ℕ) (a e : ℕ) → a ≤ e → e ≤ length f → AllIn e (placesOf high t (part a e f) a)
+pub area-in : (how : Manner) (high : Bool) (t f : List ℕ) (a e : ℕ) → a ≤ e → e ≤ length f → AllIn e (placesOf how high t (part a e f) a)
 unfolding placesOf
-area-in high t f a e low fits = places-in e (length (part a e f)) high t (part a e f) a (omega (arith, length-part a e f fits))
+area-in how high t f a e low fits = places-in how e (length (part a e f)) high t (part a e f) a (omega (arith, length-part a e f fits))

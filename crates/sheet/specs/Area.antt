@@ -10,8 +10,7 @@ use lib.Dec.{ltb}
 use Rattle.word.specs.Round.{round4}
 use Rattle.refusal.specs.declared.Rule.the-variants.{AreaSize}
 use Rattle.refusal.specs.declared.Part.the-variants.{File}
-use Rattle.refusal.specs.declared.Verdict.{Verdict}
-use Rattle.refusal.specs.declared.Verdict.the-variants.{Accepted, Refused}
+use Rattle.refusal.specs.Verdicts.{asked}
 use Rattle.refusal.specs.Table.{refusal}
 use Rattle.refusal.specs.Rows.{pick}
 use Rattle.text.specs.Chars.{note}
@@ -21,7 +20,7 @@ use Rattle.strings.specs.Spelled.{Str, sizeOf, written}
 use Rattle.sheet.specs.declared.Measured as measured
 use Rattle.sheet.specs.declared.Measured.{Measured}
 use Rattle.sheet.specs.declared.Measured.the-variants.{Size}
-use Rattle.sheet.specs.Lines.{Line, linesOf, linesVerdict}
+use Rattle.sheet.specs.Lines.{Line, sheetLines, linesVerdict}
 
 -- ---- the strings that lines mean
 
@@ -43,8 +42,8 @@ joined u [] = []
 joined u (l ∷ ls) = pick (same (l .key) note) (noteOf u (l ∷ ls) ∷ []) (strOf l ∷ joined u ls)
 
 -- the list of strings that a sheet means
-unfoldable pub stringsOf : List ℕ → List ℕ → List Str
-stringsOf u s = joined u (linesOf s)
+unfoldable pub sheetStrings : List ℕ → List ℕ → List Str
+sheetStrings u s = joined u (sheetLines s)
 
 -- ---- the area
 
@@ -58,20 +57,16 @@ abbrev pub padding : ℕ → List ℕ
 padding n = replicate (round4 n - n) 0
 
 unfoldable pub areaOf : Bool → List ℕ → List ℕ → List ℕ → List ℕ
-areaOf high t u s = written high t (stringsOf u s) (padding (textSize t (stringsOf u s)))
+areaOf high t u s = written high t (sheetStrings u s) (padding (textSize t (sheetStrings u s)))
 
 -- how long it is, in either order (`length-area` of Sizes)
 unfoldable pub areaSize : List ℕ → List ℕ → List ℕ → ℕ
-areaSize t u s = round4 (textSize t (stringsOf u s))
+areaSize t u s = round4 (textSize t (sheetStrings u s))
 
 -- ---- what a sheet answers: 25 and 26 of its lines, then 27 "area too large", else the area's size
 
 abbrev pub sized : ℕ → Measured
 sized n = pick (ltb 65500 n) (measured.the-variants.Refused (refusal AreaSize File 0)) (Size n)
 
-abbrev pub onVerdict : Verdict → Measured → Measured
-onVerdict Accepted a = a
-onVerdict (Refused r) a = measured.the-variants.Refused r
-
 unfoldable pub measuredOf : List ℕ → List ℕ → List ℕ → Measured
-measuredOf t u s = onVerdict (linesVerdict s) (sized (areaSize t u s))
+measuredOf t u s = asked measured.the-variants.Refused (linesVerdict s) (sized (areaSize t u s))

@@ -11,6 +11,7 @@ use lib.Dec.{ltb}
 use borrow.Author.Tests.{lt-ltb, le-ltb, ltb-true, ne-eqb, eq-eqb}
 use Rattle.word.specs.Part.{part}
 use Rattle.word.specs.Round.{round4}
+use Rattle.refusal.specs.Verdicts.{asked}
 use Rattle.refusal.specs.Rows.{pick}
 use Rattle.refusal.specs.Table.{refusal}
 use Rattle.refusal.specs.declared.Refusal.{Refusal}
@@ -19,12 +20,12 @@ use Rattle.refusal.specs.declared.Part.the-variants.{File}
 use Rattle.refusal.specs.declared.Verdict.the-variants.{Accepted, Refused}
 use Rattle.text.specs.Chars.{note}
 use Rattle.text.specs.Runs.{same}
-use Rattle.text.specs.Order.{less, rises}
+use Rattle.text.specs.Order.{rises, rises-note}
 use Rattle.sheet.specs.declared.Step.the-variants.{Next, Bad}
 use Rattle.sheet.specs.declared.Measured as measured
 use Rattle.sheet.specs.declared.Measured.the-variants.{Size}
-use Rattle.sheet.specs.Lines.{Line, lineLen, keyLen, continues, stepOf, onStep, checkFrom, linesVerdict, linesFrom, linesOf}
-use Rattle.sheet.specs.Area.{stringsOf, textSize, areaSize, sized, onVerdict, measuredOf}
+use Rattle.sheet.specs.Lines.{Line, lineLen, lineKeyLen, continues, lineStep, onLineStep, checkFrom, linesVerdict, sheetLinesFrom, sheetLines}
+use Rattle.sheet.specs.Area.{sheetStrings, textSize, areaSize, sized, measuredOf}
 use Rattle.sheet.specs.Judging.{next-told}
 use Rattle.sheet.specs.Sizes.{lineCost, costs, joined-size, capped}
 
@@ -35,7 +36,7 @@ pub past-line : (s : List ℕ) (at n : ℕ) → drop (n + 1) (drop at s) ≡ dro
 past-line s at n = let q : at + (n + 1) ≡ at + n + 1 = omega arith in drop-drop (n + 1) at s ∙ ap (λ (j : ℕ). drop j s) q
 
 pub check-step : (m : ℕ) (prev s : List ℕ) (at : ℕ) → 0 < length s
-    → checkFrom (suc m) prev s at ≡ onStep (stepOf prev s at) (λ n w. checkFrom m (take w s) (drop (n + 1) s) (at + n + 1))
+    → checkFrom (suc m) prev s at ≡ onLineStep (lineStep prev s at) (λ n w. checkFrom m (take w s) (drop (n + 1) s) (at + n + 1))
 unfolding checkFrom
 check-step m prev s at h = rw (ne-eqb (length s) 0 (omega arith))
 
@@ -44,19 +45,19 @@ unfolding checkFrom
 check-none zero prev s at h = refl
 check-none (suc m) prev s at h = rw (eq-eqb (length s) 0 h)
 
-pub lines-none : (m : ℕ) (s : List ℕ) → length s ≡ 0 → linesFrom m s ≡ []
-unfolding linesFrom
+pub lines-none : (m : ℕ) (s : List ℕ) → length s ≡ 0 → sheetLinesFrom m s ≡ []
+unfolding sheetLinesFrom
 lines-none zero s h = refl
 lines-none (suc m) s h = rw (eq-eqb (length s) 0 h)
 
 -- a step past a line takes it off the list of lines
-pub lines-step : (m : ℕ) (prev s : List ℕ) (at n w : ℕ) → stepOf prev s at ≡ Next n w
-    → linesFrom (suc m) s ≡ record { key = take w s; value = drop (w + 1) (take n s) } ∷ linesFrom m (drop (n + 1) s)
-unfolding linesFrom
+pub lines-step : (m : ℕ) (prev s : List ℕ) (at n w : ℕ) → lineStep prev s at ≡ Next n w
+    → sheetLinesFrom (suc m) s ≡ record { key = take w s; value = drop (w + 1) (take n s) } ∷ sheetLinesFrom m (drop (n + 1) s)
+unfolding sheetLinesFrom
 lines-step m prev s at n w h =
     let b = next-told prev s at n w h in
     let n-is : lineLen s ≡ n = b .0 in
-    let k : keyLen (take n s) ≡ w = b .3 .long in
+    let k : lineKeyLen (take n s) ≡ w = b .3 .long in
     let i : w < length (take n s) = b .3 .within in
     let l : length (take n s) ≡ n = length-take-le n s (omega (arith, b .1)) in
     rw (ne-eqb (length s) 0 (omega (arith, b .1)), n-is, k, take-take w n s (omega arith))
@@ -64,14 +65,14 @@ lines-step m prev s at n w h =
 -- what a line costs depends on whether it continues a NOTE
 pub costs-step : (t u prev : List ℕ) (l : Line) (ls : List Line) → (continues prev (l .key) || rises prev (l .key)) ≡ true
     → costs t u (same prev note) (l ∷ ls) ≡ lineCost t u (continues prev (l .key)) (length (l .key)) (length (l .value)) + costs t u (same (l .key) note) ls
-unfolding continues rises costs
-costs-step t u prev l ls h = go (same prev note) (same (l .key) note) refl h
+unfolding continues costs
+costs-step t u prev l ls h = go (same prev note) (same (l .key) note) refl refl h
   where
-    go : (a b : Bool) → same (l .key) note ≡ b → ((a && b) || pick a false (pick b true (less prev (l .key)))) ≡ true
+    go : (a b : Bool) → same prev note ≡ a → same (l .key) note ≡ b → ((a && b) || rises prev (l .key)) ≡ true
         → costs t u a (l ∷ ls) ≡ lineCost t u (a && b) (length (l .key)) (length (l .value)) + costs t u b ls
-    go true true e k = refl
-    go true false e k = let z : _≡_ {A = ℕ} 0 1 = cc in absurd (omega arith)
-    go false b e k = ap (λ (x : Bool). lineCost t u false (length (l .key)) (length (l .value)) + costs t u x ls) e
+    go true true d e k = refl
+    go true false d e k = let r = rises-note prev (l .key) d in let z : _≡_ {A = ℕ} 0 1 = cc in absurd (omega arith)
+    go false b d e k = ap (λ (x : Bool). lineCost t u false (length (l .key)) (length (l .value)) + costs t u x ls) e
 
 pub capped-again : (n x m : ℕ) → n ≡ capped x → capped (n + m) ≡ capped (x + m)
 capped-again n x m e = go (ltb 65500 x) refl e
@@ -88,10 +89,10 @@ pub record Counted (t u s : List ℕ) (at k g n : ℕ) : Type 0 where
   pub checked : checkFrom fuel (part k g s) (drop at s) at ≡ linesVerdict s
   pub exact : ℕ
   pub told : n ≡ capped exact
-  pub whole : exact + costs t u (same (part k g s) note) (linesFrom fuel (drop at s)) ≡ textSize t (stringsOf u s)
+  pub whole : exact + costs t u (same (part k g s) note) (sheetLinesFrom fuel (drop at s)) ≡ textSize t (sheetStrings u s)
 
 pub counted-start : (t u s : List ℕ) → Counted t u s 0 0 0 2
-unfolding linesVerdict stringsOf linesOf same
+unfolding linesVerdict sheetStrings sheetLines same
 counted-start t u s =
     record {
       fuel = length s;
@@ -99,10 +100,10 @@ counted-start t u s =
       checked = refl;
       exact = 2;
       told = refl;
-      whole = joined-size t u (linesFrom (length s) s);
+      whole = joined-size t u (sheetLinesFrom (length s) s);
     }
 
-pub turn-fits : (prev s : List ℕ) (at o w : ℕ) → at < length s → stepOf prev (drop at s) at ≡ Next o w → (w < o) × (at + o < length s)
+pub turn-fits : (prev s : List ℕ) (at o w : ℕ) → at < length s → lineStep prev (drop at s) at ≡ Next o w → (w < o) × (at + o < length s)
 turn-fits prev s at o w low h =
     let b = next-told prev (drop at s) at o w h in
     let i : w < length (take o (drop at s)) = b .3 .within in
@@ -111,12 +112,12 @@ turn-fits prev s at o w low h =
     (omega arith, omega (arith, b .1))
 
 module _ (t u s : List ℕ) (at k g n : ℕ) (c : Counted t u s at k g n) where
-  pub counted-turn : at < length s → (o w x : ℕ) → stepOf (part k g s) (drop at s) at ≡ Next o w
+  pub counted-turn : at < length s → (o w x : ℕ) → lineStep (part k g s) (drop at s) at ≡ Next o w
       → x ≡ capped (n + lineCost t u (continues (part k g s) (part at (at + w) s)) w (o - w - 1)) → Counted t u s (at + o + 1) at (at + w) x
   counted-turn low o w x h e = go (c .fuel) (c .enough) (c .checked) (c .whole)
     where
       go : (m : ℕ) → length s - at ≤ m → checkFrom m (part k g s) (drop at s) at ≡ linesVerdict s
-          → c .exact + costs t u (same (part k g s) note) (linesFrom m (drop at s)) ≡ textSize t (stringsOf u s) → Counted t u s (at + o + 1) at (at + w) x
+          → c .exact + costs t u (same (part k g s) note) (sheetLinesFrom m (drop at s)) ≡ textSize t (sheetStrings u s) → Counted t u s (at + o + 1) at (at + w) x
       go zero a b d = absurd (omega arith)
       go (suc m) a b d =
           let f = turn-fits (part k g s) s at o w low h in
@@ -132,11 +133,11 @@ module _ (t u s : List ℕ) (at k g n : ℕ) (c : Counted t u s at k g n) where
           let long-value : length (drop (w + 1) (take o (drop at s))) ≡ o - w - 1 = omega arith in
           let cont : Bool = continues (part k g s) (part at (at + w) s) in
           let l : Line = record { key = part at (at + w) s; value = drop (w + 1) (take o (drop at s)) } in
-          let ls : List Line = linesFrom m (drop (at + o + 1) s) in
-          let cut : linesFrom (suc m) (drop at s) ≡ l ∷ ls = lines-step m (part k g s) (drop at s) at o w h ∙ rw (key, rest) in
+          let ls : List Line = sheetLinesFrom m (drop (at + o + 1) s) in
+          let cut : sheetLinesFrom (suc m) (drop at s) ≡ l ∷ ls = lines-step m (part k g s) (drop at s) at o w h ∙ rw (key, rest) in
           let cost : costs t u (same (part k g s) note) (l ∷ ls) ≡ lineCost t u cont w (o - w - 1) + costs t u (same (part at (at + w) s) note) ls =
           costs-step t u (part k g s) l ls (rw same-key at (told .follows)) ∙ rw (long-key, long-value) in
-          let sum : costs t u (same (part k g s) note) (linesFrom (suc m) (drop at s)) ≡ lineCost t u cont w (o - w - 1) + costs t u (same (part at (at + w) s) note) ls =
+          let sum : costs t u (same (part k g s) note) (sheetLinesFrom (suc m) (drop at s)) ≡ lineCost t u cont w (o - w - 1) + costs t u (same (part at (at + w) s) note) ls =
           ap (λ (z : List Line). costs t u (same (part k g s) note) z) cut ∙ cost in
           record {
             fuel = m;
@@ -147,12 +148,12 @@ module _ (t u s : List ℕ) (at k g n : ℕ) (c : Counted t u s at k g n) where
             whole = omega arith;
           }
 
-  pub counted-bad : at < length s → (r : Refusal) → stepOf (part k g s) (drop at s) at ≡ Bad r → measured.the-variants.Refused r ≡ measuredOf t u s
+  pub counted-bad : at < length s → (r : Refusal) → lineStep (part k g s) (drop at s) at ≡ Bad r → measured.the-variants.Refused r ≡ measuredOf t u s
   unfolding measuredOf
   counted-bad low r h = go (c .fuel) (c .enough) (c .checked)
     where
       go : (m : ℕ) → length s - at ≤ m → checkFrom m (part k g s) (drop at s) at ≡ linesVerdict s
-          → measured.the-variants.Refused r ≡ onVerdict (linesVerdict s) (sized (areaSize t u s))
+          → measured.the-variants.Refused r ≡ asked measured.the-variants.Refused (linesVerdict s) (sized (areaSize t u s))
       go zero a b = absurd (omega arith)
       go (suc m) a b =
           let long : length (drop at s) ≡ length s - at = length-drop at s in
@@ -160,7 +161,7 @@ module _ (t u s : List ℕ) (at k g n : ℕ) (c : Counted t u s at k g n) where
           rw v
 
   -- where no line is left all is counted
-  counted-all : length s ≤ at → (linesVerdict s ≡ Accepted) × (textSize t (stringsOf u s) ≡ c .exact)
+  counted-all : length s ≤ at → (linesVerdict s ≡ Accepted) × (textSize t (sheetStrings u s) ≡ c .exact)
   unfolding costs
   counted-all h =
       let none : length (drop at s) ≡ 0 = length-drop at s ∙ (let z : length s - at ≡ 0 = omega arith in z) in (

@@ -8,7 +8,8 @@ use native.Mathlib.Omega.{arith}
 use lib.ListN.{length, getD, take, drop, List·getD-eq-default}
 use lib.Dec.{leb}
 use borrow.Author.Tests.{le-leb, lt-leb, leb-false, eq-eqb, ne-eqb, eqb-true, eqb-false, not-false}
-use Rattle.refusal.specs.Rows.{pick, clear}
+use Rattle.refusal.specs.Rows.{pick, ruled-clear}
+use Rattle.strings.specs.Walks.{wrong-keyword}
 use Rattle.refusal.specs.Table.{refusal}
 use Rattle.refusal.specs.declared.Rule.{Rule}
 use Rattle.refusal.specs.declared.Rule.the-variants.{SheetLine, SheetOrder}
@@ -19,49 +20,45 @@ use Rattle.text.specs.Chars.{keyChar}
 use Rattle.text.specs.Runs.{run, all}
 use Rattle.text.specs.Order.{rises}
 use Rattle.sheet.specs.declared.Step.the-variants.{Next, Bad}
-use Rattle.sheet.specs.Lines.{plain, lineLen, keyLen, spaced, continues, lineRows, judgedOf, onJudged, stepOf}
+use Rattle.sheet.specs.Lines.{plain, lineLen, lineKeyLen, spaced, continues, lineRows, lineJudged, onLineJudged, lineStep}
 
 -- ---- which answer it is: n is the number of keyword characters at the line's start
 module _ (prev l : List ℕ) (n : ℕ) (e : n ≡ run keyChar l) where
-  pub judged-none : n ≡ 0 → Wrong SheetLine ≡ judgedOf prev l
-  unfolding judgedOf keyLen
+  pub judged-none : n ≡ 0 → Wrong SheetLine ≡ lineJudged prev l
+  unfolding lineJudged lineKeyLen
   judged-none z = rw (← e, eq-eqb n 0 z)
 
-  pub judged-short : 0 < n → length l ≤ n → Wrong SheetLine ≡ judgedOf prev l
-  unfolding judgedOf keyLen
+  pub judged-short : 0 < n → length l ≤ n → Wrong SheetLine ≡ lineJudged prev l
+  unfolding lineJudged lineKeyLen
   judged-short s h = rw (← e, ne-eqb n 0 (omega arith), List·getD-eq-default l 0 h)
 
-  pub judged-other : 0 < n → (getD l n 0 ≡ 9 → ⊥) → Wrong SheetLine ≡ judgedOf prev l
-  unfolding judgedOf keyLen
+  pub judged-other : 0 < n → (getD l n 0 ≡ 9 → ⊥) → Wrong SheetLine ≡ lineJudged prev l
+  unfolding lineJudged lineKeyLen
   judged-other s h = rw (← e, ne-eqb n 0 (omega arith), ne-eqb (getD l n 0) 9 h)
 
-  pub judged-value : 0 < n → getD l n 0 ≡ 9 → all plain (drop (n + 1) l) ≡ false → Wrong SheetLine ≡ judgedOf prev l
-  unfolding judgedOf keyLen
+  pub judged-value : 0 < n → getD l n 0 ≡ 9 → all plain (drop (n + 1) l) ≡ false → Wrong SheetLine ≡ lineJudged prev l
+  unfolding lineJudged lineKeyLen
   judged-value s t v = rw (← e, ne-eqb n 0 (omega arith), eq-eqb (getD l n 0) 9 t, v)
 
   pub judged-space : 0 < n → getD l n 0 ≡ 9 → all plain (drop (n + 1) l) ≡ true → (spaced (drop (n + 1) l) && not (continues prev (take n l))) ≡ true
-      → Wrong SheetLine ≡ judgedOf prev l
-  unfolding judgedOf keyLen
+      → Wrong SheetLine ≡ lineJudged prev l
+  unfolding lineJudged lineKeyLen
   judged-space s t v w = rw (← e, ne-eqb n 0 (omega arith), eq-eqb (getD l n 0) 9 t, v, w)
 
   pub judged-order : 0 < n → getD l n 0 ≡ 9 → all plain (drop (n + 1) l) ≡ true → (spaced (drop (n + 1) l) && not (continues prev (take n l))) ≡ false
-      → (continues prev (take n l) || rises prev (take n l)) ≡ false → Wrong SheetOrder ≡ judgedOf prev l
-  unfolding judgedOf keyLen
+      → (continues prev (take n l) || rises prev (take n l)) ≡ false → Wrong SheetOrder ≡ lineJudged prev l
+  unfolding lineJudged lineKeyLen
   judged-order s t v w o = rw (← e, ne-eqb n 0 (omega arith), eq-eqb (getD l n 0) 9 t, v, w, o)
 
   pub judged-good : 0 < n → getD l n 0 ≡ 9 → all plain (drop (n + 1) l) ≡ true → (spaced (drop (n + 1) l) && not (continues prev (take n l))) ≡ false
-      → (continues prev (take n l) || rises prev (take n l)) ≡ true → Keyword n ≡ judgedOf prev l
-  unfolding judgedOf keyLen
+      → (continues prev (take n l) || rises prev (take n l)) ≡ true → Keyword n ≡ lineJudged prev l
+  unfolding lineJudged lineKeyLen
   judged-good s t v w o = rw (← e, ne-eqb n 0 (omega arith), eq-eqb (getD l n 0) 9 t, v, w, o)
 
 -- ---- what a line that was let through has shown
 
-abbrev isKeyword : Judged → Bool
-isKeyword (Keyword n) = true
-isKeyword (Wrong r) = false
-
 pub record Told (prev l : List ℕ) (w : ℕ) : Type 0 where
-  pub long : keyLen l ≡ w
+  pub long : lineKeyLen l ≡ w
   pub some : 0 < w
   pub tab : getD l w 0 ≡ 9
   pub plains : all plain (drop (w + 1) l) ≡ true
@@ -74,20 +71,20 @@ tab-within [] w h = absurd (omega arith)
 tab-within (b ∷ l) zero h = omega arith
 tab-within (b ∷ l) (suc w) h = let i = tab-within l w h in omega arith
 
-pub judged-told : (prev l : List ℕ) (w : ℕ) → judgedOf prev l ≡ Keyword w → Told prev l w
-unfolding judgedOf
+pub judged-told : (prev l : List ℕ) (w : ℕ) → lineJudged prev l ≡ Keyword w → Told prev l w
+unfolding lineJudged
 judged-told prev l w e =
-    let c = clear isKeyword (Keyword w) refl (lineRows prev l) (Keyword (keyLen l)) refl e in
+    let c = ruled-clear Wrong (Keyword w) (wrong-keyword w) (lineRows prev l) (Keyword (lineKeyLen l)) e in
     let k = c .1 in
-    let q : keyLen l ≡ w = cc in
-    let some = eqb-false (keyLen l) 0 (c .0 .0) in
-    let t : getD l (keyLen l) 0 ≡ 9 = eqb-true _ _ (not-false _ (c .0 .1 .0)) in
-    let p : all plain (drop (keyLen l + 1) l) ≡ true = not-false _ (c .0 .1 .1 .0) in
-    let o : (spaced (drop (keyLen l + 1) l) && not (continues prev (take (keyLen l) l))) ≡ false = c .0 .1 .1 .1 .0 in
-    let f : (continues prev (take (keyLen l) l) || rises prev (take (keyLen l) l)) ≡ true = not-false _ (c .0 .1 .1 .1 .1 .0) in
+    let q : lineKeyLen l ≡ w = cc in
+    let some = eqb-false (lineKeyLen l) 0 (c .0 .0) in
+    let t : getD l (lineKeyLen l) 0 ≡ 9 = eqb-true _ _ (not-false _ (c .0 .1 .0)) in
+    let p : all plain (drop (lineKeyLen l + 1) l) ≡ true = not-false _ (c .0 .1 .1 .0) in
+    let o : (spaced (drop (lineKeyLen l + 1) l) && not (continues prev (take (lineKeyLen l) l))) ≡ false = c .0 .1 .1 .1 .0 in
+    let f : (continues prev (take (lineKeyLen l) l) || rises prev (take (lineKeyLen l) l)) ≡ true = not-false _ (c .0 .1 .1 .1 .1 .0) in
     record {
       long = q;
-      some = omega (arith, ne-zero (keyLen l) some);
+      some = omega (arith, ne-zero (lineKeyLen l) some);
       tab = rw q at t;
       plains = rw q at p;
       opens = rw q at o;
@@ -101,35 +98,35 @@ judged-told prev l w e =
 
 -- ---- a step: s is what is left of the sheet, n the length of its first line
 module _ (prev s : List ℕ) (at n : ℕ) (e : n ≡ lineLen s) where
-  pub step-open : length s ≤ n → Bad (refusal SheetLine File at) ≡ stepOf prev s at
-  unfolding stepOf
+  pub step-open : length s ≤ n → Bad (refusal SheetLine File at) ≡ lineStep prev s at
+  unfolding lineStep
   step-open h = rw (← e, le-leb (length s) n h)
 
-  pub step-good : n < length s → (w : ℕ) → judgedOf prev (take n s) ≡ Keyword w → Next n w ≡ stepOf prev s at
-  unfolding stepOf
+  pub step-good : n < length s → (w : ℕ) → lineJudged prev (take n s) ≡ Keyword w → Next n w ≡ lineStep prev s at
+  unfolding lineStep
   step-good h w j = rw (← e, lt-leb (length s) n h, j)
 
-  pub step-bad : n < length s → (r : Rule) → judgedOf prev (take n s) ≡ Wrong r → Bad (refusal r File at) ≡ stepOf prev s at
-  unfolding stepOf
+  pub step-bad : n < length s → (r : Rule) → lineJudged prev (take n s) ≡ Wrong r → Bad (refusal r File at) ≡ lineStep prev s at
+  unfolding lineStep
   step-bad h r j = rw (← e, lt-leb (length s) n h, j)
 
 -- a step past a line has a whole line, with its keyword
-pub next-told : (prev s : List ℕ) (at n w : ℕ) → stepOf prev s at ≡ Next n w
-    → (lineLen s ≡ n) × (n < length s) × (judgedOf prev (take n s) ≡ Keyword w) × Told prev (take n s) w
-unfolding stepOf
+pub next-told : (prev s : List ℕ) (at n w : ℕ) → lineStep prev s at ≡ Next n w
+    → (lineLen s ≡ n) × (n < length s) × (lineJudged prev (take n s) ≡ Keyword w) × Told prev (take n s) w
+unfolding lineStep
 next-told prev s at n w h = go (leb (length s) (lineLen s)) refl h
   where
-    judges : (j : Judged) → judgedOf prev (take (lineLen s) s) ≡ j → onJudged j at (lineLen s) ≡ Next n w → lineLen s < length s
-        → (lineLen s ≡ n) × (n < length s) × (judgedOf prev (take n s) ≡ Keyword w) × Told prev (take n s) w
+    judges : (j : Judged) → lineJudged prev (take (lineLen s) s) ≡ j → onLineJudged j at (lineLen s) ≡ Next n w → lineLen s < length s
+        → (lineLen s ≡ n) × (n < length s) × (lineJudged prev (take n s) ≡ Keyword w) × Told prev (take n s) w
     judges (Keyword k) q g l =
         let a : lineLen s ≡ n = cc in
         let b : k ≡ w = cc in
-        let j : judgedOf prev (take n s) ≡ Keyword w = rw (a, b) at q in
+        let j : lineJudged prev (take n s) ≡ Keyword w = rw (a, b) at q in
         (a, rw a at l, j, judged-told prev (take n s) w j)
     judges (Wrong r) q g l = let z : _≡_ {A = ℕ} 0 1 = cc in absurd (omega arith)
 
     go : (b : Bool) → leb (length s) (lineLen s) ≡ b
-        → pick b (Bad (refusal SheetLine File at)) (onJudged (judgedOf prev (take (lineLen s) s)) at (lineLen s)) ≡ Next n w
-        → (lineLen s ≡ n) × (n < length s) × (judgedOf prev (take n s) ≡ Keyword w) × Told prev (take n s) w
+        → pick b (Bad (refusal SheetLine File at)) (onLineJudged (lineJudged prev (take (lineLen s) s)) at (lineLen s)) ≡ Next n w
+        → (lineLen s ≡ n) × (n < length s) × (lineJudged prev (take n s) ≡ Keyword w) × Told prev (take n s) w
     go true q g = let z : _≡_ {A = ℕ} 0 1 = cc in absurd (omega arith)
-    go false q g = judges (judgedOf prev (take (lineLen s) s)) refl g (leb-false (length s) (lineLen s) q)
+    go false q g = judges (lineJudged prev (take (lineLen s) s)) refl g (leb-false (length s) (lineLen s) q)

@@ -7,12 +7,13 @@ use mathlib.Core.List.{List, [], _∷_}
 use Prim.Native.Nat.{ℕ, zero, suc, _+_}
 use lib.ListN.{length, getD, take, drop}
 use lib.Dec.{leb, eqb}
+use Rattle.refusal.specs.declared.Rule.{Rule}
 use Rattle.refusal.specs.declared.Rule.the-variants.{SheetLine, SheetOrder}
 use Rattle.refusal.specs.declared.Part.the-variants.{File}
 use Rattle.refusal.specs.declared.Verdict.{Verdict}
 use Rattle.refusal.specs.declared.Verdict.the-variants.{Accepted, Refused}
 use Rattle.refusal.specs.Table.{refusal}
-use Rattle.refusal.specs.Rows.{Rows, first, pick}
+use Rattle.refusal.specs.Rows.{Rows, pick, ruled}
 use Rattle.strings.specs.declared.Judged.{Judged}
 use Rattle.strings.specs.declared.Judged.the-variants.{Keyword, Wrong}
 use Rattle.text.specs.Chars.{keyChar, note}
@@ -42,14 +43,14 @@ abbrev pub afterLine : List ℕ → List ℕ
 afterLine s = drop (lineLen s + 1) s
 
 -- the keyword of a line, and behind the one byte that follows it the value
-unfoldable pub keyLen : List ℕ → ℕ
-keyLen l = run keyChar l
+unfoldable pub lineKeyLen : List ℕ → ℕ
+lineKeyLen l = run keyChar l
 
-abbrev pub keyOf : List ℕ → List ℕ
-keyOf l = take (keyLen l) l
+abbrev pub lineKey : List ℕ → List ℕ
+lineKey l = take (lineKeyLen l) l
 
-abbrev pub valueOf : List ℕ → List ℕ
-valueOf l = drop (keyLen l + 1) l
+abbrev pub lineValue : List ℕ → List ℕ
+lineValue l = drop (lineKeyLen l + 1) l
 
 -- a value "starting with a space"; an empty one does not
 abbrev pub spaced : List ℕ → Bool
@@ -59,43 +60,43 @@ spaced v = eqb (getD v 0 0) 32
 unfoldable pub continues : List ℕ → List ℕ → Bool
 continues prev k = same prev note && same k note
 
--- ---- the rows of the table for one line: the first whose test holds answers
+-- ---- the rows of the table for one line: a test and the rule that it breaks, and the first whose test holds answers
 
 -- 25 "bad sheet line": an empty line or no keyword; no tab behind the keyword (a line that ends there has none); a value's character; a value that
 -- starts with a space, where the line does not continue a NOTE. 26 "sheet order": `text`'s own order, but for a NOTE that is continued. prev is the
 -- keyword before, the empty one before the first line
-abbrev pub lineRows : List ℕ → List ℕ → Rows Judged
+abbrev pub lineRows : List ℕ → List ℕ → Rows Rule
 lineRows prev l =
-    (eqb (keyLen l) 0, Wrong SheetLine)
-    ∷ (not (eqb (getD l (keyLen l) 0) 9), Wrong SheetLine)
-    ∷ (not (all plain (valueOf l)), Wrong SheetLine)
-    ∷ (spaced (valueOf l) && not (continues prev (keyOf l)), Wrong SheetLine)
-    ∷ (not (continues prev (keyOf l) || rises prev (keyOf l)), Wrong SheetOrder)
+    (eqb (lineKeyLen l) 0, SheetLine)
+    ∷ (not (eqb (getD l (lineKeyLen l) 0) 9), SheetLine)
+    ∷ (not (all plain (lineValue l)), SheetLine)
+    ∷ (spaced (lineValue l) && not (continues prev (lineKey l)), SheetLine)
+    ∷ (not (continues prev (lineKey l) || rises prev (lineKey l)), SheetOrder)
     ∷ []
 
-unfoldable pub judgedOf : List ℕ → List ℕ → Judged
-judgedOf prev l = first (lineRows prev l) (Keyword (keyLen l))
+unfoldable pub lineJudged : List ℕ → List ℕ → Judged
+lineJudged prev l = ruled (lineRows prev l) Wrong (Keyword (lineKeyLen l))
 
 -- the place of both is the line's start, the part the file
-abbrev pub onJudged : Judged → ℕ → ℕ → Step
-onJudged (Keyword w) at n = Next n w
-onJudged (Wrong r) at n = Bad (refusal r File at)
+abbrev pub onLineJudged : Judged → ℕ → ℕ → Step
+onLineJudged (Keyword w) at n = Next n w
+onLineJudged (Wrong r) at n = Bad (refusal r File at)
 
 -- "An empty or unfinished line is bad"
-unfoldable pub stepOf : List ℕ → List ℕ → ℕ → Step
-stepOf prev s at = pick (leb (length s) (lineLen s)) (Bad (refusal SheetLine File at)) (onJudged (judgedOf prev (lineOf s)) at (lineLen s))
+unfoldable pub lineStep : List ℕ → List ℕ → ℕ → Step
+lineStep prev s at = pick (leb (length s) (lineLen s)) (Bad (refusal SheetLine File at)) (onLineJudged (lineJudged prev (lineOf s)) at (lineLen s))
 
 -- ---- a whole sheet, "line by line, 25 first"
 
-abbrev pub onStep : Step → (ℕ → ℕ → Verdict) → Verdict
-onStep (Next n w) next = next n w
-onStep (Bad r) next = Refused r
+abbrev pub onLineStep : Step → (ℕ → ℕ → Verdict) → Verdict
+onLineStep (Next n w) next = next n w
+onLineStep (Bad r) next = Refused r
 
 -- the lines from s on. The number bounds how many there are; the length of s is enough, for each has a byte
 unfoldable pub checkFrom : ℕ → List ℕ → List ℕ → ℕ → Verdict
 checkFrom zero prev s at = Accepted
 checkFrom (suc m) prev s at =
-    pick (eqb (length s) 0) Accepted (onStep (stepOf prev s at) (λ n w. checkFrom m (take w s) (drop (n + 1) s) (at + n + 1)))
+    pick (eqb (length s) 0) Accepted (onLineStep (lineStep prev s at) (λ n w. checkFrom m (take w s) (drop (n + 1) s) (at + n + 1)))
 
 unfoldable pub linesVerdict : List ℕ → Verdict
 linesVerdict s = checkFrom (length s) [] s 0
@@ -108,12 +109,12 @@ pub record Line : Type 0 where
 
 -- a line, taken apart
 abbrev pub asLine : List ℕ → Line
-asLine l = record { key = keyOf l; value = valueOf l }
+asLine l = record { key = lineKey l; value = lineValue l }
 
-unfoldable pub linesFrom : ℕ → List ℕ → List Line
-linesFrom zero s = []
-linesFrom (suc m) s = pick (eqb (length s) 0) [] (asLine (lineOf s) ∷ linesFrom m (afterLine s))
+unfoldable pub sheetLinesFrom : ℕ → List ℕ → List Line
+sheetLinesFrom zero s = []
+sheetLinesFrom (suc m) s = pick (eqb (length s) 0) [] (asLine (lineOf s) ∷ sheetLinesFrom m (afterLine s))
 
 -- "a sheet without lines is an empty list"
-unfoldable pub linesOf : List ℕ → List Line
-linesOf s = linesFrom (length s) s
+unfoldable pub sheetLines : List ℕ → List Line
+sheetLines s = sheetLinesFrom (length s) s

@@ -19,7 +19,7 @@ use Rattle.text.specs.Runs.{run, all, Stops, all-append, all-weaker, run-all, r
 use Rattle.text.specs.Order.{rises}
 use Rattle.sheet.specs.declared.Step.{Step}
 use Rattle.sheet.specs.declared.Step.the-variants.{Next, Bad}
-use Rattle.sheet.specs.Lines.{Line, inLine, plain, lineLen, keyLen, spaced, continues, judgedOf, stepOf, onStep, checkFrom, linesVerdict, linesFrom, linesOf}
+use Rattle.sheet.specs.Lines.{Line, inLine, plain, lineLen, lineKeyLen, spaced, continues, lineJudged, lineStep, onLineStep, checkFrom, linesVerdict, sheetLinesFrom, sheetLines}
 use Rattle.sheet.specs.Judging.{Told, judged-good, step-good, next-told}
 use Rattle.sheet.specs.Counting.{check-step, check-none, lines-none, lines-step}
 
@@ -109,7 +109,7 @@ module _ {prev : List ℕ} {l : Line} (good : GoodLine prev l) where
   pub value-back : drop (length (l .key) + 1) (bytesOfLine l) ≡ l .value
   value-back = drop-append-add (l .key) (9 ∷ l .value) 1
 
-  good-judged : judgedOf prev (bytesOfLine l) ≡ Keyword (length (l .key))
+  good-judged : lineJudged prev (bytesOfLine l) ≡ Keyword (length (l .key))
   good-judged =
       sym
       (judged-good prev (bytesOfLine l) (length (l .key)) (sym good-key) (good .some)
@@ -118,7 +118,7 @@ module _ {prev : List ℕ} {l : Line} (good : GoodLine prev l) where
       (rw (value-back, key-back) (opens-so (spaced (l .value)) (continues prev (l .key)) (good .opens)))
       (rw key-back (follows-so (continues prev (l .key)) (rises prev (l .key)) (good .follows))))
 
-  pub good-step : (r : List ℕ) (at : ℕ) → stepOf prev (bytesOfLine l ++ (10 ∷ r)) at ≡ Next (length (bytesOfLine l)) (length (l .key))
+  pub good-step : (r : List ℕ) (at : ℕ) → lineStep prev (bytesOfLine l ++ (10 ∷ r)) at ≡ Next (length (bytesOfLine l)) (length (l .key))
   good-step r at =
       let b : List ℕ = bytesOfLine l in
       let a = length-append b (10 ∷ r) in
@@ -139,14 +139,14 @@ line-value l r = rw (take-append-seam (bytesOfLine l) (10 ∷ r)) (drop-append-a
 -- ---- good lines are accepted, and read off again
 
 good-from : (m : ℕ) (prev : List ℕ) (ls : List Line) (at : ℕ) → GoodLines prev ls → length (sheetOf ls) ≤ m
-    → (checkFrom m prev (sheetOf ls) at ≡ Accepted) × (linesFrom m (sheetOf ls) ≡ ls)
+    → (checkFrom m prev (sheetOf ls) at ≡ Accepted) × (sheetLinesFrom m (sheetOf ls) ≡ ls)
 unfolding sheetOf
 good-from m prev [] at g h = (check-none m prev [] at refl, lines-none m [] refl)
 good-from zero prev (l ∷ ls) at g h = absurd (let a = length-append (bytesOfLine l) (10 ∷ sheetOf ls) in omega arith)
 good-from (suc m) prev (l ∷ ls) at g h =
     let b : List ℕ = bytesOfLine l in
     let a : length (b ++ (10 ∷ sheetOf ls)) ≡ length b + suc (length (sheetOf ls)) = length-append b (10 ∷ sheetOf ls) in
-    let s : stepOf prev (b ++ (10 ∷ sheetOf ls)) at ≡ Next (length b) (length (l .key)) = good-step (g .0) (sheetOf ls) at in
+    let s : lineStep prev (b ++ (10 ∷ sheetOf ls)) at ≡ Next (length b) (length (l .key)) = good-step (g .0) (sheetOf ls) at in
     let i = good-from m (l .key) ls (at + length b + 1) (g .1) (omega arith) in (
       check-step m prev (b ++ (10 ∷ sheetOf ls)) at (omega arith) ∙ rw (s, line-key l (sheetOf ls), after-line b (sheetOf ls)) (i .0),
       lines-step m prev (b ++ (10 ∷ sheetOf ls)) at (length b) (length (l .key)) s
@@ -157,17 +157,17 @@ pub good-accepted : (ls : List Line) → GoodLines [] ls → linesVerdict (sheet
 unfolding linesVerdict
 good-accepted ls g = good-from (length (sheetOf ls)) [] ls 0 g (le-refl (length (sheetOf ls))) .0
 
-pub lines-read : (prev : List ℕ) (ls : List Line) → GoodLines prev ls → linesOf (sheetOf ls) ≡ ls
-unfolding linesOf
+pub lines-read : (prev : List ℕ) (ls : List Line) → GoodLines prev ls → sheetLines (sheetOf ls) ≡ ls
+unfolding sheetLines
 lines-read prev ls g = good-from (length (sheetOf ls)) prev ls 0 g (le-refl (length (sheetOf ls))) .1
 
 -- ---- what is accepted is good lines
 
 -- a line that was let through is its keyword, a tab and its value, with 0Ah behind
-next-line : (prev s : List ℕ) (at n w : ℕ) → stepOf prev s at ≡ Next n w
+next-line : (prev s : List ℕ) (at n w : ℕ) → lineStep prev s at ≡ Next n w
     → (s ≡ bytesOfLine (record { key = take w s; value = drop (w + 1) (take n s) }) ++ (10 ∷ drop (n + 1) s))
     × GoodLine prev (record { key = take w s; value = drop (w + 1) (take n s) })
-unfolding lineLen keyLen
+unfolding lineLen lineKeyLen
 next-line prev s at n w h =
     let b = next-told prev s at n w h in
     let t : Told prev (take n s) w = b .3 in
@@ -198,18 +198,18 @@ next-line prev s at n w h =
     )
 
 lined-from : (m : ℕ) (prev s : List ℕ) (at : ℕ) → length s ≤ m → checkFrom m prev s at ≡ Accepted
-    → (s ≡ sheetOf (linesFrom m s)) × GoodLines prev (linesFrom m s)
-unfolding sheetOf linesFrom
+    → (s ≡ sheetOf (sheetLinesFrom m s)) × GoodLines prev (sheetLinesFrom m s)
+unfolding sheetOf sheetLinesFrom
 lined-from zero prev [] at h e = (refl, tt)
 lined-from zero prev (b ∷ s) at h e = absurd (omega arith)
 lined-from (suc m) prev [] at h e = (refl, tt)
 lined-from (suc m) prev (b ∷ bs) at h e =
-    go (stepOf prev (b ∷ bs) at) refl (sym (check-step m prev (b ∷ bs) at (omega arith)) ∙ e) (λ q r j d k. lined-from m q r j d k)
+    go (lineStep prev (b ∷ bs) at) refl (sym (check-step m prev (b ∷ bs) at (omega arith)) ∙ e) (λ q r j d k. lined-from m q r j d k)
   where
-    go : (st : Step) → stepOf prev (b ∷ bs) at ≡ st
-        → onStep st (λ n w. checkFrom m (take w (b ∷ bs)) (drop (n + 1) (b ∷ bs)) (at + n + 1)) ≡ Accepted
-        → ((q r : List ℕ) (j : ℕ) → length r ≤ m → checkFrom m q r j ≡ Accepted → (r ≡ sheetOf (linesFrom m r)) × GoodLines q (linesFrom m r))
-        → (b ∷ bs ≡ sheetOf (linesFrom (suc m) (b ∷ bs))) × GoodLines prev (linesFrom (suc m) (b ∷ bs))
+    go : (st : Step) → lineStep prev (b ∷ bs) at ≡ st
+        → onLineStep st (λ n w. checkFrom m (take w (b ∷ bs)) (drop (n + 1) (b ∷ bs)) (at + n + 1)) ≡ Accepted
+        → ((q r : List ℕ) (j : ℕ) → length r ≤ m → checkFrom m q r j ≡ Accepted → (r ≡ sheetOf (sheetLinesFrom m r)) × GoodLines q (sheetLinesFrom m r))
+        → (b ∷ bs ≡ sheetOf (sheetLinesFrom (suc m) (b ∷ bs))) × GoodLines prev (sheetLinesFrom (suc m) (b ∷ bs))
     go (Bad r) q k again = let z : _≡_ {A = ℕ} 0 1 = cc in absurd (omega arith)
     go (Next n w) q k again =
         let d = length-drop (n + 1) (b ∷ bs) in
@@ -219,10 +219,10 @@ lined-from (suc m) prev (b ∷ bs) at h e =
         let l : Line = record { key = take w (b ∷ bs); value = drop (w + 1) (take n (b ∷ bs)) } in
         rw ls (p .0 ∙ ap (λ (r : List ℕ). bytesOfLine l ++ (10 ∷ r)) (i .0), (p .1, i .1))
 
-pub accepted-lines : (s : List ℕ) → linesVerdict s ≡ Accepted → (s ≡ sheetOf (linesOf s)) × GoodLines [] (linesOf s)
-unfolding linesVerdict linesOf
+pub accepted-lines : (s : List ℕ) → linesVerdict s ≡ Accepted → (s ≡ sheetOf (sheetLines s)) × GoodLines [] (sheetLines s)
+unfolding linesVerdict sheetLines
 accepted-lines s e = lined-from (length s) [] s 0 (le-refl (length s)) e
 
 -- one list only
-pub lines-once : (s : List ℕ) (ls ms : List Line) → s ≡ sheetOf ls → s ≡ sheetOf ms → GoodLines [] ls → GoodLines [] ms → ls ≡ ms
-lines-once s ls ms a b g h = sym (lines-read [] ls g) ∙ ap linesOf (sym a ∙ b) ∙ lines-read [] ms h
+pub sheet-lines-once : (s : List ℕ) (ls ms : List Line) → s ≡ sheetOf ls → s ≡ sheetOf ms → GoodLines [] ls → GoodLines [] ms → ls ≡ ms
+sheet-lines-once s ls ms a b g h = sym (lines-read [] ls g) ∙ ap sheetLines (sym a ∙ b) ∙ lines-read [] ms h

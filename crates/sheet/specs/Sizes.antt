@@ -15,14 +15,14 @@ use Rattle.refusal.specs.Rows.{pick}
 use Rattle.text.specs.Chars.{note}
 use Rattle.text.specs.Runs.{same, same-eq}
 use Rattle.text.specs.Note.{withEnds}
-use Rattle.strings.specs.Spelled.{Str, textOf, sizeOf, written}
+use Rattle.strings.specs.Spelled.{Str, textOf, sizeOf, texts, written}
 use Rattle.sheet.specs.Lines.{Line}
-use Rattle.sheet.specs.Area.{strOf, values, noteOf, joined, stringsOf, textSize, padding, areaOf, areaSize}
+use Rattle.sheet.specs.Area.{strOf, values, noteOf, joined, sheetStrings, textSize, padding, areaOf, areaSize}
 
 -- ---- the area's length
 
 pub length-written : (high : Bool) (t : List ℕ) (ss : List Str) (rest : List ℕ) → length (written high t ss rest) ≡ textSize t ss + length rest
-unfolding written textSize
+unfolding texts textSize
 length-written high t [] rest = simp (length-append, length-bytesOf)
 length-written high t (s ∷ ss) rest =
     let i = length-written high t ss rest in
@@ -35,8 +35,8 @@ length-written high t (s ∷ ss) rest =
 pub length-area : (high : Bool) (t u s : List ℕ) → length (areaOf high t u s) ≡ areaSize t u s
 unfolding areaOf areaSize
 length-area high t u s =
-    let n : ℕ = textSize t (stringsOf u s) in
-    let a = length-written high t (stringsOf u s) (padding n) in
+    let n : ℕ = textSize t (sheetStrings u s) in
+    let a = length-written high t (sheetStrings u s) (padding n) in
     let b = length-replicate {A = ℕ} (round4 n - n) 0 in
     omega arith
 

@@ -6,11 +6,12 @@ use refusal::Part;
 use refusal::Refusal;
 use refusal::Rule;
 use strings::Judged;
+use text::Manner;
 ghost use mathlib.Core.Path.{_≡_};
 ghost use Prim.Native.Nat.{_+_, _≤_};
 ghost use lib.ListN.{length};
 ghost use Rattle.text.specs.Runs.{all};
-ghost use Rattle.sheet.specs.Lines.{plain, lineLen, spaced, continues, judgedOf, stepOf};
+ghost use Rattle.sheet.specs.Lines.{plain, lineLen, spaced, continues, lineJudged, lineStep};
 ghost use Rattle.sheet.specs.Area.{measuredOf};
 ghost use Rattle.sheet.specs.Sizes.{lineCost, capped};
 
@@ -80,9 +81,9 @@ fn is_continued(prev: &[u8], k: &[u8]) -> bool
 
 // Rows 25 and 26 of a line without its end; prev is the keyword before.
 fn judge(l: &[u8], prev: &[u8]) -> Judged
-    ensures { λ r. ⌜ r ≡ judgedOf (now (prev .entry)) (now (l .entry)) ⌝ }
+    ensures { λ r. ⌜ r ≡ lineJudged (now (prev .entry)) (now (l .entry)) ⌝ }
 {
-    let n = text::key_run(l);
+    let n = text::key_run(l, Manner::Strict);
     if n == 0 {
         return Judged::Wrong(Rule::SheetLine);
     }
@@ -110,7 +111,7 @@ fn judge(l: &[u8], prev: &[u8]) -> Judged
 
 // Rows 25 and 26 of the line that s starts with, at place `at` of the sheet.
 fn step_at(s: &[u8], prev: &[u8], at: usize) -> Step
-    ensures { λ r. ⌜ r ≡ stepOf (now (prev .entry)) (now (s .entry)) at ⌝ }
+    ensures { λ r. ⌜ r ≡ lineStep (now (prev .entry)) (now (s .entry)) at ⌝ }
 {
     let n = line_len(s);
     if s.len() <= n {

@@ -1,5 +1,5 @@
 -- The two views agree: an area is accepted exactly where it spells a list of strings, that list is the only one, and the questions answer from it.
--- That the walk over a NOTE's lines and the words of `Good` say the same needs a line terminator that starts with no value character (`LineEnd`),
+-- That the walk over a NOTE's lines and the words of `GoodString` say the same needs a line terminator that starts with no value character (`LineEnd`),
 -- which row 6 gives every file.
 -- Assumes nothing.
 use mathlib.Core.Path.{_≡_, refl, sym, ap, ap₂, _∙_}
@@ -9,19 +9,23 @@ use mathlib.Core.Logic.{_⊎_, inl, inr, ⊎-elim}
 use Prim.Native.Nat.{ℕ, zero, suc, _+_, _-_, _≤_, _<_}
 use native.Mathlib.Nat.{le-of-eq, le-refl}
 use native.Mathlib.Omega.{arith}
-use lib.ListN.{length, take, drop, length-append, take-append-drop}
+use lib.ListN.{length, take, drop, length-append, take-append-drop, length-drop}
 use lib.Seq.{length-take-le, take-append-seam, drop-append-seam, take-take}
 use lib.Dec.{ltb, eqb}
 use borrow.Author.Tests.{ne-eqb, ltb-false, eqb-true, eqb-false, not-false}
-use Rattle.word.specs.Tests.{both}
+use Rattle.word.specs.Tests.{both, never}
 use Rattle.word.specs.Part.{part, length-part, part-rest, part-split, part-part, part-drop, part-among}
 use Rattle.word.specs.Bytes.{Bytes, bytes-take, bytes-drop}
 use Rattle.word.specs.Word.{wordAt, bytesOf}
 use Rattle.word.specs.WordLaws.{length-bytesOf, word-among, word-small, bytesOf-value}
-use Rattle.refusal.specs.Rows.{pick, first, Rows, clear, through}
+use Rattle.refusal.specs.Rows.{pick, Rows, ruled-clear, ruled-through}
 use Rattle.refusal.specs.declared.Part.{Part}
+use Rattle.refusal.specs.Verdicts.{refused-not}
+use Rattle.refusal.specs.Table.{refusal}
+use Rattle.refusal.specs.declared.Rule.{Rule}
 use Rattle.refusal.specs.declared.Rule.the-variants.{StringOffset}
-use Rattle.refusal.specs.declared.Verdict.the-variants.{Accepted}
+use Rattle.refusal.specs.declared.Verdict.{Verdict}
+use Rattle.refusal.specs.declared.Verdict.the-variants.{Accepted, Refused}
 use Rattle.strings.specs.declared.Frame.{Frame}
 use Rattle.strings.specs.declared.Frame.the-variants.{End, Text, Broken}
 use Rattle.strings.specs.declared.Judged.{Judged}
@@ -31,14 +35,17 @@ use Rattle.strings.specs.declared.Step.the-variants.{Next, Done, Bad}
 use Rattle.strings.specs.declared.Place.{Place}
 use Rattle.strings.specs.declared.Found.{Found}
 use Rattle.strings.specs.declared.Found.the-variants.{Nothing, Is}
-use Rattle.text.specs.Chars.{blank, solid, keyChar, key-solid, solid-not-blank}
+use Rattle.text.specs.declared.Manner.{Manner}
+use Rattle.text.specs.declared.Manner.the-variants.{Strict}
+use Rattle.text.specs.Chars.{blank, solid, solid-not-blank}
 use Rattle.text.specs.Runs.{run, all, same, same-eq, same-refl, Stops, all-weaker, run-all, run-stops, run-append}
 use Rattle.text.specs.Order.{rises, rises-strict, rises-transitive}
+use Rattle.text.specs.Manner.{openEnd, letter, letter-solid, named, follows}
 use Rattle.text.specs.Note.{LineEnd, value-accept, value-spelled}
-use Rattle.strings.specs.Strings.{offset, body, keyLen, keyOf, afterKey, gapLen, gapOf, valueOf, frameRows, frameOf, textRows, judgedOf, onFrame, onJudged, stepOf, onStep, stringsFrom, stringsOf, placeOf, onText, placesFrom, placesOf, keyIn, valueIn, nthOf, findOf, keyFound, valueFound}
-use Rattle.strings.specs.Frames.{frame-end, Framed, framed}
-use Rattle.strings.specs.Walks.{InFrame, in-frame, next-fits, judged-clear, keyLen-le, length-body}
-use Rattle.strings.specs.Spelled.{Str, Good, Rising, textOf, sizeOf, written, Spells, Spells.empty, Spells.full, nthStr, valueOfKey, hasKey, strIn, strsIn}
+use Rattle.strings.specs.Strings.{offset, body, keyLen, keyOf, afterKey, gapLen, gapOf, valueOf, cut, frameRows, endOrText, frameOf, textRows, judgedOf, onFrame, onJudged, stepOf, onStep, stringsFrom, stringsOf, placeOf, onText, placesFrom, placesOf, keyIn, valueIn, nthOf, findOf, keyFound, valueFound}
+use Rattle.strings.specs.Frames.{cut-two, no-offset, frame-end, Framed, framed}
+use Rattle.strings.specs.Walks.{InFrame, in-frame, next-fits, next-bounds, judged-clear, keyLen-le, length-body}
+use Rattle.strings.specs.Spelled.{Str, GoodString, Rising, textOf, sizeOf, texts, written, Ends, Ends.mark, Ends.none, Spells, Spells.empty, Spells.full, nthStr, valueOfKey, hasKey, strIn, strsIn}
 
 -- ---- the text of a good string is taken apart into it
 
@@ -47,11 +54,11 @@ unfolding all
 opens [] v h a = rw (a refl) tt
 opens (b ∷ bs) v h a = ap not (both (blank b) (all blank bs) h .0)
 
-module _ {t u : List ℕ} {s : Str} (good : Good t u s) where
+module _ {how : Manner} {t u : List ℕ} {s : Str} (good : GoodString how t u s) where
   text-key : keyLen (textOf s) ≡ length (s .key)
   unfolding keyLen
   text-key =
-      run-append solid (s .key) (s .gap ++ s .value) (all-weaker keyChar solid key-solid (s .key) (good .keys))
+      run-append solid (s .key) (s .gap ++ s .value) (all-weaker (letter how) solid (letter-solid how) (s .key) (good .keys))
       (opens (s .gap) (s .value) (good .blanks) (good .apart))
 
   text-gap : gapLen (s .gap ++ s .value) ≡ length (s .gap)
@@ -70,73 +77,77 @@ module _ {t u : List ℕ} {s : Str} (good : Good t u s) where
   text-some : 0 < length (textOf s)
   text-some = let k = length-append (s .key) (s .gap ++ s .value) in omega (arith, good .some)
 
-  judged : (prev : List ℕ) → LineEnd u → rises prev (s .key) ≡ true → judgedOf u prev (textOf s) ≡ Keyword (length (s .key))
+  judged : (prev : List ℕ) → LineEnd u → follows how prev (s .key) ≡ true → judgedOf how u prev (textOf s) ≡ Keyword (length (s .key))
   unfolding judgedOf
   judged prev ends rise =
-      through (textRows u prev (textOf s)) (Keyword (keyLen (textOf s))) (
+      ruled-through (textRows how u prev (textOf s)) Wrong (Keyword (keyLen (textOf s))) (
         rw text-key (ne-eqb (length (s .key)) 0 (omega (arith, good .some))),
-        (rw (key-of, good .keys), (rw (key-of, value-of, value-accept u (s .key) (s .value) ends (good .values) (good .lines)), (rw (key-of, rise), tt))),
+        (rw (key-of, good .keys), (rw (key-of, value-of, value-accept u (named how (s .key)) (s .value) ends (good .values) (good .lines)), (rw (key-of, rise), tt))),
       )
       ∙ ap Keyword text-key
 
-  frame-of : (high : Bool) (r : List ℕ) → Framed high t (textOf s) r (sizeOf t s) (bytesOf 2 high (sizeOf t s) ++ (textOf s ++ (t ++ r)))
-  frame-of high r = framed high t (textOf s) r (sizeOf t s) refl (good .small) text-some
+  frame-of : (high : Bool) (r : List ℕ) → Framed how high t (textOf s) r (sizeOf t s) (bytesOf 2 high (sizeOf t s) ++ (textOf s ++ (t ++ r)))
+  frame-of high r = framed how high t (textOf s) r (sizeOf t s) refl (good .small) text-some
 
-  steps : (high : Bool) (r prev : List ℕ) (p : Part) (at : ℕ) → LineEnd u → rises prev (s .key) ≡ true
-      → stepOf high t u p prev (bytesOf 2 high (sizeOf t s) ++ (textOf s ++ (t ++ r))) at ≡ Next (sizeOf t s) (length (s .key))
+  steps : (high : Bool) (r prev : List ℕ) (p : Part) (at : ℕ) → LineEnd u → follows how prev (s .key) ≡ true
+      → stepOf how high t u p prev (bytesOf 2 high (sizeOf t s) ++ (textOf s ++ (t ++ r))) at ≡ Next (sizeOf t s) (length (s .key))
   unfolding stepOf onFrame
   steps high r prev p at ends rise = let f = frame-of high r in rw (f .text, f .mid, judged prev ends rise)
 
--- ---- the end mark
+-- ---- the end
 
-end-frame : (high : Bool) (t rest : List ℕ) → frameOf high t (bytesOf 2 high 0 ++ rest) ≡ End
-end-frame high t rest =
+end-frame : (how : Manner) (high : Bool) (t end : List ℕ) → Ends how high end → frameOf how high t end ≡ End
+unfolding frameOf
+end-frame how high t end (mark rest) =
     let two : length (bytesOf 2 high 0) ≡ 2 = length-bytesOf 2 high 0 in
     let w : 0 ≡ wordAt 2 high (bytesOf 2 high 0 ++ rest) 0 = sym (word-among 2 high 0 [] rest 0 refl (omega arith)) in
-    sym (frame-end high t (bytesOf 2 high 0 ++ rest) 0 w (simp (length-append, two) (omega arith)) refl)
+    let long : 2 ≤ length (bytesOf 2 high 0 ++ rest) = simp (length-append, two) (omega arith) in
+    sym (frame-end how high t (bytesOf 2 high 0 ++ rest) 0 w (cut-two how (bytesOf 2 high 0 ++ rest) long) refl)
+end-frame how high t end (none e) = rw (no-offset high [] refl, e)
 
 -- ---- what is spelled is accepted
 
-step-next : (m : ℕ) (high : Bool) (t u : List ℕ) (p : Part) (prev l : List ℕ) (at o n : ℕ) → stepOf high t u p prev l at ≡ Next o n
-    → stringsFrom (suc m) high t u p prev l at ≡ stringsFrom m high t u p (take n (drop 2 l)) (drop o l) (at + o)
+step-next : (how : Manner) (m : ℕ) (high : Bool) (t u : List ℕ) (p : Part) (prev l : List ℕ) (at o n : ℕ) → stepOf how high t u p prev l at ≡ Next o n
+    → stringsFrom how (suc m) high t u p prev l at ≡ stringsFrom how m high t u p (take n (drop 2 l)) (drop o l) (at + o)
 unfolding stringsFrom
-step-next m high t u p prev l at o n h = rw h
+step-next how m high t u p prev l at o n h = rw h
 
-step-done : (m : ℕ) (high : Bool) (t u : List ℕ) (p : Part) (prev l : List ℕ) (at : ℕ) → frameOf high t l ≡ End
-    → stringsFrom (suc m) high t u p prev l at ≡ Accepted
+step-done : (how : Manner) (m : ℕ) (high : Bool) (t u : List ℕ) (p : Part) (prev l : List ℕ) (at : ℕ) → frameOf how high t l ≡ End
+    → stringsFrom how (suc m) high t u p prev l at ≡ Accepted
 unfolding stringsFrom stepOf onFrame
-step-done m high t u p prev l at h = rw h
+step-done how m high t u p prev l at h = rw h
 
-accepts : (high : Bool) (t u : List ℕ) (p : Part) (ss : List Str) (rest prev : List ℕ) (m at : ℕ) → LineEnd u → Rising t u prev ss
-    → length (written high t ss rest) ≤ m → stringsFrom m high t u p prev (written high t ss rest) at ≡ Accepted
-unfolding written
-accepts high t u p [] rest prev zero at ends g h = absurd (let k = length-append (bytesOf 2 high 0) rest in let n = length-bytesOf 2 high 0 in omega arith)
-accepts high t u p [] rest prev (suc m) at ends g h = step-done m high t u p prev (bytesOf 2 high 0 ++ rest) at (end-frame high t rest)
-accepts high t u p (s ∷ ss) rest prev zero at ends g h = absurd (let k = frame-of (g .0) high (written high t ss rest) .fit in omega arith)
-accepts high t u p (s ∷ ss) rest prev (suc m) at ends g h =
-    let r : List ℕ = written high t ss rest in
+end-over : (how : Manner) (high : Bool) (end : List ℕ) (p : Part) (at : ℕ) → Ends how high end → length end ≤ 0
+    → pick (openEnd how) Accepted (Refused (refusal StringOffset p at)) ≡ Accepted
+end-over how high end p at (mark rest) h = absurd (let k = length-append (bytesOf 2 high 0) rest in let n = length-bytesOf 2 high 0 in omega arith)
+end-over how high end p at (none e) h = rw e
+
+accepts : (how : Manner) (high : Bool) (t u : List ℕ) (p : Part) (ss : List Str) (end prev : List ℕ) (m at : ℕ) → LineEnd u → Ends how high end
+    → Rising how t u prev ss → length (texts high t ss end) ≤ m → stringsFrom how m high t u p prev (texts high t ss end) at ≡ Accepted
+unfolding texts stringsFrom
+accepts how high t u p [] end prev zero at ends x g h = end-over how high end p at x h
+accepts how high t u p [] end prev (suc m) at ends x g h = step-done how m high t u p prev end at (end-frame how high t end x)
+accepts how high t u p (s ∷ ss) end prev zero at ends x g h = absurd (let k = frame-of (g .0) high (texts high t ss end) .fit in omega arith)
+accepts how high t u p (s ∷ ss) end prev (suc m) at ends x g h =
+    let r : List ℕ = texts high t ss end in
     let f = frame-of (g .0) high r in
     let l : List ℕ = bytesOf 2 high (sizeOf t s) ++ (textOf s ++ (t ++ r)) in
     let key : take (length (s .key)) (drop 2 l) ≡ s .key =
     rw (f .tail, append-assoc (s .key) (s .gap ++ s .value) (t ++ r)) (take-append-seam (s .key) ((s .gap ++ s .value) ++ (t ++ r))) in
-    step-next m high t u p prev l at (sizeOf t s) (length (s .key)) (steps (g .0) high r prev p at ends (g .1))
-    ∙ rw (f .next, key) (accepts high t u p ss rest (s .key) m (at + sizeOf t s) ends (g .2) (omega (arith, f .fit)))
+    step-next how m high t u p prev l at (sizeOf t s) (length (s .key)) (steps (g .0) high r prev p at ends (g .1))
+    ∙ rw (f .next, key) (accepts how high t u p ss end (s .key) m (at + sizeOf t s) ends x (g .2) (omega (arith, f .fit)))
 
-written-some : (high : Bool) (t : List ℕ) (ss : List Str) (rest : List ℕ) → 0 < length (written high t ss rest)
-unfolding written
-written-some high t [] rest = let k = length-append (bytesOf 2 high 0) rest in let n = length-bytesOf 2 high 0 in omega arith
-written-some high t (s ∷ ss) rest =
-    let k = length-append (bytesOf 2 high (sizeOf t s)) (textOf s ++ (t ++ written high t ss rest)) in
-    let n = length-bytesOf 2 high (sizeOf t s) in
-    omega arith
-
-pub spelled-accepted : {high : Bool} {t u l : List ℕ} {ss : List Str} (p : Part) (at : ℕ) → LineEnd u → Spells high t u ss l
-    → stringsOf high t u p l at ≡ Accepted
+pub spelled-accepted : (how : Manner) {high : Bool} {t u l : List ℕ} {ss : List Str} (p : Part) (at : ℕ) → LineEnd u → Spells how high t u ss l
+    → stringsOf how high t u p l at ≡ Accepted
 unfolding stringsOf
-spelled-accepted p at ends empty = refl
-spelled-accepted {high} {t} {u} p at ends (full {ss} rest g) =
-    rw (ne-eqb (length (written high t ss rest)) 0 (omega (arith, written-some high t ss rest)))
-    (accepts high t u p ss rest [] (length (written high t ss rest)) at ends g (le-refl (length (written high t ss rest))))
+spelled-accepted how p at ends empty = refl
+spelled-accepted how {high} {t} {u} p at ends (full {ss} {end} x g) =
+    go (eqb (length (texts high t ss end)) 0)
+    (accepts how high t u p ss end [] (length (texts high t ss end)) at ends x g (le-refl (length (texts high t ss end))))
+  where
+    go : (w : Bool) {v : Verdict} → v ≡ Accepted → pick w Accepted v ≡ Accepted
+    go true h = refl
+    go false h = h
 
 -- ---- what is accepted is spelled
 
@@ -160,35 +171,42 @@ unframed high t l o by i =
     (part-split (o - length t) o (length l) l (omega arith) (i .fit) ∙ ap₂ (λ (x y : List ℕ). x ++ y) (i .ends) (part-rest o l)) in
     sym (take-append-drop 2 l) ∙ ap₂ (λ (x y : List ℕ). x ++ y) (sym (ap (λ (n : ℕ). bytesOf n high o) (sym two) ∙ v)) s
 
--- an end mark's bytes
-marked : (b w : Bool) (x : Frame) → (x ≡ End → ⊥) → pick b (Broken StringOffset) (pick w End x) ≡ End → (b ≡ false) × (w ≡ true)
-marked true w x never e = let z : _≡_ {A = ℕ} 0 1 = cc in absurd (omega arith)
-marked false true x never e = (refl, refl)
-marked false false x never e = absurd (never e)
+-- what stands at the end of a list
+broken-end : (r : Rule) → Broken r ≡ End → ⊥
+broken-end r e = let z : _≡_ {A = ℕ} 0 1 = cc in omega arith
 
-abbrev isEnd : Frame → Bool
-isEnd End = true
-isEnd (Text o) = false
-isEnd (Broken r) = false
+no-more : (high : Bool) (l : List ℕ) → endOrText high l ≡ End → offset high l ≡ 0
+no-more high l e = go (eqb (offset high l) 0) refl e
+  where
+    go : (w : Bool) → eqb (offset high l) 0 ≡ w → pick w End (Text (offset high l)) ≡ End → offset high l ≡ 0
+    go true q h = eqb-true _ _ q
+    go false q h = let z : _≡_ {A = ℕ} 0 1 = cc in absurd (omega arith)
 
-pub end-told : (high : Bool) (t l : List ℕ) → frameOf high t l ≡ End → (2 ≤ length l) × (offset high l ≡ 0)
+pub end-told : (how : Manner) (high : Bool) (t l : List ℕ) → frameOf how high t l ≡ End → (cut how l ≡ false) × (offset high l ≡ 0)
 unfolding frameOf
-end-told high t l e =
-    let last : Frame = Text (offset high l) in
-    let rs : Rows Frame = drop 2 (frameRows high t l) in
-    let never : first rs last ≡ End → ⊥ =
-    λ (k : first rs last ≡ End). let j = clear isEnd End refl rs last refl k .1 in let z : _≡_ {A = ℕ} 0 1 = cc in omega arith in
-    let h = marked (ltb (length l) 2) (eqb (offset high l) 0) (first rs last) never e in
-    (ltb-false _ _ (h .0), eqb-true _ _ (h .1))
+end-told how high t l e =
+    let c = ruled-clear Broken End broken-end (frameRows how high t l) (endOrText high l) e in
+    (c .0 .0, no-more high l (c .1))
 
-ended : (high : Bool) (t l : List ℕ) → Bytes l → frameOf high t l ≡ End → l ≡ bytesOf 2 high 0 ++ drop 2 l
+marked : (how : Manner) (high : Bool) (l : List ℕ) → Bytes l → offset high l ≡ 0 → 2 ≤ length l → Ends how high l
 unfolding offset wordAt
-ended high t l by e =
-    let h = end-told high t l e in
-    let two : length (take 2 l) ≡ 2 = length-take-le 2 l (h .0) in
+marked how high l by z long =
+    let two : length (take 2 l) ≡ 2 = length-take-le 2 l long in
     let v : bytesOf (length (take 2 l)) high 0 ≡ take 2 l =
-    ap (λ (n : ℕ). bytesOf (length (take 2 l)) high n) (sym (h .1)) ∙ bytesOf-value high (take 2 l) (bytes-take 2 l by) in
-    sym (take-append-drop 2 l) ∙ ap (λ (x : List ℕ). x ++ drop 2 l) (sym (ap (λ (n : ℕ). bytesOf n high 0) (sym two) ∙ v))
+    ap (λ (n : ℕ). bytesOf (length (take 2 l)) high n) (sym z) ∙ bytesOf-value high (take 2 l) (bytes-take 2 l by) in
+    let e : l ≡ bytesOf 2 high 0 ++ drop 2 l =
+    sym (take-append-drop 2 l) ∙ ap (λ (x : List ℕ). x ++ drop 2 l) (sym (ap (λ (n : ℕ). bytesOf n high 0) (sym two) ∙ v)) in
+    rw e (mark (drop 2 l))
+
+ended : (how : Manner) (high : Bool) (t l : List ℕ) → Bytes l → frameOf how high t l ≡ End → Ends how high l
+ended how high t l by e =
+    let h = end-told how high t l e in
+    go (openEnd how) refl l refl (h .0) (h .1)
+  where
+    go : (w : Bool) → openEnd how ≡ w → (x : List ℕ) → l ≡ x → pick w (eqb (length l) 1) (ltb (length l) 2) ≡ false → offset high l ≡ 0 → Ends how high l
+    go true q [] s c z = rw s (none q)
+    go true q (y ∷ ys) s c z = let n = eqb-false (length l) 1 c in marked how high l by z (let k = ap length s in omega arith)
+    go false q x s c z = marked how high l by z (ltb-false _ _ c)
 
 -- what follows the keyword begins with a separator, so a value without separators before it is empty
 apart-of : (r : List ℕ) → Stops solid r → take (gapLen r) r ≡ [] → drop (gapLen r) r ≡ []
@@ -200,14 +218,14 @@ apart-of (b ∷ bs) o e =
     let y : _≡_ {A = ℕ} 0 1 = cc in
     absurd (omega arith)
 
-good-of : (t u prev b : List ℕ) (n : ℕ) → LineEnd u → 2 + length b + length t < 65536 → judgedOf u prev b ≡ Keyword n
-    → Good t u (strOf b) × (rises prev (keyOf b) ≡ true)
+good-of : (how : Manner) (t u prev b : List ℕ) (n : ℕ) → LineEnd u → 2 + length b + length t < 65536 → judgedOf how u prev b ≡ Keyword n
+    → GoodString how t u (strOf b) × (follows how prev (keyOf b) ≡ true)
 unfolding keyLen gapLen
-good-of t u prev b n ends small e =
-    let c = judged-clear u prev b n e .0 in
+good-of how t u prev b n ends small e =
+    let c = judged-clear how u prev b n e .0 in
     let some = eqb-false (keyLen b) 0 (c .0) in
     let k : length (keyOf b) ≡ keyLen b = length-take-le (keyLen b) b (keyLen-le b) in
-    let v = value-spelled u (keyOf b) (valueOf b) ends (not-false _ (c .1 .1 .0)) in (
+    let v = value-spelled u (named how (keyOf b)) (valueOf b) ends (not-false _ (c .1 .1 .0)) in (
       record {
         some = omega arith;
         keys = not-false _ (c .1 .0);
@@ -225,78 +243,96 @@ word-offset : (high : Bool) (l : List ℕ) → wordAt 2 high l 0 ≡ offset high
 unfolding offset
 word-offset high l = refl
 
--- a step to the end stands at an end mark
-done-written : (high : Bool) (t u : List ℕ) (p : Part) (prev l : List ℕ) (at : ℕ) → Bytes l → stepOf high t u p prev l at ≡ Done
-    → l ≡ written high t [] (drop 2 l)
-unfolding stepOf onFrame written
-done-written high t u p prev l at by e = go (frameOf high t l) refl e
+-- a step to the end stands at the end
+done-ends : (how : Manner) (high : Bool) (t u : List ℕ) (p : Part) (prev l : List ℕ) (at : ℕ) → Bytes l → stepOf how high t u p prev l at ≡ Done
+    → Ends how high l
+unfolding stepOf onFrame
+done-ends how high t u p prev l at by e = go (frameOf how high t l) refl e
   where
-    stop : (o : ℕ) → onJudged (judgedOf u prev (body t o l)) p at o ≡ Done → ⊥
-    stop o h = never (judgedOf u prev (body t o l)) h
+    stop : (o : ℕ) → onJudged (judgedOf how u prev (body t o l)) p at o ≡ Done → ⊥
+    stop o h = never (judgedOf how u prev (body t o l)) h
       where
         never : (j : Judged) → onJudged j p at o ≡ Done → ⊥
         never (Keyword n) k = let z : _≡_ {A = ℕ} 0 1 = cc in omega arith
         never (Wrong r) k = let z : _≡_ {A = ℕ} 0 1 = cc in omega arith
 
-    go : (w : Frame) → frameOf high t l ≡ w → onFrame w t u prev l p at ≡ Done → l ≡ bytesOf 2 high 0 ++ drop 2 l
-    go End f h = ended high t l by f
+    go : (w : Frame) → frameOf how high t l ≡ w → onFrame how w t u prev l p at ≡ Done → Ends how high l
+    go End f h = ended how high t l by f
     go (Broken r) f h = let z : _≡_ {A = ℕ} 0 1 = cc in absurd (omega arith)
     go (Text o) f h = absurd (stop o h)
 
-abbrev Listed : Bool → List ℕ → List ℕ → List ℕ → List ℕ → Type 0
-Listed high t u prev l = (ss : List Str) × (rest : List ℕ) × Rising t u prev ss × (l ≡ written high t ss rest)
+abbrev Listed : Manner → Bool → List ℕ → List ℕ → List ℕ → List ℕ → Type 0
+Listed how high t u prev l = (ss : List Str) × (end : List ℕ) × Ends how high end × Rising how t u prev ss × (l ≡ texts high t ss end)
 
-extend : (high : Bool) (t u : List ℕ) (p : Part) (prev l : List ℕ) (at o n : ℕ) → LineEnd u → Bytes l → stepOf high t u p prev l at ≡ Next o n
-    → Listed high t u (take n (drop 2 l)) (drop o l) → Listed high t u prev l
-unfolding written body
-extend high t u p prev l at o n ends by e i =
-    let b = next-fits high t u p prev l at o n e in
-    let f = in-frame high t l o (b .0) in
+extend : (how : Manner) (high : Bool) (t u : List ℕ) (p : Part) (prev l : List ℕ) (at o n : ℕ) → LineEnd u → Bytes l
+    → stepOf how high t u p prev l at ≡ Next o n → Listed how high t u (take n (drop 2 l)) (drop o l) → Listed how high t u prev l
+unfolding texts body
+extend how high t u p prev l at o n ends by e i =
+    let b = next-fits how high t u p prev l at o n e in
+    let f = in-frame how high t l o (b .0) in
     let x : List ℕ = body t o l in
-    let k : keyLen x ≡ n = judged-clear u prev x n (b .1) .1 in
+    let k : keyLen x ≡ n = judged-clear how u prev x n (b .1) .1 in
     let long : length x ≡ o - length t - 2 = length-body t o l (f .low) (f .fit) in
     let most : wordAt 2 high l 0 < 65536 = word-small 2 high l 0 by in
     let told : wordAt 2 high l 0 ≡ o = word-offset high l ∙ f .told in
     let size : 2 + length x + length t ≡ o = omega (arith, f .low) in
-    let g = good-of t u prev x n ends (omega arith) (b .1) in
+    let g = good-of how t u prev x n ends (omega arith) (b .1) in
     let key : take n (drop 2 l) ≡ keyOf x = rw k (sym (take-take n (o - length t - 2) (drop 2 l) (omega (arith, keyLen-le x)))) in (
       strOf x ∷ i .0,
       i .1,
-      (g .0, g .1, rw key at (i .2)),
+      i .2,
+      (g .0, g .1, rw key at (i .3)),
       unframed high t l o by f
-          ∙ rw (text-back x, ← i .3) (ap (λ (j : ℕ). bytesOf 2 high j ++ (x ++ (t ++ drop o l))) (sym size)),
+          ∙ rw (text-back x, ← i .4) (ap (λ (j : ℕ). bytesOf 2 high j ++ (x ++ (t ++ drop o l))) (sym size)),
     )
 
-spells : (high : Bool) (t u : List ℕ) (p : Part) (m : ℕ) (l prev : List ℕ) (at : ℕ) → LineEnd u → Bytes l
-    → stringsFrom m high t u p prev l at ≡ Accepted → Listed high t u prev l
-unfolding stringsFrom
-spells high t u p zero l prev at ends by e = let z : _≡_ {A = ℕ} 0 1 = cc in absurd (omega arith)
-spells high t u p (suc m) l prev at ends by e = go (stepOf high t u p prev l at) refl e (λ r q j d k. spells high t u p m r q j ends d k)
+nothing-left : (l : List ℕ) → length l ≤ 0 → l ≡ []
+nothing-left [] h = refl
+nothing-left (x ∷ l) h = absurd (omega arith)
+
+-- where no byte is left and the walk accepts, the list may end there
+over-ends : (how : Manner) (high : Bool) (p : Part) (l : List ℕ) (at : ℕ) → length l ≤ 0
+    → pick (openEnd how) Accepted (Refused (refusal StringOffset p at)) ≡ Accepted → Ends how high l
+over-ends how high p l at h e = go (openEnd how) refl e
   where
-    go : (s : Step) → stepOf high t u p prev l at ≡ s
-        → onStep s (λ o n. stringsFrom m high t u p (take n (drop 2 l)) (drop o l) (at + o)) ≡ Accepted
-        → ((r q : List ℕ) (j : ℕ) → Bytes r → stringsFrom m high t u p q r j ≡ Accepted → Listed high t u q r)
-        → Listed high t u prev l
+    go : (w : Bool) → openEnd how ≡ w → pick w Accepted (Refused (refusal StringOffset p at)) ≡ Accepted → Ends how high l
+    go true q k = rw (nothing-left l h) (none q)
+    go false q k = absurd (refused-not _ k)
+
+spells : (how : Manner) (high : Bool) (t u : List ℕ) (p : Part) (m : ℕ) (l prev : List ℕ) (at : ℕ) → LineEnd u → Bytes l → length l ≤ m
+    → stringsFrom how m high t u p prev l at ≡ Accepted → Listed how high t u prev l
+unfolding stringsFrom texts
+spells how high t u p zero l prev at ends by h e = ([], l, over-ends how high p l at h e, tt, refl)
+spells how high t u p (suc m) l prev at ends by h e =
+    go (stepOf how high t u p prev l at) refl e (λ r q j d s k. spells how high t u p m r q j ends d s k)
+  where
+    go : (s : Step) → stepOf how high t u p prev l at ≡ s
+        → onStep s (λ o n. stringsFrom how m high t u p (take n (drop 2 l)) (drop o l) (at + o)) ≡ Accepted
+        → ((r q : List ℕ) (j : ℕ) → Bytes r → length r ≤ m → stringsFrom how m high t u p q r j ≡ Accepted → Listed how high t u q r)
+        → Listed how high t u prev l
     go (Next o n) q k again =
-        extend high t u p prev l at o n ends by q (again (drop o l) (take n (drop 2 l)) (at + o) (bytes-drop o l by) k)
-    go Done q k again = ([], drop 2 l, tt, done-written high t u p prev l at by q)
+        let b = next-bounds how high t u p prev l at o n q in
+        let d = length-drop o l in
+        extend how high t u p prev l at o n ends by q (again (drop o l) (take n (drop 2 l)) (at + o) (bytes-drop o l by) (omega (arith, b .0)) k)
+    go Done q k again = ([], l, done-ends how high t u p prev l at by q, tt, refl)
     go (Bad r) q k again = let z : _≡_ {A = ℕ} 0 1 = cc in absurd (omega arith)
 
-as-spelled : (high : Bool) (t u l : List ℕ) (ss : List Str) (rest : List ℕ) → Rising t u [] ss → l ≡ written high t ss rest → Spells high t u ss l
-as-spelled high t u l ss rest g w = rw w (full rest g)
+as-spelled : (how : Manner) (high : Bool) (t u l : List ℕ) (ss : List Str) (end : List ℕ) → Ends how high end → Rising how t u [] ss
+    → l ≡ texts high t ss end → Spells how high t u ss l
+as-spelled how high t u l ss end x g w = rw w (full x g)
 
-pub accepted-spelled : (high : Bool) (t u : List ℕ) (p : Part) (l : List ℕ) (at : ℕ) → LineEnd u → Bytes l → stringsOf high t u p l at ≡ Accepted
-    → (ss : List Str) × Spells high t u ss l
+pub accepted-spelled : (how : Manner) (high : Bool) (t u : List ℕ) (p : Part) (l : List ℕ) (at : ℕ) → LineEnd u → Bytes l
+    → stringsOf how high t u p l at ≡ Accepted → (ss : List Str) × Spells how high t u ss l
 unfolding stringsOf
-accepted-spelled high t u p [] at ends by e = ([], empty)
-accepted-spelled high t u p (x ∷ l) at ends by e =
-    let k : stringsFrom (length (x ∷ l)) high t u p [] (x ∷ l) at ≡ Accepted = rw (ne-eqb (suc (length l)) 0 (omega arith)) at e in
-    let s = spells high t u p (length (x ∷ l)) (x ∷ l) [] at ends by k in
-    (s .0, as-spelled high t u (x ∷ l) (s .0) (s .1) (s .2) (s .3))
+accepted-spelled how high t u p [] at ends by e = ([], empty)
+accepted-spelled how high t u p (x ∷ l) at ends by e =
+    let k : stringsFrom how (length (x ∷ l)) high t u p [] (x ∷ l) at ≡ Accepted = rw (ne-eqb (suc (length l)) 0 (omega arith)) at e in
+    let s = spells how high t u p (length (x ∷ l)) (x ∷ l) [] at ends by (le-refl (length (x ∷ l))) k in
+    (s .0, as-spelled how high t u (x ∷ l) (s .0) (s .1) (s .2) (s .3) (s .4))
 
 -- ---- the strings that are read off an area are those that it spells
 
-module _ {t u : List ℕ} {s : Str} (good : Good t u s) where
+module _ {how : Manner} {t u : List ℕ} {s : Str} (good : GoodString how t u s) where
   -- a string of o bytes at a place of f, whose text stands two bytes behind
   place-str : (f l : List ℕ) (at o : ℕ) → o ≡ sizeOf t s → body t o l ≡ textOf s → part (at + 2) (at + (o - length t)) f ≡ textOf s
       → strIn f (placeOf t o l at) ≡ s
@@ -327,19 +363,19 @@ body-part : (t : List ℕ) (o : ℕ) (l : List ℕ) → part 2 (o - length t) l 
 unfolding body
 body-part t o l = refl
 
-module _ (f t u : List ℕ) (high : Bool) (e : ℕ) (fits : e ≤ length f) where
-  read-off : (ss : List Str) (rest prev : List ℕ) (m at : ℕ) → at ≤ e → Rising t u prev ss → part at e f ≡ written high t ss rest → e - at ≤ m
-      → strsIn f (placesFrom m high t (part at e f) at) ≡ ss
-  unfolding written placesFrom onText
-  read-off [] rest prev zero at low g w h = refl
-  read-off [] rest prev (suc m) at low g w h = rw (w, end-frame high t rest)
-  read-off (s ∷ ss) rest prev zero at low g w h =
-      absurd (let k = frame-of (g .0) high (written high t ss rest) .fit in let x = sym (length-part at e f fits) ∙ ap length w in omega arith)
-  read-off (s ∷ ss) rest prev (suc m) at low g w h =
-      let r : List ℕ = written high t ss rest in
+module _ (how : Manner) (f t u : List ℕ) (high : Bool) (e : ℕ) (fits : e ≤ length f) where
+  read-off : (ss : List Str) (end prev : List ℕ) (m at : ℕ) → at ≤ e → Ends how high end → Rising how t u prev ss → part at e f ≡ texts high t ss end → e - at ≤ m
+      → strsIn f (placesFrom how m high t (part at e f) at) ≡ ss
+  unfolding texts placesFrom onText
+  read-off [] end prev zero at low q g w h = refl
+  read-off [] end prev (suc m) at low q g w h = rw (w, end-frame how high t end q)
+  read-off (s ∷ ss) end prev zero at low q g w h =
+      absurd (let k = frame-of (g .0) high (texts high t ss end) .fit in let x = sym (length-part at e f fits) ∙ ap length w in omega arith)
+  read-off (s ∷ ss) end prev (suc m) at low q g w h =
+      let r : List ℕ = texts high t ss end in
       let o : ℕ = sizeOf t s in
       let fr = frame-of (g .0) high r in
-      let text : frameOf high t (part at e f) ≡ Text o = rw w (fr .text) in
+      let text : frameOf how high t (part at e f) ≡ Text o = rw w (fr .text) in
       let mid : body t o (part at e f) ≡ textOf s = rw w (fr .mid) in
       let next : part (at + o) e f ≡ r = sym (part-drop o at e f) ∙ ap (λ (l : List ℕ). drop o l) w ∙ fr .next in
       let x : e - at ≡ o + length r = sym (length-part at e f fits) ∙ ap length w ∙ fr .fit in
@@ -347,45 +383,45 @@ module _ (f t u : List ℕ) (high : Bool) (e : ℕ) (fits : e ≤ length f) wher
       let y : part (at + 2) (at + (o - length t)) f ≡ textOf s =
       sym (part-part 2 (o - length t) at e f (omega arith)) ∙ body-part t o (part at e f) ∙ mid in
       rw (text, d, place-str (g .0) f (part at e f) at o refl mid y)
-      (ap (λ (zs : List Str). s ∷ zs) (read-off ss rest (s .key) m (at + o) (omega arith) (g .2) next (omega arith)))
+      (ap (λ (zs : List Str). s ∷ zs) (read-off ss end (s .key) m (at + o) (omega arith) q (g .2) next (omega arith)))
 
 -- ---- the theorems
 
-no-place : (f : List ℕ) (high : Bool) (t : List ℕ) (at : ℕ) → strsIn f (placesFrom 0 high t [] at) ≡ []
+no-place : (how : Manner) (f : List ℕ) (high : Bool) (t : List ℕ) (at : ℕ) → strsIn f (placesFrom how 0 high t [] at) ≡ []
 unfolding placesFrom
-no-place f high t at = refl
+no-place how f high t at = refl
 
-apart-spelled : (high : Bool) (t u l : List ℕ) (ss : List Str) → Spells high t u ss l
-    → ((l ≡ []) × (ss ≡ [])) ⊎ ((rest : List ℕ) × Rising t u [] ss × (l ≡ written high t ss rest))
-apart-spelled high t u l ss empty = inl (refl, refl)
-apart-spelled high t u l ss (full rest g) = inr (rest, g, refl)
+apart-spelled : (how : Manner) (high : Bool) (t u l : List ℕ) (ss : List Str) → Spells how high t u ss l
+    → ((l ≡ []) × (ss ≡ [])) ⊎ ((end : List ℕ) × Ends how high end × Rising how t u [] ss × (l ≡ texts high t ss end))
+apart-spelled how high t u l ss empty = inl (refl, refl)
+apart-spelled how high t u l ss (full x g) = inr (_, x, g, refl)
 
 -- on an area that spells ss, the places are those of ss
-pub spelled-places : (f t u : List ℕ) (high : Bool) (a e : ℕ) (ss : List Str) → a ≤ e → e ≤ length f → Spells high t u ss (part a e f)
-    → strsIn f (placesOf high t (part a e f) a) ≡ ss
+pub spelled-places : (how : Manner) (f t u : List ℕ) (high : Bool) (a e : ℕ) (ss : List Str) → a ≤ e → e ≤ length f → Spells how high t u ss (part a e f)
+    → strsIn f (placesOf how high t (part a e f) a) ≡ ss
 unfolding placesOf
-spelled-places f t u high a e ss low fits h =
+spelled-places how f t u high a e ss low fits h =
     ⊎-elim
-    (λ w. rw (w .0, w .1) (no-place f high t a))
-    (λ w. read-off f t u high e fits ss (w .0) [] (length (part a e f)) a low (w .1) (w .2) (le-of-eq (sym (length-part a e f fits))))
-    (apart-spelled high t u (part a e f) ss h)
+    (λ w. rw (w .0, w .1) (no-place how f high t a))
+    (λ w. read-off how f t u high e fits ss (w .0) [] (length (part a e f)) a low (w .1) (w .2) (w .3) (le-of-eq (sym (length-part a e f fits))))
+    (apart-spelled how high t u (part a e f) ss h)
 
 -- no bytes spell two lists
-pub spelled-once : (high : Bool) (t u l : List ℕ) (ss rs : List Str) → Spells high t u ss l → Spells high t u rs l → ss ≡ rs
-spelled-once high t u l ss rs h k =
+pub spelled-once : (how : Manner) (high : Bool) (t u l : List ℕ) (ss rs : List Str) → Spells how high t u ss l → Spells how high t u rs l → ss ≡ rs
+spelled-once how high t u l ss rs h k =
     let w : l ≡ part 0 (length l) l = sym (part-rest 0 l) in
-    sym (spelled-places l t u high 0 (length l) ss (omega arith) (le-refl (length l)) (rw w at h))
-    ∙ spelled-places l t u high 0 (length l) rs (omega arith) (le-refl (length l)) (rw w at k)
+    sym (spelled-places how l t u high 0 (length l) ss (omega arith) (le-refl (length l)) (rw w at h))
+    ∙ spelled-places how l t u high 0 (length l) rs (omega arith) (le-refl (length l)) (rw w at k)
 
 -- the number of strings
 length-strs : (f : List ℕ) (ps : List Place) → length (strsIn f ps) ≡ length ps
 length-strs f [] = refl
 length-strs f (p ∷ ps) = ap suc (length-strs f ps)
 
-pub spelled-count : (f t u : List ℕ) (high : Bool) (a e : ℕ) (ss : List Str) → a ≤ e → e ≤ length f → Spells high t u ss (part a e f)
-    → length (placesOf high t (part a e f) a) ≡ length ss
-spelled-count f t u high a e ss low fits h =
-    sym (length-strs f (placesOf high t (part a e f) a)) ∙ ap length (spelled-places f t u high a e ss low fits h)
+pub spelled-count : (how : Manner) (f t u : List ℕ) (high : Bool) (a e : ℕ) (ss : List Str) → a ≤ e → e ≤ length f → Spells how high t u ss (part a e f)
+    → length (placesOf how high t (part a e f) a) ≡ length ss
+spelled-count how f t u high a e ss low fits h =
+    sym (length-strs f (placesOf how high t (part a e f) a)) ∙ ap length (spelled-places how f t u high a e ss low fits h)
 
 -- the i-th string
 nth-key-in : (f : List ℕ) (ps : List Place) (i : ℕ) → keyFound f (nthOf ps i) ≡ nthStr (strsIn f ps) i .key
@@ -400,12 +436,12 @@ nth-value-in f [] i = refl
 nth-value-in f (p ∷ ps) zero = refl
 nth-value-in f (p ∷ ps) (suc i) = nth-value-in f ps i
 
-pub spelled-nth : (f t u : List ℕ) (high : Bool) (a e : ℕ) (ss : List Str) (i : ℕ) → a ≤ e → e ≤ length f → Spells high t u ss (part a e f)
-    → (keyFound f (nthOf (placesOf high t (part a e f) a) i) ≡ nthStr ss i .key) × (valueFound f (nthOf (placesOf high t (part a e f) a) i) ≡ nthStr ss i .value)
-spelled-nth f t u high a e ss i low fits h =
-    let w = spelled-places f t u high a e ss low fits h in (
-      nth-key-in f (placesOf high t (part a e f) a) i ∙ ap (λ (rs : List Str). nthStr rs i .key) w,
-      nth-value-in f (placesOf high t (part a e f) a) i ∙ ap (λ (rs : List Str). nthStr rs i .value) w,
+pub spelled-nth : (how : Manner) (f t u : List ℕ) (high : Bool) (a e : ℕ) (ss : List Str) (i : ℕ) → a ≤ e → e ≤ length f → Spells how high t u ss (part a e f)
+    → (keyFound f (nthOf (placesOf how high t (part a e f) a) i) ≡ nthStr ss i .key) × (valueFound f (nthOf (placesOf how high t (part a e f) a) i) ≡ nthStr ss i .value)
+spelled-nth how f t u high a e ss i low fits h =
+    let w = spelled-places how f t u high a e ss low fits h in (
+      nth-key-in f (placesOf how high t (part a e f) a) i ∙ ap (λ (rs : List Str). nthStr rs i .key) w,
+      nth-value-in f (placesOf how high t (part a e f) a) i ∙ ap (λ (rs : List Str). nthStr rs i .value) w,
     )
 
 -- the value of a keyword, and whether it is there
@@ -413,52 +449,52 @@ abbrev pub found : Found → Bool
 found Nothing = false
 found (Is s) = true
 
-find-value-in : (f : List ℕ) (ps : List Place) (key : List ℕ) → valueFound f (findOf f ps key) ≡ valueOfKey (strsIn f ps) key
+find-value-in : (how : Manner) (f : List ℕ) (ps : List Place) (key : List ℕ) → valueFound f (findOf how f ps key) ≡ valueOfKey how (strsIn f ps) key
 unfolding valueFound findOf valueOfKey
-find-value-in f [] key = refl
-find-value-in f (p ∷ ps) key = go (same (keyIn f p) key) (find-value-in f ps key)
+find-value-in how f [] key = refl
+find-value-in how f (p ∷ ps) key = go (same (named how (keyIn f p)) key) (find-value-in how f ps key)
   where
-    go : (w : Bool) → valueFound f (findOf f ps key) ≡ valueOfKey (strsIn f ps) key
-        → valueFound f (pick w (Is p) (findOf f ps key)) ≡ pick w (valueIn f p) (valueOfKey (strsIn f ps) key)
+    go : (w : Bool) → valueFound f (findOf how f ps key) ≡ valueOfKey how (strsIn f ps) key
+        → valueFound f (pick w (Is p) (findOf how f ps key)) ≡ pick w (valueIn f p) (valueOfKey how (strsIn f ps) key)
     go true i = refl
     go false i = i
 
-find-has-in : (f : List ℕ) (ps : List Place) (key : List ℕ) → found (findOf f ps key) ≡ hasKey (strsIn f ps) key
+find-has-in : (how : Manner) (f : List ℕ) (ps : List Place) (key : List ℕ) → found (findOf how f ps key) ≡ hasKey how (strsIn f ps) key
 unfolding findOf hasKey
-find-has-in f [] key = refl
-find-has-in f (p ∷ ps) key = go (same (keyIn f p) key) (find-has-in f ps key)
+find-has-in how f [] key = refl
+find-has-in how f (p ∷ ps) key = go (same (named how (keyIn f p)) key) (find-has-in how f ps key)
   where
-    go : (w : Bool) → found (findOf f ps key) ≡ hasKey (strsIn f ps) key → found (pick w (Is p) (findOf f ps key)) ≡ pick w true (hasKey (strsIn f ps) key)
+    go : (w : Bool) → found (findOf how f ps key) ≡ hasKey how (strsIn f ps) key → found (pick w (Is p) (findOf how f ps key)) ≡ pick w true (hasKey how (strsIn f ps) key)
     go true i = refl
     go false i = i
 
-pub spelled-value : (f t u : List ℕ) (high : Bool) (a e : ℕ) (ss : List Str) (key : List ℕ) → a ≤ e → e ≤ length f → Spells high t u ss (part a e f)
-    → (found (findOf f (placesOf high t (part a e f) a) key) ≡ hasKey ss key) × (valueFound f (findOf f (placesOf high t (part a e f) a) key) ≡ valueOfKey ss key)
-spelled-value f t u high a e ss key low fits h =
-    let w = spelled-places f t u high a e ss low fits h in (
-      find-has-in f (placesOf high t (part a e f) a) key ∙ ap (λ (rs : List Str). hasKey rs key) w,
-      find-value-in f (placesOf high t (part a e f) a) key ∙ ap (λ (rs : List Str). valueOfKey rs key) w,
+pub spelled-value : (how : Manner) (f t u : List ℕ) (high : Bool) (a e : ℕ) (ss : List Str) (key : List ℕ) → a ≤ e → e ≤ length f → Spells how high t u ss (part a e f)
+    → (found (findOf how f (placesOf how high t (part a e f) a) key) ≡ hasKey how ss key) × (valueFound f (findOf how f (placesOf how high t (part a e f) a) key) ≡ valueOfKey how ss key)
+spelled-value how f t u high a e ss key low fits h =
+    let w = spelled-places how f t u high a e ss low fits h in (
+      find-has-in how f (placesOf how high t (part a e f) a) key ∙ ap (λ (rs : List Str). hasKey how rs key) w,
+      find-value-in how f (placesOf how high t (part a e f) a) key ∙ ap (λ (rs : List Str). valueOfKey how rs key) w,
     )
 
 -- ---- keywords occur once, so the first string with a keyword is the one
 
 -- every later keyword may follow an earlier one
-later-rises : (t u prev : List ℕ) (ss : List Str) (i : ℕ) → Rising t u prev ss → i < length ss → rises prev (nthStr ss i .key) ≡ true
+later-rises : (t u prev : List ℕ) (ss : List Str) (i : ℕ) → Rising Strict t u prev ss → i < length ss → rises prev (nthStr ss i .key) ≡ true
 later-rises t u prev [] i g h = absurd (omega arith)
 later-rises t u prev (s ∷ ss) zero g h = g .1
 later-rises t u prev (s ∷ ss) (suc i) g h =
     rises-transitive prev (s .key) (nthStr ss i .key) (g .1) (later-rises t u (s .key) ss i (g .2) (omega arith))
 
-pub keywords-once : (t u prev : List ℕ) (ss : List Str) (i : ℕ) → Rising t u prev ss → i < length ss
-    → valueOfKey ss (nthStr ss i .key) ≡ nthStr ss i .value
+pub keywords-once : (t u prev : List ℕ) (ss : List Str) (i : ℕ) → Rising Strict t u prev ss → i < length ss
+    → valueOfKey Strict ss (nthStr ss i .key) ≡ nthStr ss i .value
 unfolding valueOfKey
 keywords-once t u prev [] i g h = absurd (omega arith)
 keywords-once t u prev (s ∷ ss) zero g h = rw (same-refl (s .key))
 keywords-once t u prev (s ∷ ss) (suc i) g h =
     go (same (s .key) (nthStr ss i .key)) refl (later-rises t u (s .key) ss i (g .2) (omega arith)) (keywords-once t u (s .key) ss i (g .2) (omega arith))
   where
-    go : (w : Bool) → same (s .key) (nthStr ss i .key) ≡ w → rises (s .key) (nthStr ss i .key) ≡ true → valueOfKey ss (nthStr ss i .key) ≡ nthStr ss i .value
-        → pick w (s .value) (valueOfKey ss (nthStr ss i .key)) ≡ nthStr ss i .value
+    go : (w : Bool) → same (s .key) (nthStr ss i .key) ≡ w → rises (s .key) (nthStr ss i .key) ≡ true → valueOfKey Strict ss (nthStr ss i .key) ≡ nthStr ss i .value
+        → pick w (s .value) (valueOfKey Strict ss (nthStr ss i .key)) ≡ nthStr ss i .value
     go true q r v =
         let k : s .key ≡ nthStr ss i .key = same-eq (s .key) (nthStr ss i .key) q in
         let x : rises (s .key) (s .key) ≡ true = rw (← k) at r in

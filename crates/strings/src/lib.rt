@@ -1,16 +1,18 @@
 // The strings of an area: one string, a list of strings and the check of both (document 01, "Strings", rows 14 to 17). Strings has the definitions,
 // Spelled and Paper the second view: an area is accepted exactly where it spells a list of strings, and only one. Stands on `text`, `word`, `refusal`.
-// An area is the bytes of a file from place a to place e; t is the string terminator, u the line terminator, `high` the byte order.
+// An area is the bytes of a file from place a to place e; t is the string terminator, u the line terminator, `high` the byte order, `how` the manner of
+// reading (text/Manner), which is a parameter of every walk and question here.
 // The rules in words: docs/FORMAT.md, "Strings".
 use refusal::Part;
 use refusal::Refusal;
 use refusal::Rule;
 use refusal::Verdict;
+use text::Manner;
 ghost use mathlib.Core.Path.{_≡_};
 ghost use Prim.Native.Nat.{_≤_, _<_};
 ghost use lib.ListN.{length};
 ghost use Rattle.word.specs.Part.{part};
-ghost use Rattle.strings.specs.Strings.{frameOf, judgedOf, stepOf, stringsOf};
+ghost use Rattle.strings.specs.Strings.{cut, frameOf, judgedOf, stepOf, stringsOf};
 
 // What an area has at a string's place: the end of the list, a string of so many bytes in all, or a frame that is broken.
 pub enum Frame {
@@ -51,12 +53,25 @@ pub enum Found {
     Is(Place),
 }
 
-// Rows 14 and 15 of the string that l starts with.
-pub fn framed(l: &[u8], high: bool, t: &[u8]) -> Frame
-    ensures { λ r. ⌜ r ≡ frameOf high (now (t .entry)) (now (l .entry)) ⌝ }
+// Whether no offset is left where one must be.
+fn is_cut(l: &[u8], how: Manner) -> bool
+    ensures { λ r. ⌜ r ≡ cut how (now (l .entry)) ⌝ }
 {
-    if l.len() < 2 {
+    if text::open_end(how) {
+        return l.len() == 1;
+    }
+    l.len() < 2
+}
+
+// Rows 14 and 15 of the string that l starts with.
+pub fn framed(l: &[u8], high: bool, t: &[u8], how: Manner) -> Frame
+    ensures { λ r. ⌜ r ≡ frameOf how high (now (t .entry)) (now (l .entry)) ⌝ }
+{
+    if is_cut(l, how) {
         return Frame::Broken(Rule::StringOffset);
+    }
+    if l.len() < 2 {
+        return Frame::End;
     }
     let o = word::word2(l, high, 0);
     if o == 0 {
@@ -80,11 +95,11 @@ pub fn framed(l: &[u8], high: bool, t: &[u8]) -> Frame
 }
 
 // Rows 16 and 17 of what stands between the offset and the terminator; prev is the keyword before.
-fn judge(b: &[u8], u: &[u8], prev: &[u8]) -> Judged
+fn judge(b: &[u8], u: &[u8], prev: &[u8], how: Manner) -> Judged
     requires { ⌜ 0 < length (now u) ⌝ }
-    ensures { λ r. ⌜ r ≡ judgedOf (now (u .entry)) (now (prev .entry)) (now (b .entry)) ⌝ }
+    ensures { λ r. ⌜ r ≡ judgedOf how (now (u .entry)) (now (prev .entry)) (now (b .entry)) ⌝ }
 {
-    let n = text::key_run(b);
+    let n = text::key_run(b, how);
     if n == 0 {
         return Judged::Wrong(Rule::Character);
     }
@@ -94,21 +109,30 @@ fn judge(b: &[u8], u: &[u8], prev: &[u8]) -> Judged
         return Judged::Wrong(Rule::Character);
     }
     let k = &b[..n];
-    if !text::value_ok(u, k, &r[g..]) {
+    if !text::value_ok(u, k, &r[g..], how) {
         return Judged::Wrong(Rule::Character);
     }
-    if !text::rising(prev, k) {
+    if !text::following(prev, k, how) {
         return Judged::Wrong(Rule::KeywordOrder);
     }
     Judged::Keyword(n)
 }
 
 // Rows 14 to 17 of the string that l starts with, which stands at place `at` of the file.
-fn step_at(l: &[u8], high: bool, t: &[u8], u: &[u8], whose: Part, prev: &[u8], at: usize) -> Step
+fn step_at(
+    l: &[u8],
+    high: bool,
+    t: &[u8],
+    u: &[u8],
+    whose: Part,
+    prev: &[u8],
+    at: usize,
+    how: Manner,
+) -> Step
     requires { ⌜ 0 < length (now u) ⌝ }
-    ensures { λ r. ⌜ r ≡ stepOf high (now (t .entry)) (now (u .entry)) whose (now (prev .entry)) (now (l .entry)) at ⌝ }
+    ensures { λ r. ⌜ r ≡ stepOf how high (now (t .entry)) (now (u .entry)) whose (now (prev .entry)) (now (l .entry)) at ⌝ }
 {
-    let s = framed(l, high, t);
+    let s = framed(l, high, t, how);
     match s {
         Frame::End => Step::Done,
         Frame::Broken(rule) => Step::Bad(Refusal {
@@ -118,7 +142,7 @@ fn step_at(l: &[u8], high: bool, t: &[u8], u: &[u8], whose: Part, prev: &[u8], a
         }),
         Frame::Text(o) => {
             let end = o - t.len();
-            let j = judge(&l[2..end], u, prev);
+            let j = judge(&l[2..end], u, prev, how);
             match j {
                 Judged::Keyword(n) => Step::Next(o, n),
                 Judged::Wrong(rule) => Step::Bad(Refusal {
@@ -132,9 +156,18 @@ fn step_at(l: &[u8], high: bool, t: &[u8], u: &[u8], whose: Part, prev: &[u8], a
 }
 
 // The check of the area from a to e of f. The keyword before is the file's own bytes from k to g.
-pub fn check(f: &[u8], a: usize, e: usize, high: bool, t: &[u8], u: &[u8], whose: Part) -> Verdict
+pub fn check(
+    f: &[u8],
+    a: usize,
+    e: usize,
+    high: bool,
+    t: &[u8],
+    u: &[u8],
+    whose: Part,
+    how: Manner,
+) -> Verdict
     requires { ⌜ (a ≤ e) × (e ≤ length (now f)) × (0 < length (now u)) ⌝ }
-    ensures { λ r. ⌜ r ≡ stringsOf high (now (t .entry)) (now (u .entry)) whose (part a e (now (f .entry))) a ⌝ }
+    ensures { λ r. ⌜ r ≡ stringsOf how high (now (t .entry)) (now (u .entry)) whose (part a e (now (f .entry))) a ⌝ }
 {
     if e <= a {
         return Verdict::Accepted;
@@ -143,7 +176,7 @@ pub fn check(f: &[u8], a: usize, e: usize, high: bool, t: &[u8], u: &[u8], whose
     let mut k = a;
     let mut g = a;
     while at < e {
-        let s = step_at(&f[at..e], high, t, u, whose, &f[k..g], at);
+        let s = step_at(&f[at..e], high, t, u, whose, &f[k..g], at, how);
         match s {
             Step::Bad(r) => {
                 return Verdict::Refused(r);
@@ -157,6 +190,9 @@ pub fn check(f: &[u8], a: usize, e: usize, high: bool, t: &[u8], u: &[u8], whose
                 at += o;
             }
         }
+    }
+    if text::open_end(how) {
+        return Verdict::Accepted;
     }
     Verdict::Refused(Refusal {
         rule: Rule::StringOffset,

@@ -20,9 +20,17 @@ solid b = not (blank b)
 abbrev pub keyChar : ℕ → Bool
 keyChar b = (leb 33 b && leb b 96) || (leb 123 b && leb b 126)
 
+-- most of them, and all that the paper's own keywords have
+abbrev pub capital : ℕ → Bool
+capital b = leb 33 b && leb b 96
+
 -- a value "uses 32 to 126 and tab"
 abbrev pub valueChar : ℕ → Bool
 valueChar b = (leb 32 b && leb b 126) || eqb b 9
+
+-- most of them
+abbrev pub printed : ℕ → Bool
+printed b = leb 32 b && leb b 126
 
 -- a terminator's characters "are 0 to 31, neither terminator uses tab (9)"
 abbrev pub control : ℕ → Bool
@@ -44,6 +52,12 @@ key-solid b h = go (leb 33 b) refl h
         let s : false ≡ true = rw z at k in
         let y : _≡_ {A = ℕ} 0 1 = cc in
         absurd (omega arith)
+
+pub capital-key : (b : ℕ) → capital b ≡ true → keyChar b ≡ true
+capital-key b h = rw h
+
+pub printed-value : (b : ℕ) → printed b ≡ true → valueChar b ≡ true
+printed-value b h = rw h
 
 pub blank-value : (b : ℕ) → blank b ≡ true → valueChar b ≡ true
 blank-value b h = go (eqb b 32) refl h

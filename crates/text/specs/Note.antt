@@ -1,7 +1,7 @@
 -- The value of a NOTE: "in NOTE also whole line terminators, matched from the left" (document 01, "Strings"). u is the line terminator.
 -- Assumes nothing.
 use mathlib.Core.Path.{_≡_, refl, sym, ap, _∙_}
-use mathlib.Core.Bool.{Bool, true, false, not, _&&_}
+use mathlib.Core.Bool.{Bool, true, false, not, _&&_, _||_}
 use mathlib.Core.List.{List, [], _∷_, _++_, append-assoc, append-nil}
 use Prim.Native.Nat.{ℕ, zero, suc, _+_, _-_, _≤_, _<_}
 use native.Mathlib.Nat.{le-refl, lt-of-not-le}
@@ -10,8 +10,8 @@ use native.Mathlib.Omega.{arith}
 use lib.ListN.{length, getD, take, drop, length-append, length-drop, take-append-drop}
 use lib.Seq.{take-all, take-append-seam, drop-append-add, drop-append-seam, drop-drop}
 use lib.Dec.{leb, eqb}
-use borrow.Author.Tests.{leb-true, leb-false, le-leb, lt-leb, ne-eqb, not-true}
-use Rattle.word.specs.Tests.{both, and-false, never}
+use borrow.Author.Tests.{leb-true, leb-false, le-leb, lt-leb, eqb-true, eqb-false, ne-eqb, not-true}
+use Rattle.word.specs.Tests.{neither, both, and-false, never}
 use Rattle.refusal.specs.Rows.{pick}
 use Rattle.text.specs.Chars.{note, valueChar, control, control-no-value}
 use Rattle.text.specs.Runs.{same, same-eq, same-refl, same-not, all, more, none}
@@ -356,6 +356,82 @@ lines-whole : (u r : List ℕ) → 0 < length u → lines u 0 (u ++ r) ≡ lines
 unfolding lines
 lines-whole [] r h = absurd (omega arith)
 lines-whole (x ∷ xs) r h = let k : suc (length xs) - 1 ≡ length xs = omega arith in rw (starts-front (x ∷ xs) r, k) (lines-skip (x ∷ xs) xs r)
+
+-- ---- a terminator of one byte, or of two that differ, without a walk: a byte, and for two the byte before it, tells
+
+-- a value character or the byte x
+abbrev pub valueOr : ℕ → ℕ → Bool
+valueOr x b = valueChar b || eqb b x
+
+-- value characters, and each a with b behind it: p says that an a stands before the list
+unfoldable pub paired : ℕ → ℕ → Bool → List ℕ → Bool
+paired a b p [] = not p
+paired a b p (c ∷ cs) = pick p (eqb c b) (valueChar c || eqb c a) && paired a b (eqb c a) cs
+
+-- a terminator of one byte is that byte, wherever it stands
+pub lines-one : (u s : List ℕ) → length u ≡ 1 → all (valueOr (getD u 0 0)) s ≡ lines u 0 s
+unfolding lines starts same all
+lines-one [] s h = absurd (omega arith)
+lines-one (x ∷ y ∷ u) s h = absurd (omega arith)
+lines-one (x ∷ []) s h = go s
+  where
+    turn : (w v r : Bool) → ((v || w) && r) ≡ pick (w && true) r (v && r)
+    turn true true r = refl
+    turn true false r = refl
+    turn false true r = refl
+    turn false false r = refl
+
+    go : (s : List ℕ) → all (valueOr x) s ≡ lines (x ∷ []) 0 s
+    go [] = refl
+    go (b ∷ bs) = rw (le-leb 1 (suc (length bs)) (omega arith), go bs) (turn (eqb b x) (valueChar b) (lines (x ∷ []) 0 bs))
+
+rest : (v r : Bool) → ((v || false) && r) ≡ (v && r)
+rest true r = refl
+rest false r = refl
+
+two : (a b : ℕ) (s : List ℕ) → valueChar a ≡ false → (a ≡ b → ⊥) → paired a b false s ≡ lines (a ∷ b ∷ []) 0 s
+unfolding lines starts same paired
+two a b [] n k = refl
+two a b (c ∷ []) n k = go (eqb c a) refl
+  where
+    go : (w : Bool) → eqb c a ≡ w → ((valueChar c || w) && not w) ≡ (valueChar c && true)
+    go true e = let q : c ≡ a = eqb-true c a e in rw (q, n)
+    go false e = rest (valueChar c) true
+two a b (c ∷ d ∷ ds) n k =
+    rw (le-leb 2 (suc (suc (length ds))) (omega arith)) (go (eqb c a) (eqb d b) refl refl (two a b ds n k) (two a b (d ∷ ds) n k))
+  where
+    go : (w v : Bool) → eqb c a ≡ w → eqb d b ≡ v → paired a b false ds ≡ lines (a ∷ b ∷ []) 0 ds
+        → paired a b false (d ∷ ds) ≡ lines (a ∷ b ∷ []) 0 (d ∷ ds)
+        → ((valueChar c || w) && (pick w (eqb d b) (valueChar d || eqb d a) && paired a b (eqb d a) ds))
+        ≡ pick (w && (v && true)) (lines (a ∷ b ∷ []) 0 ds) (valueChar c && lines (a ∷ b ∷ []) 0 (d ∷ ds))
+    go true true e f past one =
+        let q : c ≡ a = eqb-true c a e in
+        let r : d ≡ b = eqb-true d b f in
+        rw (q, n, f, ne-eqb d a (λ (h : d ≡ a). k (sym h ∙ r))) past
+    go true false e f past one = let q : c ≡ a = eqb-true c a e in rw (q, n, f)
+    go false v e f past one = rest (valueChar c) _ ∙ ap (λ (r : Bool). valueChar c && r) one
+
+-- one of two bytes, where the first is no value character and the second another byte, is each first with its second
+pub lines-two : (u s : List ℕ) → length u ≡ 2 → (valueChar (getD u 0 0) || eqb (getD u 0 0) (getD u 1 0)) ≡ false
+    → paired (getD u 0 0) (getD u 1 0) false s ≡ lines u 0 s
+lines-two [] s h n = absurd (omega arith)
+lines-two (a ∷ []) s h n = absurd (omega arith)
+lines-two (a ∷ b ∷ []) s h n = let k = neither (valueChar a) (eqb a b) n in two a b s (k .0) (eqb-false a b (k .1))
+lines-two (a ∷ b ∷ c ∷ u) s h n = absurd (omega arith)
+
+-- a turn of the loop for two bytes, and its end: w is what was found before
+module _ (a b : ℕ) (s : List ℕ) (i : ℕ) where
+  pub paired-turn : (w p : Bool) → i < length s
+      → ((w && ((p && eqb (getD s i 0) b) || (not p && (valueChar (getD s i 0) || eqb (getD s i 0) a)))) && paired a b (eqb (getD s i 0) a) (drop (i + 1) s))
+      ≡ (w && paired a b p (drop i s))
+  unfolding paired
+  paired-turn false p h = refl
+  paired-turn true false h = rw (more s i h)
+  paired-turn true true h = rw (more s i h) (rest (eqb (getD s i 0) b) _)
+
+  pub paired-through : (w p : Bool) → length s ≤ i → (w && not p) ≡ (w && paired a b p (drop i s))
+  unfolding paired
+  paired-through w p h = rw (none s i h)
 
 -- ---- turns of the loops
 module _ (u s : List ℕ) (i : ℕ) (h : i < length s) where

@@ -77,6 +77,10 @@ pub note-last : (k : List ℕ) → rises note k ≡ false
 unfolding rises
 note-last k = rw (same-refl note)
 
+pub rises-note : (p k : List ℕ) → same p note ≡ true → rises p k ≡ false
+unfolding rises
+rises-note p k h = rw h
+
 -- the first keyword is free
 pub rises-first : (k : List ℕ) → 0 < length k → rises [] k ≡ true
 unfolding rises same less

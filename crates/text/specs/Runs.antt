@@ -1,13 +1,13 @@
 -- Bytes at the front of a list that pass a test, and lists that are the same.
 -- Assumes nothing.
-use mathlib.Core.Path.{_≡_, refl, ap, ap₂}
+use mathlib.Core.Path.{_≡_, refl, sym, ap, ap₂, _∙_}
 use mathlib.Core.Bool.{Bool, true, false, _&&_}
 use mathlib.Core.List.{List, [], _∷_, _++_}
 use Prim.Native.Nat.{ℕ, suc, _+_, _-_, _≤_, _<_}
 use native.Mathlib.Numerals.{add-one}
 use native.Mathlib.Omega.{arith}
-use lib.ListN.{length, getD, take, drop, drop-of-length-le}
-use lib.Seq.{drop-cons}
+use lib.ListN.{length, getD, take, drop, drop-of-length-le, take-append-drop}
+use lib.Seq.{drop-cons, drop-drop, length-take-le}
 use lib.Dec.{eqb}
 use borrow.Author.Tests.{eqb-true, eq-eqb}
 use Rattle.word.specs.Tests.{both}
@@ -86,6 +86,14 @@ module _ (p : ℕ → Bool) where
       let a = both (p x) (all p xs) h in
       rw (a .0) (ap suc (run-append xs ys (a .1) s))
 
+  -- a front that is all of them is counted whole
+  pub run-over : (xs ys : List ℕ) → all p xs ≡ true → run p (xs ++ ys) ≡ length xs + run p ys
+  unfolding run all
+  run-over [] ys h = omega arith
+  run-over (x ∷ xs) ys h =
+      let a = both (p x) (all p xs) h in
+      rw (a .0) (ap suc (run-over xs ys (a .1)) ∙ omega arith)
+
   -- a turn of a loop that counts them, and of one that tests all
   pub run-more : (s : List ℕ) (i : ℕ) → i < length s → p (getD s i 0) ≡ true → i + run p (drop i s) ≡ i + 1 + run p (drop (i + 1) s)
   unfolding run
@@ -129,6 +137,18 @@ all-weaker p q w [] h = refl
 all-weaker p q w (b ∷ bs) h =
     let a = both (p b) (all p bs) h in
     rw (w b (a .0)) (all-weaker p q w bs (a .1))
+
+-- a run of some of them is passed over whole
+pub run-part : (p q : ℕ → Bool) → ((b : ℕ) → q b ≡ true → p b ≡ true) → (s : List ℕ) (i n : ℕ) → n ≡ run q (drop i s)
+    → i + n + run p (drop (i + n) s) ≡ i + run p (drop i s)
+run-part p q w s i n e =
+    let l : List ℕ = drop i s in
+    let a : all p (take n l) ≡ true = all-weaker q p w (take n l) (rw e (run-all q l)) in
+    let k : length (take n l) ≡ n = length-take-le n l (rw e (run-le q l)) in
+    let o : run p l ≡ length (take n l) + run p (drop n l) = ap (run p) (sym (take-append-drop n l)) ∙ run-over p (take n l) (drop n l) a in
+    let d : drop n l ≡ drop (i + n) s = drop-drop n i s in
+    let r : run p (drop n l) ≡ run p (drop (i + n) s) = ap (run p) d in
+    omega arith
 
 -- ---- the same list
 

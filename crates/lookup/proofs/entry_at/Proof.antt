@@ -20,29 +20,29 @@ entry-at-spec =
     (λ c. search needs)
     (λ c. search needs)
     (λ c. search needs)
-    (λ c. let i = in-frame _ _ _ _ (sym (c .before .before .before .framed .ensures) ∙ c .before .s .given .1) in omega (arith, i .low, i .fit))
-    (λ c. let i = in-frame _ _ _ _ (sym (c .before .before .before .framed .ensures) ∙ c .before .s .given .1) in omega (arith, i .low, i .fit))
-    (λ c. let i = in-frame _ _ _ _ (sym (c .before .before .before .framed .ensures) ∙ c .before .s .given .1) in omega (arith, i .low, i .fit))
-    (λ c. let i = in-frame _ _ _ _ (sym (c .before .before .before .framed .ensures) ∙ c .before .s .given .1) in omega (arith, i .low, i .fit))
+    (λ c. let i = in-frame _ _ _ _ _ (sym (c .before .before .before .framed .ensures) ∙ c .before .s .given .1) in omega (arith, i .low, i .fit))
+    (λ c. let i = in-frame _ _ _ _ _ (sym (c .before .before .before .framed .ensures) ∙ c .before .s .given .1) in omega (arith, i .low, i .fit))
+    (λ c. let i = in-frame _ _ _ _ _ (sym (c .before .before .before .framed .ensures) ∙ c .before .s .given .1) in omega (arith, i .low, i .fit))
+    (λ c. let i = in-frame _ _ _ _ _ (sym (c .before .before .before .framed .ensures) ∙ c .before .s .given .1) in omega (arith, i .low, i .fit))
     (λ c κs. search needs)
     (λ c. search needs)
     (λ c. search needs)
     (λ c. search needs)
     (λ c κs. search needs)
-    (λ c. let i = in-frame _ _ _ _ (sym (c .before .before .before .before .before .before .before .framed .ensures) ∙ c .before .before .before .before .before .s .given .1) in omega (arith, i .low, i .fit))
+    (λ c. let i = in-frame _ _ _ _ _ (sym (c .before .before .before .before .before .before .before .framed .ensures) ∙ c .before .before .before .before .before .s .given .1) in omega (arith, i .low, i .fit))
     (λ c.
-    let i = in-frame _ _ _ _ (sym (c .before .before .before .before .before .before .before .framed .ensures) ∙ c .before .before .before .before .before .s .given .1) in
+    let i = in-frame _ _ _ _ _ (sym (c .before .before .before .before .before .before .before .framed .ensures) ∙ c .before .before .before .before .before .s .given .1) in
     let b = part 2 (c .before .before .before .before .before .s .given .0 .0 - length (c .before .before .before .before .before .before .before .before .before .before .args .t .now)) (c .before .before .before .before .before .before .before .before .before .before .args .l .now) in
     let x = length-part 2 (c .before .before .before .before .before .s .given .0 .0 - length (c .before .before .before .before .before .before .before .before .before .before .args .t .now)) (c .before .before .before .before .before .before .before .before .before .before .args .l .now) (omega (arith, i .low, i .fit)) in
     let y = length-part (c .before .before .key-len .result) (length b) b (le-refl (length b)) in
     omega (arith, i .low, i .fit, c .before .before .key-len .ensures .1, c .gap-run .ensures .1))
     (λ c.
-    let i = in-frame _ _ _ _ (sym (c .before .before .before .before .before .before .before .framed .ensures) ∙ c .before .before .before .before .before .s .given .1) in
+    let i = in-frame _ _ _ _ _ (sym (c .before .before .before .before .before .before .before .framed .ensures) ∙ c .before .before .before .before .before .s .given .1) in
     let b = part 2 (c .before .before .before .before .before .s .given .0 .0 - length (c .before .before .before .before .before .before .before .before .before .before .args .t .now)) (c .before .before .before .before .before .before .before .before .before .before .args .l .now) in
     let x = length-part 2 (c .before .before .before .before .before .s .given .0 .0 - length (c .before .before .before .before .before .before .before .before .before .before .args .t .now)) (c .before .before .before .before .before .before .before .before .before .before .args .l .now) (omega (arith, i .low, i .fit)) in
     let y = length-part (c .before .before .key-len .result) (length b) b (le-refl (length b)) in
     omega (arith, i .low, i .fit, c .before .before .key-len .ensures .1, c .gap-run .ensures .1))
-    (λ c. let i = in-frame _ _ _ _ (sym (c .before .before .before .before .before .before .before .framed .ensures) ∙ c .before .before .before .before .before .s .given .1) in omega (arith, i .low, i .fit))
+    (λ c. let i = in-frame _ _ _ _ _ (sym (c .before .before .before .before .before .before .before .framed .ensures) ∙ c .before .before .before .before .before .s .given .1) in omega (arith, i .low, i .fit))
     (λ c. rw (sym (c .before .before .framed .ensures) ∙ c .enum-told .given .1))
     (λ c. rw (sym (c .before .before .framed .ensures) ∙ c .enum-told2 .given .1))
     (λ c. rw ((sym (c .before .before .before .before .before .before .before .framed .ensures) ∙ c .before .before .before .before .before .s .given .1), ← c .before .before .key-len .ensures .0, ← (rw part-rest at (c .gap-run .ensures .0)))))

@@ -13,10 +13,10 @@ use Rattle.lookup.proofs.nth.Statement.{statement}
 use Rattle.lookup.proofs.nth.Tie as tie
 
 abbrev Inv-loop : tie.InvT-loop
-Inv-loop f a e high t i at₀ k₀ at k = (a ≤ at) × (at ≤ e) × ((m : ℕ) × (e - at ≤ m) × (nthOf (placesFrom m high t (part at e f) at) k ≡ nthOf (placesOf high t (part a e f) a) i))
+Inv-loop f a e high t i how at₀ k₀ at k = (a ≤ at) × (at ≤ e) × ((m : ℕ) × (e - at ≤ m) × (nthOf (placesFrom how m high t (part at e f) at) k ≡ nthOf (placesOf how high t (part a e f) a) i))
 
 abbrev μ-loop : tie.MeasureT-loop
-μ-loop f a e high t i at₀ k₀ at k = e - at
+μ-loop f a e high t i how at₀ k₀ at k = e - at
 
 pub nth-spec : {M : Type 1} → statement M
 unfolding placesOf
@@ -31,13 +31,13 @@ nth-spec =
     (λ c. search needs)
     (λ c κs. let w = length-part (c .before .before .loop .at) (c .before .before .before .before .before .args .e) (c .before .before .before .before .before .args .f .now) (c .before .before .before .before .before .pre .1) in omega arith)
     (λ c. search needs)
-    (λ c. nth-none _ _ (place-stop _ _ (c .before .before .before .before .before .before .before .before .args .f .now) (c .before .before .before .before .before .before .before .before .args .e) (c .before .before .before .before .before .loop .at) (c .before .before .before .before .before .loop .inv .2 .0) (c .before .before .before .before .loop-test .taken) (c .before .before .before .before .before .before .before .before .pre .1) (c .before .before .before .before .before .loop .inv .2 .1) (sym (c .before .before .entry-at .ensures) ∙ c .enum-told .given .1)) ∙ c .before .before .before .before .before .loop .inv .2 .2)
+    (λ c. nth-none _ _ (place-stop _ _ _ (c .before .before .before .before .before .before .before .before .args .f .now) (c .before .before .before .before .before .before .before .before .args .e) (c .before .before .before .before .before .loop .at) (c .before .before .before .before .before .loop .inv .2 .0) (c .before .before .before .before .loop-test .taken) (c .before .before .before .before .before .before .before .before .pre .1) (c .before .before .before .before .before .loop .inv .2 .1) (sym (c .before .before .entry-at .ensures) ∙ c .enum-told .given .1)) ∙ c .before .before .before .before .before .loop .inv .2 .2)
     (λ c. search needs)
-    (λ c. nth-first _ _ _ _ (place-next _ _ (c .before .before .before .before .before .before .before .before .before .before .args .f .now) (c .before .before .before .before .before .before .before .before .before .before .args .e) (c .before .before .before .before .before .before .before .loop .at) (c .before .before .before .before .before .before .before .loop .inv .2 .0) (c .before .before .before .before .before .before .loop-test .taken) (c .before .before .before .before .before .before .before .before .before .before .pre .1) (c .before .before .before .before .before .before .before .loop .inv .2 .1) _ _ (sym (c .before .before .before .before .entry-at .ensures) ∙ c .before .before .s .given .1)) (c .if1 .taken) ∙ c .before .before .before .before .before .before .before .loop .inv .2 .2)
+    (λ c. nth-first _ _ _ _ (place-next _ _ _ (c .before .before .before .before .before .before .before .before .before .before .args .f .now) (c .before .before .before .before .before .before .before .before .before .before .args .e) (c .before .before .before .before .before .before .before .loop .at) (c .before .before .before .before .before .before .before .loop .inv .2 .0) (c .before .before .before .before .before .before .loop-test .taken) (c .before .before .before .before .before .before .before .before .before .before .pre .1) (c .before .before .before .before .before .before .before .loop .inv .2 .1) _ _ (sym (c .before .before .before .before .entry-at .ensures) ∙ c .before .before .s .given .1)) (c .if1 .taken) ∙ c .before .before .before .before .before .before .before .loop .inv .2 .2)
     (λ c. omega (arith, c .if1 .left))
-    (λ c. let b = place-bounds _ _ (c .before .before .before .before .before .before .before .before .before .before .args .f .now) (c .before .before .before .before .before .before .before .before .before .before .args .e) (c .before .before .before .before .before .before .before .loop .at) (c .before .before .before .before .before .before .before .loop .inv .2 .0) (c .before .before .before .before .before .before .loop-test .taken) (c .before .before .before .before .before .before .before .before .before .before .pre .1) (c .before .before .before .before .before .before .before .loop .inv .2 .1) _ _ (sym (c .before .before .before .before .entry-at .ensures) ∙ c .before .before .s .given .1) in omega (arith, b .0, b .1, b .2, b .3, b .4, b .5))
-    (λ c. let b = place-bounds _ _ (c .before .before .before .before .before .before .before .before .before .before .args .f .now) (c .before .before .before .before .before .before .before .before .before .before .args .e) (c .before .before .before .before .before .before .before .loop .at) (c .before .before .before .before .before .before .before .loop .inv .2 .0) (c .before .before .before .before .before .before .loop-test .taken) (c .before .before .before .before .before .before .before .before .before .before .pre .1) (c .before .before .before .before .before .before .before .loop .inv .2 .1) _ _ (sym (c .before .before .before .before .entry-at .ensures) ∙ c .before .before .s .given .1) in omega (arith, b .0, b .1, b .2, b .3, b .4, b .5))
+    (λ c. let b = place-bounds _ _ _ (c .before .before .before .before .before .before .before .before .before .before .args .f .now) (c .before .before .before .before .before .before .before .before .before .before .args .e) (c .before .before .before .before .before .before .before .loop .at) (c .before .before .before .before .before .before .before .loop .inv .2 .0) (c .before .before .before .before .before .before .loop-test .taken) (c .before .before .before .before .before .before .before .before .before .before .pre .1) (c .before .before .before .before .before .before .before .loop .inv .2 .1) _ _ (sym (c .before .before .before .before .entry-at .ensures) ∙ c .before .before .s .given .1) in omega (arith, b .0, b .1, b .2 .0, b .2 .1, b .2 .2, b .2 .3))
+    (λ c. let b = place-bounds _ _ _ (c .before .before .before .before .before .before .before .before .before .before .args .f .now) (c .before .before .before .before .before .before .before .before .before .before .args .e) (c .before .before .before .before .before .before .before .loop .at) (c .before .before .before .before .before .before .before .loop .inv .2 .0) (c .before .before .before .before .before .before .loop-test .taken) (c .before .before .before .before .before .before .before .before .before .before .pre .1) (c .before .before .before .before .before .before .before .loop .inv .2 .1) _ _ (sym (c .before .before .before .before .entry-at .ensures) ∙ c .before .before .s .given .1) in omega (arith, b .0, b .1, b .2 .0, b .2 .1, b .2 .2, b .2 .3))
     (λ c.
-    let b = place-bounds _ _ (c .before .before .before .before .before .before .before .before .before .before .args .f .now) (c .before .before .before .before .before .before .before .before .before .before .args .e) (c .before .before .before .before .before .before .before .loop .at) (c .before .before .before .before .before .before .before .loop .inv .2 .0) (c .before .before .before .before .before .before .loop-test .taken) (c .before .before .before .before .before .before .before .before .before .before .pre .1) (c .before .before .before .before .before .before .before .loop .inv .2 .1) _ _ (sym (c .before .before .before .before .entry-at .ensures) ∙ c .before .before .s .given .1) in
-    (omega (arith, b .1), b .1, (c .before .before .before .before .before .before .before .loop .inv .2 .0 - 1, omega (arith, b .0), nth-later _ _ _ _ (place-next _ _ (c .before .before .before .before .before .before .before .before .before .before .args .f .now) (c .before .before .before .before .before .before .before .before .before .before .args .e) (c .before .before .before .before .before .before .before .loop .at) (c .before .before .before .before .before .before .before .loop .inv .2 .0) (c .before .before .before .before .before .before .loop-test .taken) (c .before .before .before .before .before .before .before .before .before .before .pre .1) (c .before .before .before .before .before .before .before .loop .inv .2 .1) _ _ (sym (c .before .before .before .before .entry-at .ensures) ∙ c .before .before .s .given .1)) (c .if1 .left) ∙ c .before .before .before .before .before .before .before .loop .inv .2 .2)))
-    (λ c. nth-none _ _ (place-over _ _ (c .before .before .before .before .args .f .now) (c .before .before .before .before .args .e) (c .before .loop .at) (c .before .loop .inv .2 .0) (c .loop-test .left)) ∙ c .before .loop .inv .2 .2))
+    let b = place-bounds _ _ _ (c .before .before .before .before .before .before .before .before .before .before .args .f .now) (c .before .before .before .before .before .before .before .before .before .before .args .e) (c .before .before .before .before .before .before .before .loop .at) (c .before .before .before .before .before .before .before .loop .inv .2 .0) (c .before .before .before .before .before .before .loop-test .taken) (c .before .before .before .before .before .before .before .before .before .before .pre .1) (c .before .before .before .before .before .before .before .loop .inv .2 .1) _ _ (sym (c .before .before .before .before .entry-at .ensures) ∙ c .before .before .s .given .1) in
+    (omega (arith, b .1), b .1, (c .before .before .before .before .before .before .before .loop .inv .2 .0 - 1, omega (arith, b .0), nth-later _ _ _ _ (place-next _ _ _ (c .before .before .before .before .before .before .before .before .before .before .args .f .now) (c .before .before .before .before .before .before .before .before .before .before .args .e) (c .before .before .before .before .before .before .before .loop .at) (c .before .before .before .before .before .before .before .loop .inv .2 .0) (c .before .before .before .before .before .before .loop-test .taken) (c .before .before .before .before .before .before .before .before .before .before .pre .1) (c .before .before .before .before .before .before .before .loop .inv .2 .1) _ _ (sym (c .before .before .before .before .entry-at .ensures) ∙ c .before .before .s .given .1)) (c .if1 .left) ∙ c .before .before .before .before .before .before .before .loop .inv .2 .2)))
+    (λ c. nth-none _ _ (place-over _ _ _ (c .before .before .before .before .args .f .now) (c .before .before .before .before .args .e) (c .before .loop .at) (c .before .loop .inv .2 .0) (c .loop-test .left)) ∙ c .before .loop .inv .2 .2))

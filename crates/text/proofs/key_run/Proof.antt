@@ -1,19 +1,22 @@
 -- `text::key_run` meets its contract. The invariant: the run from here and the bytes passed make the run from the start. Assumes nothing.
 use mathlib.Core.Path.{_≡_, sym, _∙_}
 use Prim.Native.Nat.{_≤_, _+_, _-_}
+use borrow.Author.Tests.{not-true, not-false}
 use lib.ListN.{length, drop}
-use Rattle.text.specs.Chars.{keyChar}
-use Rattle.text.specs.Runs.{run, run-more, run-end, run-none}
+use Rattle.word.specs.Part.{part-rest, length-part}
+use Rattle.text.specs.Chars.{capital}
+use Rattle.text.specs.Manner.{letter, capital-letter}
+use Rattle.text.specs.Runs.{run, run-more, run-end, run-none, run-part}
 use borrow.Author.Needs.{needs}
 use native.Mathlib.Omega.{arith}
 use Rattle.text.proofs.key_run.Statement.{statement}
 use Rattle.text.proofs.key_run.Tie as tie
 
 abbrev Inv-loop : tie.InvT-loop
-Inv-loop s i₀ i = (i ≤ length s) × (i + run keyChar (drop i s) ≡ run keyChar s)
+Inv-loop s how i₀ i = (i ≤ length s) × (i + run (letter how) (drop i s) ≡ run (letter how) s)
 
 abbrev μ-loop : tie.MeasureT-loop
-μ-loop s i₀ i = length s - i
+μ-loop s how i₀ i = length s - i
 
 pub key-run-spec : {M : Type 1} → statement M
 key-run-spec =
@@ -23,9 +26,42 @@ key-run-spec =
     μ-loop
     (λ c. (search needs, omega arith))
     (λ c. search needs)
+    (λ c. search needs)
+    (λ c. search needs)
     (λ c κs. search needs)
+    (λ c.
+    let l = c .before .before .before in
+    let s = l .before .before .args .s .now in
+    omega (arith, c .capital-run .ensures .1, length-part (l .loop .i) (length s) s (omega arith)))
+    (λ c.
+    let k = c .before in
+    let l = k .before .before .before in
+    let a = l .before .before .args in
+    let s = a .s .now in
+    let i = l .loop .i in
+    let n = k .capital-run .result in
+    let p = run-part (letter (a .how)) capital (capital-letter (a .how)) s i n (rw part-rest at (k .capital-run .ensures .0)) ∙ l .loop .inv .1 in
+    (run-none _ s (i + n) (c .if1 .taken) ∙ p, omega (arith, k .capital-run .ensures .1, length-part i (length s) s (omega arith))))
     (λ c. search needs)
+    (λ c κs. search needs)
+    (λ c.
+    let k = c .before .before .before .before in
+    let l = k .before .before .before in
+    let a = l .before .before .args in
+    let s = a .s .now in
+    let i = l .loop .i in
+    let n = k .capital-run .result in
+    let p = run-part (letter (a .how)) capital (capital-letter (a .how)) s i n (rw part-rest at (k .capital-run .ensures .0)) ∙ l .loop .inv .1 in
+    (run-end _ s (i + n) (c .before .before .before .if1 .left) (sym (c .before .key-char .ensures) ∙ not-true _ (c .if2 .taken)) ∙ p, omega arith))
     (λ c. search needs)
-    (λ c. (search needs, sym (run-more keyChar _ _ (c .before .before .before .loop-test .taken) (sym (c .before .key-char .ensures) ∙ c .if1 .taken)) ∙ c .before .before .before .before .loop .inv .1))
-    (λ c. (run-end keyChar _ _ (c .before .before .before .loop-test .taken) (sym (c .before .key-char .ensures) ∙ c .if1 .left) ∙ c .before .before .before .before .loop .inv .1, search needs))
-    (λ c. (run-none keyChar _ _ (c .loop-test .left) ∙ c .before .loop .inv .1, search needs)))
+    (λ c. omega arith)
+    (λ c.
+    let k = c .before .before .before .before in
+    let l = k .before .before .before in
+    let a = l .before .before .args in
+    let s = a .s .now in
+    let i = l .loop .i in
+    let n = k .capital-run .result in
+    let p = run-part (letter (a .how)) capital (capital-letter (a .how)) s i n (rw part-rest at (k .capital-run .ensures .0)) ∙ l .loop .inv .1 in
+    (omega arith, sym (run-more _ s (i + n) (c .before .before .before .if1 .left) (sym (c .before .key-char .ensures) ∙ not-false _ (c .if2 .left))) ∙ p))
+    (λ c. (run-none _ _ _ (c .loop-test .left) ∙ c .before .loop .inv .1, search needs)))

@@ -12,6 +12,6 @@ value-ok-spec =
     (tie.spec
     (λ c κs. search needs)
     (λ c κs. search needs)
-    (λ c. c .all-lines .ensures ∙ rw (sym (c .before .before .is-note .ensures) ∙ c .before .if1 .taken))
+    (λ c. c .all-lines .ensures ∙ rw (sym (c .before .before .is-named-note .ensures) ∙ c .before .if1 .taken))
     (λ c κs. search needs)
-    (λ c. c .all-value .ensures ∙ rw (sym (c .before .before .is-note .ensures) ∙ c .before .if1 .left)))
+    (λ c. c .all-value .ensures ∙ rw (sym (c .before .before .is-named-note .ensures) ∙ c .before .if1 .left)))

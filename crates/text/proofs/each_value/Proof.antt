@@ -1,0 +1,30 @@
+-- `text::each_value` meets its contract. The invariant: what was found before, and all from here on, is all. Assumes nothing.
+use mathlib.Core.Path.{_≡_, refl, _∙_}
+use mathlib.Core.Bool.{_&&_}
+use Prim.Native.Nat.{_≤_, _-_}
+use lib.ListN.{length, drop}
+use Rattle.text.specs.Chars.{valueChar}
+use Rattle.text.specs.Runs.{all, all-turn, all-through}
+use borrow.Author.Needs.{needs}
+use Rattle.text.proofs.each_value.Statement.{statement}
+use Rattle.text.proofs.each_value.Tie as tie
+
+abbrev Inv-loop : tie.InvT-loop
+Inv-loop s ok₀ i₀ ok i = (i ≤ length s) × ((ok && all valueChar (drop i s)) ≡ all valueChar s)
+
+abbrev μ-loop : tie.MeasureT-loop
+μ-loop s ok₀ i₀ ok i = length s - i
+
+pub each-value-spec : {M : Type 1} → statement M
+each-value-spec =
+    tie.close
+    (tie.spec
+    Inv-loop
+    μ-loop
+    (λ c. (search needs, refl))
+    (λ c. search needs)
+    (λ c κs. search needs)
+    (λ c. search needs)
+    (λ c. search needs)
+    (λ c. (search needs, rw (c .value-char .ensures) (all-turn valueChar (c .before .before .before .before .before .args .s .now) (c .before .before .before .loop .i) (c .before .before .before .loop .ok) (c .before .before .loop-test .taken)) ∙ c .before .before .before .loop .inv .1))
+    (λ c. all-through valueChar _ _ _ (c .loop-test .left) ∙ c .before .loop .inv .1))

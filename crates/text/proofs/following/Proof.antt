@@ -1,0 +1,9 @@
+-- `text::following` meets its contract. Assumes nothing.
+use mathlib.Core.Path.{_∙_}
+use Rattle.text.specs.Manner.{one-manner}
+use borrow.Author.Needs.{needs}
+use Rattle.text.proofs.following.Statement.{statement}
+use Rattle.text.proofs.following.Tie as tie
+
+pub following-spec : {M : Type 1} → statement M
+following-spec = tie.close (tie.spec (λ c κs. search needs) (λ c. c .rising .ensures ∙ rw (one-manner (c .before .before .before .args .how))))

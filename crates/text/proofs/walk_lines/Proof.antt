@@ -1,0 +1,68 @@
+-- `text::walk_lines` meets its contract. The invariant: the walk from here answers as the walk from the start. Assumes nothing.
+use mathlib.Core.Path.{_≡_, refl, sym, _∙_}
+use Prim.Native.Nat.{_≤_, _-_}
+use native.Mathlib.Omega.{arith}
+use lib.ListN.{length, drop}
+use borrow.Author.Tests.{not-true, not-false}
+use Rattle.word.specs.Part.{part-rest}
+use Rattle.text.specs.Note.{lines, lines-start, lines-apart, lines-char, lines-bad, lines-over}
+use borrow.Author.Needs.{needs}
+use Rattle.text.proofs.walk_lines.Statement.{statement}
+use Rattle.text.proofs.walk_lines.Tie as tie
+
+abbrev Inv-loop : tie.InvT-loop
+Inv-loop u s apart₀ i₀ i = (i ≤ length s) × (lines u 0 (drop i s) ≡ lines u 0 s)
+
+abbrev μ-loop : tie.MeasureT-loop
+μ-loop u s apart₀ i₀ i = length s - i
+
+pub walk-lines-spec : {M : Type 1} → statement M
+walk-lines-spec =
+    tie.close
+    (tie.spec
+    Inv-loop
+    μ-loop
+    (λ c. search needs)
+    (λ c κs. search needs)
+    (λ c. (search needs, refl))
+    (λ c. search needs)
+    (λ c κs. search needs)
+    (λ c. search needs)
+    (λ c. search needs)
+    (λ c.
+    let a = c .before .before .before .before .before .before .before .before .before .args in
+    let t = c .before .before .before .before .loop in
+    (search needs, lines-apart (a .u .now) (a .s .now) (t .i) (c .before .before .before .loop-test .taken) (c .before .before .before .before .before .before .before .before .before .pre) (rw (c .before .before .before .before .before .value-char .ensures, c .before .value-char2 .ensures) at (c .if1 .taken)) ∙ t .inv .1))
+    (λ c. search needs)
+    (λ c. search needs)
+    (λ c. search needs)
+    (λ c κs. search needs)
+    (λ c.
+    let a = c .before .before .before .before .before .before .before .before .before .before .before .before .args in
+    let b = lines-start (a .u .now) (a .s .now) (c .before .before .before .before .before .before .before .loop .i) (c .before .before .before .before .before .before .loop-test .taken) (c .before .before .before .before .before .before .before .before .before .before .before .before .pre) ((rw part-rest at (sym (c .before .is-start .ensures))) ∙ c .if2 .taken) in
+    omega (arith, b .0))
+    (λ c.
+    let a = c .before .before .before .before .before .before .before .before .before .before .before .before .args in
+    let b = lines-start (a .u .now) (a .s .now) (c .before .before .before .before .before .before .before .loop .i) (c .before .before .before .before .before .before .loop-test .taken) (c .before .before .before .before .before .before .before .before .before .before .before .before .pre) ((rw part-rest at (sym (c .before .is-start .ensures))) ∙ c .if2 .taken) in
+    omega (arith, b .0, c .before .before .before .before .before .before .before .before .before .before .before .before .pre, c .before .before .before .before .before .before .loop-test .taken))
+    (λ c.
+    let a = c .before .before .before .before .before .before .before .before .before .before .before .before .args in
+    let b = lines-start (a .u .now) (a .s .now) (c .before .before .before .before .before .before .before .loop .i) (c .before .before .before .before .before .before .loop-test .taken) (c .before .before .before .before .before .before .before .before .before .before .before .before .pre) ((rw part-rest at (sym (c .before .is-start .ensures))) ∙ c .if2 .taken) in
+    (b .0, b .1 ∙ c .before .before .before .before .before .before .before .loop .inv .1))
+    (λ c. search needs)
+    (λ c κs. search needs)
+    (λ c.
+    let a = c .before .before .before .before .before .before .before .before .before .before .before .before .before .before .before .args in
+    let t = c .before .before .before .before .before .before .before .before .before .before .loop in
+    let k = c .before .before .before .before .before .before .before .before .before .loop-test .taken in
+    let f = (rw part-rest at (sym (c .before .before .before .before .is-start .ensures))) ∙ c .before .before .before .if2 .left in
+    lines-bad (a .u .now) (a .s .now) (t .i) k f (sym (c .before .value-char3 .ensures) ∙ not-true _ (c .if3 .taken)) ∙ t .inv .1)
+    (λ c. search needs)
+    (λ c. search needs)
+    (λ c.
+    let a = c .before .before .before .before .before .before .before .before .before .before .before .before .before .before .before .args in
+    let t = c .before .before .before .before .before .before .before .before .before .before .loop in
+    let k = c .before .before .before .before .before .before .before .before .before .loop-test .taken in
+    let f = (rw part-rest at (sym (c .before .before .before .before .is-start .ensures))) ∙ c .before .before .before .if2 .left in
+    (search needs, lines-char (a .u .now) (a .s .now) (t .i) k f (sym (c .before .value-char3 .ensures) ∙ not-false _ (c .if3 .left)) ∙ t .inv .1))
+    (λ c. lines-over _ _ _ (c .loop-test .left) ∙ c .before .loop .inv .1))
