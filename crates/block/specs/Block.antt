@@ -1,9 +1,10 @@
--- The trace block (document 01, "The trace block" and rows 8 to 13). f is the image.
+-- The trace block (document 01, "The trace block" and rows 8 to 13). f is the image; b is a block's first 32 bytes, and all that is said of the block
+-- stands there.
 -- Assumes nothing.
 use mathlib.Core.Bool.{Bool, not, _&&_, _||_}
 use mathlib.Core.List.{List, [], _∷_}
 use Prim.Native.Nat.{ℕ, _+_, _*_, _%_}
-use lib.ListN.{length, getD}
+use lib.ListN.{getD}
 use lib.Dec.{ltb, eqb}
 use Rattle.word.specs.Word.{wordAt}
 use Rattle.refusal.specs.declared.Rule.{Rule}
@@ -14,13 +15,20 @@ use Rattle.refusal.specs.declared.Verdict.the-variants.{Accepted, Refused}
 use Rattle.refusal.specs.Table.{refusal}
 use Rattle.refusal.specs.Rows.{Rows, first, pick}
 use Rattle.sample.specs.Needed.{needed}
+use Rattle.refusal.specs.Verdicts.{asked}
 use Rattle.block.specs.declared.TraceBlock.{TraceBlock}
+use Rattle.block.specs.declared.TraceAnswer.{TraceAnswer}
+use Rattle.block.specs.declared.TraceAnswer.the-variants as trace
 
 -- ---- what stands in a trace block, in the file's order
 
 -- "N pointers of 4 bytes start at 32"
 unfoldable pub pointerOf : Bool → List ℕ → ℕ → ℕ
 pointerOf high f k = wordAt 4 high f (32 + 4 * k)
+
+-- 4422h
+abbrev pub traceMark : ℕ
+traceMark = 17442
 
 -- "At pointer p: 4422h, block size B (2 bytes), data size D (4), sample count S (4), format code (1)"
 unfoldable pub markAt : Bool → List ℕ → ℕ → ℕ
@@ -66,23 +74,37 @@ badSamples c s d = (eqb c 3 && not (eqb (s % 4) 0)) || ltb d (needed c s)
 abbrev pub wrong : Rule → ℕ → ℕ → Verdict
 wrong r k at = Refused (refusal r (Trace k) at)
 
-unfoldable pub pointerRow : Bool → List ℕ → ℕ → ℕ → Verdict
-pointerRow high f k prev = pick (badPointer (length f) prev (pointerOf high f k)) (wrong Pointer k (32 + 4 * k)) Accepted
+-- its pointer is p
+unfoldable pub pointerRow : ℕ → ℕ → ℕ → ℕ → Verdict
+pointerRow end k prev p = pick (badPointer end prev p) (wrong Pointer k (32 + 4 * k)) Accepted
 
-abbrev pub blockRows : Bool → List ℕ → ℕ → ℕ → Rows Verdict
-blockRows high f k p =
-    (not (eqb (markAt high f p) 17442), wrong TraceMark k p)
-    ∷ (badBlock (length f) p (blockSize high f p), wrong BlockSize k (p + 2))
-    ∷ (badData (length f) (dataAt high f p) (dataSize high f p), wrong DataSize k (p + 4))
-    ∷ (badCode (formatCode f p), wrong FormatCode k (p + 12))
-    ∷ (badSamples (formatCode f p) (sampleCount high f p) (dataSize high f p), wrong SampleCount k (p + 8))
+-- its block begins at p with the 32 bytes b
+abbrev pub blockRows : Bool → List ℕ → ℕ → ℕ → ℕ → Rows Verdict
+blockRows high b end k p =
+    (not (eqb (markAt high b 0) traceMark), wrong TraceMark k p)
+    ∷ (badBlock end p (blockSize high b 0), wrong BlockSize k (p + 2))
+    ∷ (badData end (p + blockSize high b 0) (dataSize high b 0), wrong DataSize k (p + 4))
+    ∷ (badCode (formatCode b 0), wrong FormatCode k (p + 12))
+    ∷ (badSamples (formatCode b 0) (sampleCount high b 0) (dataSize high b 0), wrong SampleCount k (p + 8))
     ∷ []
 
-unfoldable pub blockOf : Bool → List ℕ → ℕ → ℕ → Verdict
-blockOf high f k p = first (blockRows high f k p) Accepted
+unfoldable pub blockOf : Bool → List ℕ → ℕ → ℕ → ℕ → Verdict
+blockOf high b end k p = first (blockRows high b end k p) Accepted
 
 -- ---- the block as an answer
 
+-- of the 32 bytes b at p
+unfoldable pub blockIn : Bool → List ℕ → ℕ → TraceBlock
+blockIn high b p = record { p = p; b = blockSize high b 0; d = dataSize high b 0; s = sampleCount high b 0; code = formatCode b 0 }
+
+abbrev pub badTrace : Rule → ℕ → ℕ → TraceAnswer
+badTrace r k at = trace.Refused (refusal r (Trace k) at)
+
+-- the check hands on what it read
+unfoldable pub blockAnswer : Bool → List ℕ → ℕ → ℕ → ℕ → TraceAnswer
+blockAnswer high b end k p = asked trace.Refused (blockOf high b end k p) (trace.Is (blockIn high b p))
+
+-- of the trace k of an image
 unfoldable pub traceBlockOf : Bool → List ℕ → ℕ → TraceBlock
 traceBlockOf high f k =
     let p = pointerOf high f k in

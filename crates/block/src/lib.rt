@@ -1,6 +1,6 @@
 // The trace block (document 01, "The trace block", rows 8 to 13): its pointer, sizes, format code and sample count.
 // Block has the definitions, BlockLaws what a trace that passes the rows has. Stands on `sample`, `word`, `refusal`.
-// f is the image; `high` is its byte order, k the trace, p its pointer.
+// f is the image, b the first 32 bytes of a block; `high` is the byte order, k the trace, p its pointer.
 // The rules in words: docs/FORMAT.md, "The trace block".
 use refusal::Part;
 use refusal::Refusal;
@@ -9,7 +9,22 @@ use refusal::Verdict;
 ghost use mathlib.Core.Path.{_≡_};
 ghost use Prim.Native.Nat.{_+_, _*_, _≤_, _<_};
 ghost use lib.ListN.{length};
-ghost use Rattle.block.specs.Block.{badPointer, badBlock, badData, badCode, badSamples, wrong, pointerOf, pointerRow, blockOf, traceBlockOf};
+ghost use Rattle.block.specs.Block.{badPointer, badBlock, badData, badCode, badSamples, wrong, badTrace, pointerOf, pointerRow, blockIn, blockAnswer, traceBlockOf};
+
+// Where the block stands, its size B, the data's size D, the sample count S and the format code. The strings stand from p+32 to p+B, the data
+// from p+B on.
+pub struct TraceBlock {
+    pub p: usize,
+    pub b: usize,
+    pub d: usize,
+    pub s: usize,
+    pub code: u8,
+}
+
+pub enum TraceAnswer {
+    Is(TraceBlock),
+    Refused(Refusal),
+}
 
 // ---- the trace blocks
 
@@ -46,16 +61,6 @@ fn is_bad_samples(c: u8, s: u32, d: usize) -> bool
     ((c == 3) & (s % 4 != 0)) | (d < sample::needed(c, s))
 }
 
-fn wronging(rule: Rule, k: u16, place: usize) -> Verdict
-    ensures { λ r. ⌜ r ≡ wrong rule k place ⌝ }
-{
-    Verdict::Refused(Refusal {
-        rule,
-        part: Part::Trace(k),
-        place,
-    })
-}
-
 // The pointer to the trace k.
 pub fn pointer(f: &[u8], high: bool, k: u16) -> usize
     requires { ⌜ 36 + 4 * k ≤ length (now f) ⌝ }
@@ -64,62 +69,80 @@ pub fn pointer(f: &[u8], high: bool, k: u16) -> usize
     word::word4(f, high, 32 + 4 * (k as usize))
 }
 
-// Row 8 of the trace k, behind what ends at prev.
-pub fn pointer_row(f: &[u8], high: bool, k: u16, prev: usize) -> Verdict
-    requires { ⌜ 36 + 4 * k ≤ length (now f) ⌝ }
-    ensures { λ r. ⌜ r ≡ pointerRow high (now (f .entry)) k prev ⌝ }
+// Row 8 of the trace k, whose pointer is p, behind what ends at prev, in an image that ends at `end`.
+pub fn pointer_row(end: usize, k: u16, prev: usize, p: usize) -> Verdict
+    requires { ⌜ p < 4294967296 ⌝ }
+    ensures { λ r. ⌜ r ≡ pointerRow end k prev p ⌝ }
 {
-    if is_bad_pointer(f.len(), prev, pointer(f, high, k)) {
-        return wronging(Rule::Pointer, k, 32 + 4 * (k as usize));
+    if is_bad_pointer(end, prev, p) {
+        return Verdict::Refused(Refusal {
+            rule: Rule::Pointer,
+            part: Part::Trace(k),
+            place: 32 + 4 * (k as usize),
+        });
     }
     Verdict::Accepted
 }
 
-// Rows 9 to 13 of the trace k, whose block begins at p.
-pub fn block_rows(f: &[u8], high: bool, k: u16, p: usize) -> Verdict
-    requires { ⌜ (p < 4294967296) × (p + 32 ≤ length (now f)) ⌝ }
-    ensures { λ r. ⌜ r ≡ blockOf high (now (f .entry)) k p ⌝ }
+// The block whose first 32 bytes are b, at p.
+pub fn block_in(b: &[u8], high: bool, p: usize) -> TraceBlock
+    requires { ⌜ 32 ≤ length (now b) ⌝ }
+    ensures { λ r. ⌜ (r ≡ blockIn high (now (b .entry)) p) × (r .b < 65536) × (r .d < 4294967296) × (r .s < 4294967296) ⌝ }
 {
-    let end = f.len();
-    if word::word2(f, high, p) != 17442 {
-        return wronging(Rule::TraceMark, k, p);
+    let size = word::word2(b, high, 2);
+    let d = word::word4(b, high, 4);
+    let s = word::word4(b, high, 8);
+    let code = b[12];
+    TraceBlock {
+        p,
+        b: size,
+        d,
+        s,
+        code,
     }
-    let b = word::word2(f, high, p + 2);
-    if is_bad_block(end, p, b) {
-        return wronging(Rule::BlockSize, k, p + 2);
-    }
-    let d = word::word4(f, high, p + 4);
-    if is_bad_data(end, p + b, d) {
-        return wronging(Rule::DataSize, k, p + 4);
-    }
-    let code = f[p + 12];
-    if is_bad_code(code) {
-        return wronging(Rule::FormatCode, k, p + 12);
-    }
-    if is_bad_samples(code, word::word4(f, high, p + 8) as u32, d) {
-        return wronging(Rule::SampleCount, k, p + 8);
-    }
-    Verdict::Accepted
 }
 
-// Where the block stands, its size B, the data's size D, the sample count S and the format code. The strings stand from p+32 to p+B, the data
-// from p+B on.
-pub struct TraceBlock {
-    pub p: usize,
-    pub b: usize,
-    pub d: usize,
-    pub s: usize,
-    pub code: u8,
+fn bad_trace(rule: Rule, k: u16, place: usize) -> TraceAnswer
+    ensures { λ r. ⌜ r ≡ badTrace rule k place ⌝ }
+{
+    TraceAnswer::Refused(Refusal {
+        rule,
+        part: Part::Trace(k),
+        place,
+    })
 }
 
+// Rows 9 to 13 of the trace k, whose block begins with the 32 bytes b at p, in an image that ends at `end`; and the block. 4422h is 17442.
+pub fn block_rows(b: &[u8], high: bool, end: usize, k: u16, p: usize) -> TraceAnswer
+    requires { ⌜ (p < 4294967296) × (32 ≤ length (now b)) ⌝ }
+    ensures { λ r. ⌜ r ≡ blockAnswer high (now (b .entry)) end k p ⌝ }
+{
+    let mark = word::word2(b, high, 0);
+    let x = block_in(b, high, p);
+    if mark != 17442 {
+        return bad_trace(Rule::TraceMark, k, p);
+    }
+    if is_bad_block(end, p, x.b) {
+        return bad_trace(Rule::BlockSize, k, p + 2);
+    }
+    if is_bad_data(end, p + x.b, x.d) {
+        return bad_trace(Rule::DataSize, k, p + 4);
+    }
+    if is_bad_code(x.code) {
+        return bad_trace(Rule::FormatCode, k, p + 12);
+    }
+    if is_bad_samples(x.code, x.s as u32, x.d) {
+        return bad_trace(Rule::SampleCount, k, p + 8);
+    }
+    TraceAnswer::Is(x)
+}
+
+// The block of a trace of which rows 8 to 13 are known to be kept.
 pub fn trace_block(f: &[u8], high: bool, k: u16) -> TraceBlock
     requires { ⌜ (36 + 4 * k ≤ length (now f)) × (pointerOf high (now f) k + 32 ≤ length (now f)) ⌝ }
     ensures { λ r. ⌜ r ≡ traceBlockOf high (now (f .entry)) k ⌝ }
 {
     let p = pointer(f, high, k);
-    let b = word::word2(f, high, p + 2);
-    let d = word::word4(f, high, p + 4);
-    let s = word::word4(f, high, p + 8);
-    let code = f[p + 12];
-    TraceBlock { p, b, d, s, code }
+    let e = p + 32;
+    block_in(&f[p..e], high, p)
 }

@@ -1,8 +1,9 @@
--- The file block (document 01, "The file block" and rows 2 to 7). f is the image: the bytes that are the file.
+-- The file block (document 01, "The file block" and rows 2 to 7). f is the image, the bytes that are the file, or no more than its first 32: all that
+-- is said of the block stands there.
 -- Assumes nothing.
-use mathlib.Core.Bool.{Bool, not, _&&_, _||_}
+use mathlib.Core.Bool.{Bool, true, false, not, _&&_, _||_}
 use mathlib.Core.List.{List, [], _∷_}
-use Prim.Native.Nat.{ℕ, _+_, _/_, _%_}
+use Prim.Native.Nat.{ℕ, _+_, _/_, _%_, _<_}
 use lib.ListN.{length, getD}
 use lib.Dec.{ltb, eqb}
 use Rattle.word.specs.Part.{part}
@@ -16,7 +17,12 @@ use Rattle.refusal.specs.Table.{refusal}
 use Rattle.refusal.specs.Rows.{Rows, first}
 use Rattle.text.specs.Chars.{control}
 use Rattle.text.specs.Runs.{all}
+use Rattle.refusal.specs.Verdicts.{asked}
+use Rattle.head.specs.declared.Purpose.{Purpose}
+use Rattle.head.specs.declared.Purpose.the-variants.{Read, Grow}
 use Rattle.head.specs.declared.FileBlock.{FileBlock}
+use Rattle.head.specs.declared.FileAnswer.{FileAnswer}
+use Rattle.head.specs.declared.FileAnswer.the-variants as file
 
 -- ---- what stands in the first 32 bytes
 
@@ -63,13 +69,18 @@ lacks u b = all (λ x. not (eqb x b)) u
 unfoldable pub apart : List ℕ → List ℕ → Bool
 apart t u = all (lacks u) t
 
--- ---- rows 2 to 7. An addition also takes an image with N=0: `grow` says so
+-- ---- rows 2 to 7, on the first 32 bytes b of an image that ends at `end`
+
+-- "The addition also takes an image with N=0"
+abbrev pub mayBeEmpty : Purpose → Bool
+mayBeEmpty Read = false
+mayBeEmpty Grow = true
 
 abbrev pub badRoom : ℕ → Bool
 badRoom m = ltb m 4 || not (eqb (m % 4) 0)
 
-abbrev pub badCount : Bool → ℕ → ℕ → Bool
-badCount grow m n = (eqb n 0 && not grow) || ltb (m / 4) n
+abbrev pub badCount : Purpose → ℕ → ℕ → Bool
+badCount purpose m n = (eqb n 0 && not (mayBeEmpty purpose)) || ltb (m / 4) n
 
 abbrev pub badLines : List ℕ → Bool
 badLines f = not (goodTerminator f 11) || not (apart (stringEnd f) (lineEnd f))
@@ -77,21 +88,33 @@ badLines f = not (goodTerminator f 11) || not (apart (stringEnd f) (lineEnd f))
 abbrev pub refused : Rule → ℕ → Verdict
 refused r at = Refused (refusal r File at)
 
-abbrev pub headRows : Bool → List ℕ → Rows Verdict
-headRows grow f =
-    (not (known f), refused FirstBytes 0)
-    ∷ (not (eqb (revisionOf f) 1), refused Revision 2)
-    ∷ (badRoom (roomOf f), refused PointerRoom 4)
-    ∷ (badCount grow (roomOf f) (countOf f), refused TraceCount 6)
-    ∷ (not (goodTerminator f 8), refused Terminator 8)
-    ∷ (badLines f, refused Terminator 11)
-    ∷ (ltb (length f) (32 + roomOf f), refused RoomEnd 4)
+abbrev pub headRows : Purpose → List ℕ → ℕ → Rows Verdict
+headRows purpose b end =
+    (not (known b), refused FirstBytes 0)
+    ∷ (not (eqb (revisionOf b) 1), refused Revision 2)
+    ∷ (badRoom (roomOf b), refused PointerRoom 4)
+    ∷ (badCount purpose (roomOf b) (countOf b), refused TraceCount 6)
+    ∷ (not (goodTerminator b 8), refused Terminator 8)
+    ∷ (badLines b, refused Terminator 11)
+    ∷ (ltb end (32 + roomOf b), refused RoomEnd 4)
     ∷ []
 
-unfoldable pub headOf : Bool → List ℕ → Verdict
-headOf grow f = first (headRows grow f) Accepted
+unfoldable pub headOf : Purpose → List ℕ → ℕ → Verdict
+headOf purpose b end = first (headRows purpose b end) Accepted
 
--- ---- the block as an answer
+-- ---- the block as an answer: order, M and N, and the lengths of the two terminators, whose characters stand in bytes 9 and 12 on
 
 unfoldable pub fileBlockOf : List ℕ → FileBlock
-fileBlockOf f = record { high = highFirst f; m = roomOf f; n = countOf f }
+fileBlockOf b = record { high = highFirst b; m = roomOf b; n = countOf b; strings = getD b 8 0; lines = getD b 11 0 }
+
+abbrev pub badFile : Rule → ℕ → FileAnswer
+badFile r at = file.Refused (refusal r File at)
+
+-- the check hands on what it read
+unfoldable pub headAnswer : Purpose → List ℕ → ℕ → FileAnswer
+headAnswer purpose b end = asked file.Refused (headOf purpose b end) (file.Is (fileBlockOf b))
+
+-- M and N are words of two bytes
+abbrev pub InWords : FileAnswer → Type 0
+InWords (file.Is x) = (x .m < 65536) × (x .n < 65536)
+InWords (file.Refused r) = Unit {0}

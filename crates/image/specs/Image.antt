@@ -1,7 +1,8 @@
--- The check of a whole file (document 01, rows 1 and 8 to 17 in their order; rows 2 to 7 are head/Head, the rows of a trace block/Block). f is the image.
+-- The check of a whole file (document 01, rows 1 and 8 to 17 in their order; rows 2 to 7 are head/Head, the rows of a block block/Block). f is the image,
+-- `how` the manner of reading.
 -- Assumes nothing.
 use mathlib.Core.Bool.{Bool, _||_}
-use mathlib.Core.List.{List}
+use mathlib.Core.List.{List, [], _∷_}
 use Prim.Native.Nat.{ℕ, zero, suc, _+_}
 use lib.ListN.{length, take}
 use lib.Dec.{ltb, eqb}
@@ -10,56 +11,69 @@ use Rattle.refusal.specs.declared.Rule.the-variants.{Length}
 use Rattle.refusal.specs.declared.Part.{Part}
 use Rattle.refusal.specs.declared.Part.the-variants.{File, Trace}
 use Rattle.refusal.specs.declared.Verdict.{Verdict}
-use Rattle.refusal.specs.declared.Verdict.the-variants.{Accepted, Refused}
+use Rattle.refusal.specs.declared.Verdict.the-variants.{Accepted}
 use Rattle.refusal.specs.Rows.{pick}
+use Rattle.refusal.specs.Verdicts.{asked, andThen}
+use Rattle.refusal.specs.FirstRow.{firstOf}
+use Rattle.text.specs.declared.Manner.{Manner}
 use Rattle.strings.specs.Strings.{stringsOf}
 use Rattle.image.specs.declared.Walked.{Walked}
 use Rattle.image.specs.declared.Walked.the-variants.{Past, Bad}
 use Rattle.block.specs.Block.{pointerOf, blockSize, endAt, pointerRow, blockOf}
+use Rattle.block.specs.BlockLaws.{headAt}
+use Rattle.head.specs.declared.Purpose.{Purpose}
 use Rattle.head.specs.Head.{highFirst, roomOf, countOf, stringEnd, lineEnd, headOf, refused}
 
 -- rows 14 to 17 of an area of the file: "The file's strings fill the bytes from 32+M to the first pointer", "strings from byte 32 to B"
-unfoldable pub areaOf : Bool → List ℕ → List ℕ → List ℕ → Part → ℕ → ℕ → Verdict
-areaOf high t u f whose a e = stringsOf high t u whose (part a e f) a
+unfoldable pub areaVerdict : Manner → Bool → List ℕ → List ℕ → List ℕ → Part → ℕ → ℕ → Verdict
+areaVerdict how high t u f whose a e = stringsOf how high t u whose (part a e f) a
+
+-- ---- "each trace 8 to 17", one list of checks in their order
+
+-- 9 to 13 and 14 to 17 of the trace k, whose block begins at p
+abbrev pub blockChecks : Manner → Bool → List ℕ → List ℕ → List ℕ → ℕ → ℕ → List Verdict
+blockChecks how high t u f k p =
+    blockOf high (headAt f p) (length f) k p ∷ areaVerdict how high t u f (Trace k) (p + 32) (p + blockSize high f p) ∷ []
+
+-- and before them 8, behind what ends at prev
+abbrev pub traceChecks : Manner → Bool → List ℕ → List ℕ → List ℕ → ℕ → ℕ → List Verdict
+traceChecks how high t u f k prev =
+    pointerRow (length f) k prev (pointerOf high f k) ∷ blockChecks how high t u f k (pointerOf high f k)
+
+unfoldable pub traceOf : Manner → Bool → List ℕ → List ℕ → List ℕ → ℕ → ℕ → Verdict
+traceOf how high t u f k prev = firstOf (traceChecks how high t u f k prev)
+
+-- what a walk over the traces has of a trace at p: its checks' refusal, or where it ends
+abbrev pub walked : Verdict → Bool → List ℕ → ℕ → Walked
+walked v high f p = asked Bad v (Past (endAt high f p))
+
+-- the traces from k on, so many of them, behind what ends at prev
+unfoldable pub tracesFrom : Manner → Bool → List ℕ → List ℕ → List ℕ → ℕ → ℕ → ℕ → Verdict
+tracesFrom how high t u f zero k prev = Accepted
+tracesFrom how high t u f (suc left) k prev =
+    andThen (traceOf how high t u f k prev) (tracesFrom how high t u f left (k + 1) (endAt high f (pointerOf high f k)))
 
 -- ---- the whole
 
-unfoldable pub andThen : Verdict → Verdict → Verdict
-andThen Accepted v = v
-andThen (Refused r) v = Refused r
+-- where there is a trace: "the first pointer, then the file's strings, then each trace 8 to 17"
+abbrev pub filledChecks : Manner → Bool → List ℕ → List ℕ → List ℕ → ℕ → ℕ → List Verdict
+filledChecks how high t u f m n =
+    pointerRow (length f) 0 (32 + m) (pointerOf high f 0)
+    ∷ areaVerdict how high t u f File (32 + m) (pointerOf high f 0)
+    ∷ tracesFrom how high t u f n 0 (32 + m)
+    ∷ []
 
--- "each trace 8 to 17"
-unfoldable pub traceOf : Bool → List ℕ → List ℕ → List ℕ → ℕ → ℕ → Verdict
-traceOf high t u f k prev =
-    andThen (pointerRow high f k prev)
-    (andThen (blockOf high f k (pointerOf high f k))
-    (areaOf high t u f (Trace k) (pointerOf high f k + 32) (pointerOf high f k + blockSize high f (pointerOf high f k))))
+-- behind rows 2 to 7. "With N=0 the file's strings run to the image's end"
+unfoldable pub restOf : Manner → Bool → List ℕ → List ℕ → List ℕ → ℕ → ℕ → Verdict
+restOf how high t u f m n = pick (eqb n 0) (areaVerdict how high t u f File (32 + m) (length f)) (firstOf (filledChecks how high t u f m n))
 
--- the same with where the trace then ends, as the walk over the traces has it
-unfoldable pub onVerdict : Verdict → ℕ → Walked
-onVerdict Accepted end = Past end
-onVerdict (Refused r) end = Bad r
-
-unfoldable pub walkedOf : Bool → List ℕ → List ℕ → List ℕ → ℕ → ℕ → Walked
-walkedOf high t u f k prev = onVerdict (traceOf high t u f k prev) (endAt high f (pointerOf high f k))
-
--- the traces from k on, so many of them, behind what ends at prev
-unfoldable pub tracesFrom : Bool → List ℕ → List ℕ → List ℕ → ℕ → ℕ → ℕ → Verdict
-tracesFrom high t u f zero k prev = Accepted
-tracesFrom high t u f (suc left) k prev = andThen (traceOf high t u f k prev) (tracesFrom high t u f left (k + 1) (endAt high f (pointerOf high f k)))
-
--- behind rows 2 to 7: "the first pointer, then the file's strings, then each trace 8 to 17"; "With N=0 the file's strings run to the image's end"
-unfoldable pub restOf : Bool → List ℕ → List ℕ → List ℕ → ℕ → ℕ → Verdict
-restOf high t u f m n =
-    pick (eqb n 0) (areaOf high t u f File (32 + m) (length f))
-    (andThen (pointerRow high f 0 (32 + m)) (andThen (areaOf high t u f File (32 + m) (pointerOf high f 0)) (tracesFrom high t u f n 0 (32 + m))))
-
-unfoldable pub imageOf : Bool → List ℕ → Verdict
-imageOf grow f = andThen (headOf grow f) (restOf (highFirst f) (stringEnd f) (lineEnd f) f (roomOf f) (countOf f))
+unfoldable pub imageOf : Manner → Purpose → List ℕ → Verdict
+imageOf how purpose f =
+    andThen (headOf purpose (take 32 f) (length f)) (restOf how (highFirst f) (stringEnd f) (lineEnd f) f (roomOf f) (countOf f))
 
 -- "length under 32, over the maximum, or over the buffer"; the image is the first n bytes
 abbrev pub badLength : ℕ → ℕ → Bool
 badLength size n = ltb n 32 || (ltb 67108864 n || ltb size n)
 
-unfoldable pub checkOf : Bool → List ℕ → ℕ → Verdict
-checkOf grow xs n = pick (badLength (length xs) n) (refused Length 0) (imageOf grow (take n xs))
+unfoldable pub checkOf : Manner → Purpose → List ℕ → ℕ → Verdict
+checkOf how purpose xs n = pick (badLength (length xs) n) (refused Length 0) (imageOf how purpose (take n xs))

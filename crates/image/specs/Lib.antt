@@ -1,5 +1,4 @@
 pub mod Image
-pub mod ImageLaws
 pub mod Keeps
+pub mod ImageLaws
 pub mod Accepted
-pub mod Broken

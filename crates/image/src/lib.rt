@@ -1,15 +1,23 @@
 // The check of a whole file (document 01, rows 1 to 17, in the order of its table). Image has the walk, Keeps the rules in no order; Accepted proves
-// that an image is accepted exactly where it keeps the rules, Broken that a refusal is the first row met. Stands on `head`, `block`, `strings`.
-// f is the image, the first `n` bytes of the lent buffer; t and u are its terminators, `grow` says that an addition asks.
+// that an image is accepted exactly where it keeps the rules. Stands on `head`, `block`, `strings`.
+// f is the image, the first `n` bytes of the lent buffer; t and u are its terminators, `how` is the manner of reading. Each part of the check hands on
+// what it read.
 // The rules in words: docs/FORMAT.md, "Refusal numbers, in order of checking".
+use block::TraceAnswer;
+use head::FileAnswer;
+use head::FileBlock;
+use head::Purpose;
 use refusal::Part;
 use refusal::Refusal;
 use refusal::Rule;
 use refusal::Verdict;
+use text::Manner;
 ghost use mathlib.Core.Path.{_≡_};
-ghost use Prim.Native.Nat.{_+_, _*_, _≤_, _<_};
+ghost use Prim.Native.Nat.{_+_, _-_, _*_, _≤_, _<_};
 ghost use lib.ListN.{length};
-ghost use Rattle.image.specs.Image.{walkedOf, tracesFrom, restOf, imageOf, checkOf};
+ghost use Rattle.refusal.specs.FirstRow.{firstOf};
+ghost use Rattle.block.specs.Block.{pointerOf};
+ghost use Rattle.image.specs.Image.{blockChecks, traceOf, walked, tracesFrom, restOf, imageOf, checkOf};
 
 // Whether a trace was accepted, and where it then ends.
 pub enum Walked {
@@ -17,37 +25,48 @@ pub enum Walked {
     Bad(Refusal),
 }
 
-// Rows 8 to 17 of the trace k, behind what ends at prev.
-fn trace(f: &[u8], high: bool, t: &[u8], u: &[u8], k: u16, prev: usize) -> Walked
-    requires { ⌜ (36 + 4 * k ≤ length (now f)) × (0 < length (now u)) ⌝ }
-    ensures { λ r. ⌜ r ≡ walkedOf high (now (t .entry)) (now (u .entry)) (now (f .entry)) k prev ⌝ }
+// Rows 9 to 17 of the trace k, whose block begins at p.
+fn block(f: &[u8], high: bool, t: &[u8], u: &[u8], k: u16, p: usize, how: Manner) -> Walked
+    requires { ⌜ (p < 4294967296) × (p + 32 ≤ length (now f)) × (0 < length (now u)) ⌝ }
+    ensures { λ r. ⌜ r ≡ walked (firstOf (blockChecks how high (now (t .entry)) (now (u .entry)) (now (f .entry)) k p)) high (now (f .entry)) p ⌝ }
 {
-    let row = block::pointer_row(f, high, k, prev);
-    if let Verdict::Refused(r) = row {
-        return Walked::Bad(r);
+    let from = p + 32;
+    let rows = block::block_rows(&f[p..from], high, f.len(), k, p);
+    match rows {
+        TraceAnswer::Refused(r) => Walked::Bad(r),
+        TraceAnswer::Is(x) => {
+            let end = p + x.b;
+            let strings = strings::check(f, from, end, high, t, u, Part::Trace(k), how);
+            match strings {
+                Verdict::Refused(r) => Walked::Bad(r),
+                Verdict::Accepted => Walked::Past(end + x.d),
+            }
+        }
     }
-    let p = block::pointer(f, high, k);
-    let rows = block::block_rows(f, high, k, p);
-    if let Verdict::Refused(r) = rows {
-        return Walked::Bad(r);
-    }
-    let b = word::word2(f, high, p + 2);
-    let strings = strings::check(f, p + 32, p + b, high, t, u, Part::Trace(k));
-    if let Verdict::Refused(r) = strings {
-        return Walked::Bad(r);
-    }
-    Walked::Past(p + b + word::word4(f, high, p + 4))
 }
 
-// Each trace, 8 to 17, behind what ends at start.
-fn traces(f: &[u8], high: bool, t: &[u8], u: &[u8], n: u16, start: usize) -> Verdict
-    requires { ⌜ (32 + 4 * n ≤ length (now f)) × (0 < length (now u)) ⌝ }
-    ensures { λ r. ⌜ r ≡ tracesFrom high (now (t .entry)) (now (u .entry)) (now (f .entry)) n 0 start ⌝ }
+// Rows 8 to 17 of the trace k, behind what ends at prev.
+fn trace(f: &[u8], high: bool, t: &[u8], u: &[u8], k: u16, prev: usize, how: Manner) -> Walked
+    requires { ⌜ (36 + 4 * k ≤ length (now f)) × (0 < length (now u)) ⌝ }
+    ensures { λ r. ⌜ r ≡ walked (traceOf how high (now (t .entry)) (now (u .entry)) (now (f .entry)) k prev) high (now (f .entry)) (pointerOf high (now (f .entry)) k) ⌝ }
 {
-    let mut k: u16 = 0;
+    let p = block::pointer(f, high, k);
+    let row = block::pointer_row(f.len(), k, prev, p);
+    match row {
+        Verdict::Refused(r) => Walked::Bad(r),
+        Verdict::Accepted => block(f, high, t, u, k, p, how),
+    }
+}
+
+// Each trace from 1 on, 8 to 17, behind what ends at start.
+fn traces(f: &[u8], high: bool, t: &[u8], u: &[u8], n: u16, start: usize, how: Manner) -> Verdict
+    requires { ⌜ (32 + 4 * n ≤ length (now f)) × (0 < n) × (0 < length (now u)) ⌝ }
+    ensures { λ r. ⌜ r ≡ tracesFrom how high (now (t .entry)) (now (u .entry)) (now (f .entry)) (n - 1) 1 start ⌝ }
+{
+    let mut k: u16 = 1;
     let mut prev = start;
     while k < n {
-        let w = trace(f, high, t, u, k, prev);
+        let w = trace(f, high, t, u, k, prev, how);
         match w {
             Walked::Bad(r) => {
                 return Verdict::Refused(r);
@@ -61,54 +80,58 @@ fn traces(f: &[u8], high: bool, t: &[u8], u: &[u8], n: u16, start: usize) -> Ver
     Verdict::Accepted
 }
 
-// What comes behind rows 2 to 7: the first pointer, the file's strings, the traces; with N=0 the strings run to the end.
-fn rest(f: &[u8], high: bool, t: &[u8], u: &[u8], m: usize, n: u16) -> Verdict
+// What comes behind rows 2 to 7: the first pointer, the file's strings, the traces; with N=0 the strings run to the end. The first pointer is judged
+// once, and the first trace goes on from it.
+fn rest(f: &[u8], high: bool, t: &[u8], u: &[u8], m: usize, n: u16, how: Manner) -> Verdict
     requires { ⌜ (32 + m ≤ length (now f)) × (4 * n ≤ m) × (0 < length (now u)) ⌝ }
-    ensures { λ r. ⌜ r ≡ restOf high (now (t .entry)) (now (u .entry)) (now (f .entry)) m n ⌝ }
+    ensures { λ r. ⌜ r ≡ restOf how high (now (t .entry)) (now (u .entry)) (now (f .entry)) m n ⌝ }
 {
     let start = 32 + m;
     if n == 0 {
-        return strings::check(f, start, f.len(), high, t, u, Part::File);
+        return strings::check(f, start, f.len(), high, t, u, Part::File, how);
     }
-    let row = block::pointer_row(f, high, 0, start);
+    let p = block::pointer(f, high, 0);
+    let row = block::pointer_row(f.len(), 0, start, p);
     if let Verdict::Refused(r) = row {
         return Verdict::Refused(r);
     }
-    let strings = strings::check(f, start, block::pointer(f, high, 0), high, t, u, Part::File);
+    let strings = strings::check(f, start, p, high, t, u, Part::File, how);
     if let Verdict::Refused(r) = strings {
         return Verdict::Refused(r);
     }
-    traces(f, high, t, u, n, start)
+    let w = block(f, high, t, u, 0, p, how);
+    match w {
+        Walked::Bad(r) => Verdict::Refused(r),
+        Walked::Past(end) => traces(f, high, t, u, n, end, how),
+    }
 }
 
 // Rows 2 to 17.
-fn image(f: &[u8], grow: bool) -> Verdict
+fn image(f: &[u8], purpose: Purpose, how: Manner) -> Verdict
     requires { ⌜ 32 ≤ length (now f) ⌝ }
-    ensures { λ r. ⌜ r ≡ imageOf grow (now (f .entry)) ⌝ }
+    ensures { λ r. ⌜ r ≡ imageOf how purpose (now (f .entry)) ⌝ }
 {
-    let top = head::head(f, grow);
-    if let Verdict::Refused(r) = top {
-        return Verdict::Refused(r);
+    let top = head::head(&f[..32], f.len(), purpose);
+    match top {
+        FileAnswer::Refused(r) => Verdict::Refused(r),
+        FileAnswer::Is(x) => rest(
+            f,
+            x.high,
+            head::string_end(f),
+            head::line_end(f),
+            x.m,
+            x.n as u16,
+            how,
+        ),
     }
-    let high = head::is_high(f);
-    let m = word::word2(f, high, 4);
-    let n = word::word2(f, high, 6);
-    rest(
-        f,
-        high,
-        head::terminator(f, 8),
-        head::terminator(f, 11),
-        m,
-        n as u16,
-    )
 }
 
-// The check of a file: the first row met, or accepted. `grow` says that an addition asks, which also takes an image with N=0.
-pub fn check(buffer: &[u8], n: usize, grow: bool) -> Verdict
-    ensures { λ r. ⌜ r ≡ checkOf grow (now (buffer .entry)) n ⌝ }
+// The check of a file: the first row met, or accepted.
+pub fn check(buffer: &[u8], n: usize, purpose: Purpose, how: Manner) -> Verdict
+    ensures { λ r. ⌜ r ≡ checkOf how purpose (now (buffer .entry)) n ⌝ }
 {
     if (n < 32) | ((67108864 < n) | (buffer.len() < n)) {
         return head::refusing(Rule::Length, 0);
     }
-    image(&buffer[..n], grow)
+    image(&buffer[..n], purpose, how)
 }

@@ -11,9 +11,7 @@ pointer-row-spec =
     tie.close
     (tie.spec
     (λ c κs. search needs)
-    (λ c κs. search needs)
     (λ c. search needs)
     (λ c. search needs)
-    (λ c κs. search needs)
-    (λ c. c .wronging .ensures ∙ rw (← c .before .before .before .pointer .ensures .0, sym (c .before .before .is-bad-pointer .ensures) ∙ c .before .if1 .taken))
-    (λ c. rw (← c .before .before .pointer .ensures .0, sym (c .before .is-bad-pointer .ensures) ∙ c .if1 .left)))
+    (λ c. rw (sym (c .before .is-bad-pointer .ensures) ∙ c .if1 .taken))
+    (λ c. rw (sym (c .before .is-bad-pointer .ensures) ∙ c .if1 .left)))

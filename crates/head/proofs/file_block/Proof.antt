@@ -13,4 +13,22 @@ file-block-spec =
     (λ c κs. search needs)
     (λ c κs. search needs)
     (λ c κs. search needs)
-    (λ c. rw (← c .before .before .is-high .ensures, room-read _ _ (c .before .before .is-high .ensures) _ (c .before .word2 .ensures .0), count-read _ _ (c .before .before .is-high .ensures) _ (c .word22 .ensures .0))))
+    (λ c. search needs)
+    (λ c κs. search needs)
+    (λ c. search needs)
+    (λ c κs. search needs)
+    (λ c.
+    let c2 = c .before .before in
+    let c4 = c2 .before .before in
+    let c5 = c4 .before in
+    let c6 = c5 .before in (
+      rw (
+        ← c6 .is-high .ensures,
+        room-read _ _ (c6 .is-high .ensures) _ (c5 .word2 .ensures .0),
+        count-read _ _ (c6 .is-high .ensures) _ (c4 .word22 .ensures .0),
+        c2 .wide .ensures .0,
+        c .wide2 .ensures .0,
+      ),
+      c5 .word2 .ensures .1,
+      c4 .word22 .ensures .1,
+    )))

@@ -22,7 +22,7 @@ is-bad-lines-spec =
     rw (
       (sym (c4 .is-good .ensures) ∙ not-false _ (c3 .if1 .left)),
       c .is-apart .ensures,
-      c2 .terminator .ensures .0,
-      c1 .terminator2 .ensures
+      c2 .string-end .ensures .0,
+      c1 .line-end .ensures
           .0,
     ))))
