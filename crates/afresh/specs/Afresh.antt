@@ -3,11 +3,14 @@
 -- Assumes nothing.
 use mathlib.Core.Path.{_≡_, refl, ap, _∙_}
 use mathlib.Core.Bool.{Bool, true}
-use mathlib.Core.List.{List, [], _∷_, _++_}
+use mathlib.Core.List.{List, [], _∷_, _++_, append-assoc}
 use Prim.Native.Nat.{ℕ, _+_, _*_, _≤_, _<_}
 use native.Mathlib.Omega.{arith}
 use lib.ListN.{length, take}
 use lib.Dec.{eqb}
+use Rattle.head.specs.declared.Purpose.{Purpose}
+use Rattle.head.specs.declared.Purpose.the-variants.{Grow}
+use Rattle.text.specs.declared.Manner.the-variants.{Strict}
 use Rattle.sheet.specs.Area.{areaSize, measuredOf}
 use Rattle.sheet.specs.declared.Measured.the-variants.{Size}
 use Rattle.refusal.specs.declared.Verdict.the-variants.{Accepted}
@@ -19,7 +22,7 @@ use Rattle.layout.specs.Layout.{nul, lineFeed, startSize, Trace, traceSize}
 use Rattle.start.specs.Start.{startAnswer, startLeft}
 use Rattle.writer.specs.Answers.{addAnswer, addLeft}
 use Rattle.afresh.specs.FileOf.{sizes, fileOf, fileSize, Measures, Good, AllGood}
-use Rattle.afresh.specs.FileLaws.{length-more, file-fronted}
+use Rattle.afresh.specs.FileLaws.{length-more, good-front, good-next, file-fronted}
 use Rattle.start.specs.StartShown.{as-area, Started, started, starts}
 use Rattle.writer.specs.Shown.{Added, added, adds}
 use Rattle.afresh.specs.Step.{Holds, start-past, start-afresh, new-end, add-afresh, add-past}
@@ -32,10 +35,11 @@ lengths at [] = []
 lengths at (x ∷ ts) = To (at + traceSize nul lineFeed x) ∷ lengths (at + traceSize nul lineFeed x) ts
 
 module _ (high : Bool) (slots : ℕ) (sheet : List ℕ) (some : 1 ≤ slots) (measures : Measures sheet) where
-  -- a good trace is added to the file of a list where there is a slot and room
-  pub add-accepted : (ts : List Trace) (xs : List ℕ) (n : ℕ) (x : Trace) → Holds high slots sheet ts xs n → Good x → length ts < slots
+  -- a trace that goes on a good list is added to the file of the list where there is a slot and room
+  pub add-accepted : (ts : List Trace) (xs : List ℕ) (n : ℕ) (x : Trace) → Holds high slots sheet ts xs n → AllGood (ts ++ (x ∷ [])) → length ts < slots
       → n + traceSize nul lineFeed x ≤ length xs → n + traceSize nul lineFeed x ≤ 67108864 → addAnswer xs n x ≡ To (n + traceSize nul lineFeed x)
-  add-accepted ts xs n x is g slot fits most =
+  add-accepted ts xs n x is all slot fits most =
+      let g : Good x = good-next ts x [] (all .0) in
       let f = file-fronted high slots sheet ts (is .few) (is .slotted) in
       let e = new-end high slots sheet ts xs n x is in
       let c : countOf (take n xs) ≡ length ts = ap countOf (is .image) ∙ f .count in
@@ -44,7 +48,7 @@ module _ (high : Bool) (slots : ℕ) (sheet : List ℕ) (some : 1 ≤ slots) (me
       let m : measuredOf (stringEnd (take n xs)) (lineEnd (take n xs)) (x .sheet) ≡ Size (g' .0) = rw (is .image, f .strings, f .lines) (g' .1) in
       let a : Added xs n x (n + traceSize nul lineFeed x) =
       record {
-        accepted = file-accepted true high slots sheet ts xs n is some measures (omega arith) (λ z. refl);
+        accepted = file-accepted Grow high slots sheet ts xs n is some measures (omega arith) (λ z. refl);
         slot = omega arith;
         sized = as-area (stringEnd (take n xs)) (lineEnd (take n xs)) (x .sheet) (g' .0) m;
         kind = g .kind;
@@ -56,16 +60,17 @@ module _ (high : Bool) (slots : ℕ) (sheet : List ℕ) (some : 1 ≤ slots) (me
       adds xs n x (n + traceSize nul lineFeed x) a
 
   -- and so is every list of them
-  pub goes-on : (calls ts : List Trace) (xs : List ℕ) (n : ℕ) → Holds high slots sheet ts xs n → AllGood calls → length ts + length calls ≤ slots
+  pub goes-on : (calls ts : List Trace) (xs : List ℕ) (n : ℕ) → Holds high slots sheet ts xs n → AllGood (ts ++ calls) → length ts + length calls ≤ slots
       → n + sizes calls ≤ length xs → n + sizes calls ≤ 67108864 → (answersOf xs n calls ≡ lengths n calls) × (acceptedOf xs n calls ≡ calls)
   unfolding answersOf acceptedOf lengths sizes
   goes-on [] ts xs n is g slotted fits most = (refl, refl)
   goes-on (x ∷ calls) ts xs n is g slotted fits most =
       let end : ℕ = n + traceSize nul lineFeed x in
-      let to = add-accepted ts xs n x is (g .0) (omega arith) (omega arith) (omega arith) in
+      let all : AllGood ((ts ++ (x ∷ [])) ++ calls) = rw (append-assoc ts (x ∷ []) calls) g in
+      let to = add-accepted ts xs n x is (good-front (ts ++ (x ∷ [])) calls all) (omega arith) (omega arith) (omega arith) in
       let l = length-more ts x in
       let p = add-past high slots sheet ts xs n x is end to .1 in
-      let i = goes-on calls (ts ++ (x ∷ [])) (addLeft xs n x) end (add-afresh high slots sheet ts xs n x is end to) (g .1) (omega arith) (omega arith) (omega arith) in
+      let i = goes-on calls (ts ++ (x ∷ [])) (addLeft xs n x) end (add-afresh high slots sheet ts xs n x is end to) all (omega arith) (omega arith) (omega arith) in
       (answers-to xs n x calls end to ∙ ap (λ (r : List Written). To end ∷ r) (i .0), accepted-to xs n x calls end to ∙ ap (λ (r : List Trace). x ∷ r) (i .1))
 
 -- ---- from the start
@@ -131,12 +136,12 @@ module _ (xs : List ℕ) (order slots : ℕ) (sheet : List ℕ) (ts : List Trace
   image-afresh = (written-afresh .holds .image, written-afresh .holds .size)
 
   -- a reader's check accepts it where there is a trace, an addition's check always
-  pub afresh-accepted : (grow : Bool) → (length ts ≡ 0 → grow ≡ true)
-      → checkOf grow (after begun (startSize slots sheet) ts .0) (after begun (startSize slots sheet) ts .1) ≡ Accepted
-  afresh-accepted grow none =
+  pub afresh-accepted : (purpose : Purpose) → (length ts ≡ 0 → purpose ≡ Grow)
+      → checkOf Strict purpose (after begun (startSize slots sheet) ts .0) (after begun (startSize slots sheet) ts .1) ≡ Accepted
+  afresh-accepted purpose none =
       let size = written-afresh .holds .size in
       let most = w .most in
-      file-accepted grow (eqb order 1) slots sheet ts (after begun (startSize slots sheet) ts .0) (after begun (startSize slots sheet) ts .1) (written-afresh .holds)
+      file-accepted purpose (eqb order 1) slots sheet ts (after begun (startSize slots sheet) ts .0) (after begun (startSize slots sheet) ts .1) (written-afresh .holds)
       (w .some) (w .measures) (omega arith) none
 
 -- ---- and no other list is written: what calls have left, some of them refused, could have been written afresh from the accepted ones alone

@@ -12,7 +12,7 @@ use Rattle.sheet.specs.Area.{areaOf}
 use Rattle.sheet.specs.Sizes.{length-area}
 use Rattle.layout.specs.Layout.{nul, lineFeed, fileBlock, startImage, startSize, Trace, traceSize, traceBytes}
 use Rattle.layout.specs.LayoutLaws.{length-fileBlock, Fronted, fronted, length-traceBytes, area-whole, size-whole}
-use Rattle.afresh.specs.FileOf.{sizes, pointers, blocks, fileOf, fileSize, AllGood}
+use Rattle.afresh.specs.FileOf.{sizes, pointers, blocks, fileOf, fileSize, Good, EachGood, Together, AllGood, together-front}
 
 -- ---- every size is a multiple of 4
 
@@ -41,7 +41,7 @@ unfolding pointers
 length-pointers high at [] = refl
 length-pointers high at (x ∷ ts) = length-append (bytesOf 4 high at) _ ∙ ap₂ (λ (i j : ℕ). i + j) (length-bytesOf 4 high at) (length-pointers high _ ts) ∙ omega arith
 
-pub length-blocks : (high : Bool) (ts : List Trace) → AllGood ts → length (blocks high ts) ≡ sizes ts
+pub length-blocks : (high : Bool) (ts : List Trace) → EachGood ts → length (blocks high ts) ≡ sizes ts
 unfolding blocks sizes
 length-blocks high [] g = refl
 length-blocks high (x ∷ ts) g =
@@ -50,7 +50,7 @@ length-blocks high (x ∷ ts) g =
     let i = length-blocks high ts (g .1) in
     omega arith
 
-pub length-file : (high : Bool) (slots : ℕ) (sheet : List ℕ) (ts : List Trace) → length ts ≤ slots → AllGood ts
+pub length-file : (high : Bool) (slots : ℕ) (sheet : List ℕ) (ts : List Trace) → length ts ≤ slots → EachGood ts
     → length (fileOf high slots sheet ts) ≡ fileSize slots sheet ts
 unfolding fileOf fileSize startSize
 length-file high slots sheet ts h g =
@@ -118,7 +118,7 @@ pub size-more : (slots : ℕ) (sheet : List ℕ) (ts : List Trace) (x : Trace) �
 unfolding sizes
 size-more slots sheet ts x = size-append slots sheet ts (x ∷ []) ∙ omega arith
 
-pub good-append : (ts rest : List Trace) → AllGood ts → AllGood rest → AllGood (ts ++ rest)
+pub good-append : (ts rest : List Trace) → EachGood ts → EachGood rest → EachGood (ts ++ rest)
 good-append [] rest g h = h
 good-append (x ∷ ts) rest g h = (g .0, good-append ts rest (g .1) h)
 
@@ -131,3 +131,16 @@ file-fronted high slots sheet ts few h =
     fronted (4 * slots) (length ts)
     (pointers high (startSize slots sheet) ts ++ (replicate (4 * (slots - length ts)) 0 ++ (areaOf high nul lineFeed sheet ++ blocks high ts)))
     (omega arith) (omega arith) high
+
+-- the front of a good list is good
+pub good-front : (ts rest : List Trace) → AllGood (ts ++ rest) → AllGood ts
+good-front ts rest g = (each ts (g .0), together-front ts rest (g .1))
+  where
+    each : (front : List Trace) → EachGood (front ++ rest) → EachGood front
+    each [] h = tt
+    each (x ∷ front) h = (h .0, each front (h .1))
+
+-- and so is each trace of it
+pub good-next : (ts : List Trace) (x : Trace) (rest : List Trace) → EachGood (ts ++ (x ∷ rest)) → Good x
+good-next [] x rest g = g .0
+good-next (y ∷ ts) x rest g = good-next ts x rest (g .1)

@@ -48,6 +48,18 @@ pub record Good (x : Trace) : Type 0 where
   pub kind : fitting (x .code) (x .samples) ≡ true
   pub held : unfit (x .code) (x .samples) ≡ All
 
+-- each trace of a list by itself
+abbrev pub EachGood : List Trace → Type 0
+EachGood [] = Unit {0}
+EachGood (x ∷ ts) = Good x × EachGood ts
+
+-- and what the traces of one file must have in common: document 01 has no rule between traces
+abbrev pub Together : List Trace → Type 0
+Together ts = Unit {0}
+
 abbrev pub AllGood : List Trace → Type 0
-AllGood [] = Unit {0}
-AllGood (x ∷ ts) = Good x × AllGood ts
+AllGood ts = EachGood ts × Together ts
+
+-- what holds of a list held of it before its last traces came
+pub together-front : (ts rest : List Trace) → Together (ts ++ rest) → Together ts
+together-front ts rest h = tt

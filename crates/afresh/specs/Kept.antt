@@ -10,13 +10,16 @@ use native.Mathlib.Omega.{arith}
 use lib.ListN.{length, getD, take, replicate, length-append, length-replicate}
 use lib.Dec.{eqb}
 use borrow.Author.Tests.{eqb-true, eqb-false}
+use Rattle.head.specs.declared.Purpose.the-variants.{Grow}
+use Rattle.head.specs.declared.Purpose.{Purpose}
+use Rattle.text.specs.declared.Manner.the-variants.{Strict}
 use Rattle.word.specs.Part.{part, part-among}
 use Rattle.refusal.specs.Rows.{pick}
 use Rattle.refusal.specs.declared.Verdict.the-variants.{Accepted}
 use Rattle.text.specs.Runs.{all}
 use Rattle.strings.specs.Spelled.{Spells}
 use Rattle.sample.specs.Needed.{room}
-use Rattle.sheet.specs.Area.{stringsOf, areaOf, areaSize}
+use Rattle.sheet.specs.Area.{sheetStrings, areaOf, areaSize}
 use Rattle.sheet.specs.Sizes.{length-area}
 use Rattle.text.specs.Note.{LineEnd}
 use Rattle.area.specs.Spelling.{area-spells}
@@ -30,18 +33,18 @@ use Rattle.afresh.specs.FileOf.{pointers, blocks, fileOf, fileSize, Meas
 use Rattle.layout.specs.LayoutLaws.{length-fileBlock, Fronted, kinded, room-enough, area-whole, Stands}
 use Rattle.afresh.specs.FileLaws.{length-pointers, length-file, file-whole, size-none, size-low, file-fronted}
 use Rattle.afresh.specs.Step.{Holds}
-use Rattle.afresh.specs.Stands.{noTrace, Traced, file-traces}
+use Rattle.afresh.specs.Stands.{emptyTrace, Traced, file-traces}
 
 -- 0Ah is no character of a value
 pub feed-ends : LineEnd lineFeed
 feed-ends = (omega arith, refl)
 
-spelled : (high : Bool) (sheet : List ℕ) → Measures sheet → Spells high nul lineFeed (stringsOf lineFeed sheet) (areaOf high nul lineFeed sheet)
+spelled : (high : Bool) (sheet : List ℕ) → Measures sheet → Spells Strict high nul lineFeed (sheetStrings lineFeed sheet) (areaOf high nul lineFeed sheet)
 spelled high sheet m = area-spells high nul lineFeed sheet (m .0) feed-ends (m .1)
 
 -- ---- a trace
 keeps-trace : (high : Bool) (f : List ℕ) (k p : ℕ) (x : Trace) → highFirst f ≡ high → stringEnd f ≡ nul → lineEnd f ≡ lineFeed → pointerOf high f k ≡ p
-    → Stands high nul lineFeed f p x → Good x → p % 4 ≡ 0 → endBefore f k ≤ p → KeepsTrace f k
+    → Stands high nul lineFeed f p x → Good x → p % 4 ≡ 0 → endBefore f k ≤ p → KeepsTrace Strict f k
 keeps-trace high f k p x o s l at h g w b =
     let a = area-whole nul lineFeed (x .sheet) in
     let d = room-enough (x .code) (count (x .samples)) in
@@ -53,12 +56,12 @@ keeps-trace high f k p x o s l at h g w b =
       mark = rw (o, at) (h .mark);
       least = rw (o, at, h .block) (omega arith);
       whole = rw (o, at, h .block) (omega arith);
-      samples-whole = rw (o, at, h .bytes) (d .1);
+      data-whole = rw (o, at, h .bytes) (d .1);
       inside = rw (o, at, h .block, h .bytes) (omega arith);
       code = rw (o, at, h .code) (c .least, c .most);
       groups = rw (o, at, h .code, h .number) (c .groups);
       samples = rw (o, at, h .code, h .number, h .bytes) (d .0);
-      strings = (stringsOf lineFeed (x .sheet), rw (o, s, l, at, h .block, h .area) (spelled high (x .sheet) (g .measures)));
+      strings = (sheetStrings lineFeed (x .sheet), rw (o, s, l, at, h .block, h .area) (spelled high (x .sheet) (g .measures)));
     }
 
 -- ---- the file's strings
@@ -101,10 +104,10 @@ module _ (high : Bool) (slots : ℕ) (sheet : List ℕ) (ts : List Trace) (some 
   front = file-fronted high slots sheet ts few slotted
 
   long : length file ≡ fileSize slots sheet ts
-  long = length-file high slots sheet ts slotted good
+  long = length-file high slots sheet ts slotted (good .0)
 
   here : (k : ℕ) → k < length ts → Traced high slots sheet ts k
-  here = file-traces high slots sheet ts slotted good most
+  here = file-traces high slots sheet ts slotted (good .0) most
 
   -- each trace begins where what stands before it ends, and the first behind the file's strings
   before : (k : ℕ) → k ≤ length ts → endBefore file k ≤ fileSize slots sheet (take k ts)
@@ -127,35 +130,37 @@ module _ (high : Bool) (slots : ℕ) (sheet : List ℕ) (ts : List Trace) (some 
       let t = here 0 e in
       rw (front .order) (t .pointer ∙ size-none slots sheet)))
 
-  pub file-keeps : (grow : Bool) → (length ts ≡ 0 → grow ≡ true) → Keeps grow file
+  pub file-keeps : (purpose : Purpose) → (length ts ≡ 0 → purpose ≡ Grow) → Keeps Strict purpose file
   unfolding apart all
-  file-keeps grow none =
+  file-keeps purpose none =
       let low = size-low slots sheet ts in
       record {
-        extent = (omega (arith, long), omega (arith, long));
-        first = front .first;
-        revision = front .revision;
-        room = (rw (front .room) (omega arith), rw (front .room) (omega arith), rw (front .room) (omega (arith, long)));
-        some = λ z. none (sym (front .count) ∙ z);
-        count = rw (front .count, front .room) (omega arith);
-        string-end = record { size = inl (front .ones .0); characters = rw (front .strings) };
-        line-end = record { size = inl (front .ones .1); characters = rw (front .lines) };
-        ends-apart = rw (front .strings, front .lines);
-        strings = (
-          stringsOf lineFeed sheet,
-          rw (strings-end, front .order, front .strings, front .lines, front .room, file-strings high slots sheet ts slotted) (spelled high sheet measures),
-        );
+        file = record {
+          extent = (omega (arith, long), omega (arith, long));
+          first = front .first;
+          revision = front .revision;
+          room = (rw (front .room) (omega arith), rw (front .room) (omega arith), rw (front .room) (omega (arith, long)));
+          some = λ z. none (sym (front .count) ∙ z);
+          count = rw (front .count, front .room) (omega arith);
+          string-end = record { size = inl (front .ones .0); characters = rw (front .strings) };
+          line-end = record { size = inl (front .ones .1); characters = rw (front .lines) };
+          ends-apart = rw (front .strings, front .lines);
+          strings = (
+            sheetStrings lineFeed sheet,
+            rw (strings-end, front .order, front .strings, front .lines, front .room, file-strings high slots sheet ts slotted) (spelled high sheet measures),
+          );
+        };
         traces = λ k h.
             (let l : k < length ts = rw (front .count) at h in
             let t = here k l in
-            keeps-trace high file k (fileSize slots sheet (take k ts)) (getD ts k noTrace) (front .order) (front .strings) (front .lines) (t .pointer) (t .here) (t .good)
+            keeps-trace high file k (fileSize slots sheet (take k ts)) (getD ts k emptyTrace) (front .order) (front .strings) (front .lines) (t .pointer) (t .here) (t .good)
             (file-whole slots sheet (take k ts)) (before k (omega arith)));
       }
 
 -- and the check accepts it, in any buffer that holds it
-pub file-accepted : (grow high : Bool) (slots : ℕ) (sheet : List ℕ) (ts : List Trace) (xs : List ℕ) (n : ℕ) → Holds high slots sheet ts xs n → 1 ≤ slots
-    → Measures sheet → n ≤ 67108864 → (length ts ≡ 0 → grow ≡ true) → checkOf grow xs n ≡ Accepted
-file-accepted grow high slots sheet ts xs n is some measures most none =
+pub file-accepted : (purpose : Purpose) (high : Bool) (slots : ℕ) (sheet : List ℕ) (ts : List Trace) (xs : List ℕ) (n : ℕ) → Holds high slots sheet ts xs n → 1 ≤ slots
+    → Measures sheet → n ≤ 67108864 → (length ts ≡ 0 → purpose ≡ Grow) → checkOf Strict purpose xs n ≡ Accepted
+file-accepted purpose high slots sheet ts xs n is some measures most none =
     let s = is .size in
-    let k = file-keeps high slots sheet ts some (is .few) measures (is .good) (is .slotted) (omega arith) grow none in
-    keeps-accepted grow xs n (is .fits) (rw (is .image) k)
+    let k = file-keeps high slots sheet ts some (is .few) measures (is .good) (is .slotted) (omega arith) purpose none in
+    keeps-accepted Strict purpose xs n (is .fits) (rw (is .image) k)

@@ -14,7 +14,7 @@ use Rattle.sheet.specs.Area.{areaOf}
 use Rattle.sheet.specs.Sizes.{length-area}
 use Rattle.block.specs.Block.{pointerOf}
 use Rattle.layout.specs.Layout.{nul, lineFeed, fileBlock, startSize, Trace, Samples.integers, dataBytes, traceSize, traceBytes}
-use Rattle.afresh.specs.FileOf.{sizes, pointers, blocks, fileOf, fileSize, Good, AllGood}
+use Rattle.afresh.specs.FileOf.{sizes, pointers, blocks, fileOf, fileSize, Good, EachGood}
 use Rattle.layout.specs.LayoutLaws.{length-fileBlock, length-traceBytes, Stands, stands}
 use Rattle.afresh.specs.FileLaws.{length-pointers, length-blocks, length-file, pointers-append, blocks-append, size-append, size-more}
 use Rattle.afresh.specs.Step.{behind}
@@ -46,7 +46,7 @@ module _ (high : Bool) (slots : ℕ) (sheet : List ℕ) (before : List Trace) (x
   abbrev lead : List ℕ
   lead = fileBlock high (4 * slots) (length whole) ++ (pointers high (startSize slots sheet) whole ++ (free ++ (strings ++ blocks high before)))
 
-  length-lead : length whole ≤ slots → AllGood before → length lead ≡ fileSize slots sheet before
+  length-lead : length whole ≤ slots → EachGood before → length lead ≡ fileSize slots sheet before
   unfolding fileSize startSize
   length-lead h g =
       let ptrs = pointers high (startSize slots sheet) whole in
@@ -68,7 +68,7 @@ module _ (high : Bool) (slots : ℕ) (sheet : List ℕ) (before : List Trace) (x
       (sym (behind (fileBlock high (4 * slots) (length whole)) (pointers high (startSize slots sheet) whole) free strings (blocks high before) (blocks high (x ∷ behind-it))))
 
   -- "the blocks and data one behind the other"
-  pub file-here : length whole ≤ slots → AllGood before
+  pub file-here : length whole ≤ slots → EachGood before
       → drop (fileSize slots sheet before) (fileOf high slots sheet whole) ≡ traceBytes high nul lineFeed x ++ blocks high behind-it
   file-here h g =
       ap (drop (fileSize slots sheet before)) file-split
@@ -90,7 +90,7 @@ module _ (high : Bool) (slots : ℕ) (sheet : List ℕ) (before : List Trace) (x
       ∙ ap (λ (r : List ℕ). wordAt 4 high r (32 + 4 * length before)) (sym e)
       ∙ word-among 4 high size (fb ++ ptrs) (more ++ rest) (32 + 4 * length before) l (omega arith)
 
-  file-stands : length whole ≤ slots → AllGood whole → AllGood before → Good x → fileSize slots sheet whole ≤ 67108864
+  file-stands : length whole ≤ slots → EachGood whole → EachGood before → Good x → fileSize slots sheet whole ≤ 67108864
       → (pointerOf high (fileOf high slots sheet whole) (length before) ≡ fileSize slots sheet before)
       × Stands high nul lineFeed (fileOf high slots sheet whole) (fileSize slots sheet before) x
   unfolding sizes
@@ -104,21 +104,21 @@ module _ (high : Bool) (slots : ℕ) (sheet : List ℕ) (before : List Trace) (x
 -- ---- the trace k of the list
 
 -- stands for a trace where there is none
-abbrev pub noTrace : Trace
-noTrace = record { sheet = []; code = 0; samples = integers [] }
+abbrev pub emptyTrace : Trace
+emptyTrace = record { sheet = []; code = 0; samples = integers [] }
 
-pub good-split : (a b : List Trace) → AllGood (a ++ b) → AllGood a × AllGood b
+pub good-split : (a b : List Trace) → EachGood (a ++ b) → EachGood a × EachGood b
 good-split [] b g = (tt, g)
 good-split (x ∷ a) b g = let i = good-split a b (g .1) in ((g .0, i .0), i .1)
 
 pub record Traced (high : Bool) (slots : ℕ) (sheet : List ℕ) (ts : List Trace) (k : ℕ) : Type 0 where
   pub pointer : pointerOf high (fileOf high slots sheet ts) k ≡ fileSize slots sheet (take k ts)
-  pub here : Stands high nul lineFeed (fileOf high slots sheet ts) (fileSize slots sheet (take k ts)) (getD ts k noTrace)
-  pub good : Good (getD ts k noTrace)
-  pub next : fileSize slots sheet (take k ts) + traceSize nul lineFeed (getD ts k noTrace) ≡ fileSize slots sheet (take (suc k) ts)
+  pub here : Stands high nul lineFeed (fileOf high slots sheet ts) (fileSize slots sheet (take k ts)) (getD ts k emptyTrace)
+  pub good : Good (getD ts k emptyTrace)
+  pub next : fileSize slots sheet (take k ts) + traceSize nul lineFeed (getD ts k emptyTrace) ≡ fileSize slots sheet (take (suc k) ts)
 
 split-stands : (high : Bool) (slots : ℕ) (sheet : List ℕ) (ts before : List Trace) (x : Trace) (behind-it : List Trace) (k : ℕ)
-    → ts ≡ before ++ (x ∷ behind-it) → length before ≡ k → length ts ≤ slots → AllGood ts → fileSize slots sheet ts ≤ 67108864
+    → ts ≡ before ++ (x ∷ behind-it) → length before ≡ k → length ts ≤ slots → EachGood ts → fileSize slots sheet ts ≤ 67108864
     → (pointerOf high (fileOf high slots sheet ts) k ≡ fileSize slots sheet before) × Stands high nul lineFeed (fileOf high slots sheet ts) (fileSize slots sheet before) x × Good x
 split-stands high slots sheet ts before x behind-it k e l h g most =
     let all = rw e at g in
@@ -126,14 +126,14 @@ split-stands high slots sheet ts before x behind-it k e l h g most =
     let r = file-stands high slots sheet before x behind-it (rw e at h) all (s .0) (s .1 .0) (rw e at most) in
     rw (e, ← l) (r .0, r .1, s .1 .0)
 
-pub file-traces : (high : Bool) (slots : ℕ) (sheet : List ℕ) (ts : List Trace) → length ts ≤ slots → AllGood ts → fileSize slots sheet ts ≤ 67108864
+pub file-traces : (high : Bool) (slots : ℕ) (sheet : List ℕ) (ts : List Trace) → length ts ≤ slots → EachGood ts → fileSize slots sheet ts ≤ 67108864
     → (k : ℕ) → k < length ts → Traced high slots sheet ts k
 file-traces high slots sheet ts h g most k low =
     let l : length (take k ts) ≡ k = length-take-le k ts (omega arith) in
-    let r = split-stands high slots sheet ts (take k ts) (getD ts k noTrace) (drop (suc k) ts) k (split-at ts k noTrace low) l h g most in
+    let r = split-stands high slots sheet ts (take k ts) (getD ts k emptyTrace) (drop (suc k) ts) k (split-at ts k emptyTrace low) l h g most in
     record {
       pointer = r .0;
       here = r .1;
       good = r .2;
-      next = sym (ap (fileSize slots sheet) (take-suc ts k noTrace low) ∙ size-more slots sheet (take k ts) (getD ts k noTrace));
+      next = sym (ap (fileSize slots sheet) (take-suc ts k emptyTrace low) ∙ size-more slots sheet (take k ts) (getD ts k emptyTrace));
     }

@@ -9,6 +9,9 @@ use native.Mathlib.Omega.{arith}
 use lib.ListN.{length, getD}
 use lib.Dec.{ltb, eqb}
 use borrow.Author.Tests.{le-ltb, eq-eqb}
+use Rattle.head.specs.declared.Purpose.the-variants.{Read, Grow}
+use Rattle.text.specs.declared.Manner.the-variants.{Strict}
+use Rattle.refusal.specs.Verdicts.{andThen}
 use Rattle.word.specs.Tests.{join-neither}
 use Rattle.refusal.specs.declared.Rule.the-variants.{TraceCount}
 use Rattle.refusal.specs.declared.Part.the-variants.{File}
@@ -16,7 +19,8 @@ use Rattle.refusal.specs.declared.Verdict.the-variants.{Accepted, Refused}
 use Rattle.refusal.specs.Table.{refusal}
 use Rattle.sheet.specs.Area.{areaSize}
 use Rattle.head.specs.Head.{known, revisionOf, roomOf, countOf, headOf, badRoom}
-use Rattle.image.specs.Image.{andThen, imageOf, checkOf}
+use Rattle.head.specs.HeadLaws.{own-known, own-revision, own-room, own-count}
+use Rattle.image.specs.Image.{imageOf, checkOf}
 use Rattle.image.specs.ImageLaws.{length-accepts}
 use Rattle.start.specs.declared.Written.the-variants.{To}
 use Rattle.layout.specs.Layout.{nul, lineFeed}
@@ -27,18 +31,20 @@ use Rattle.afresh.specs.Step.{start-afresh}
 use Rattle.afresh.specs.Kept.{file-accepted}
 
 no-file : (f : List ℕ) → ((getD f 0 0 ≡ 85) × (getD f 1 0 ≡ 58)) ⊎ ((getD f 0 0 ≡ 58) × (getD f 1 0 ≡ 85)) → revisionOf f ≡ 1 → badRoom (roomOf f) ≡ false
-    → countOf f ≡ 0 → imageOf false f ≡ Refused (refusal TraceCount File 6)
+    → countOf f ≡ 0 → imageOf Strict Read f ≡ Refused (refusal TraceCount File 6)
 unfolding imageOf headOf andThen
-no-file f a b c d = let k : known f ≡ true = ⊎-elim (λ e. rw (e .0, e .1)) (λ e. rw (e .0, e .1)) a in rw (k, b, c, d)
+no-file f a b c d =
+    let k : known f ≡ true = ⊎-elim (λ e. rw (e .0, e .1)) (λ e. rw (e .0, e .1)) a in
+    rw (own-known f, own-revision f, own-room f, own-count f, k, b, c, d)
 
 module _ (xs : List ℕ) (order slots : ℕ) (sheet : List ℕ) (e : ℕ) (to : startAnswer xs order slots sheet ≡ To e) where
-  pub start-accepted : checkOf true (startLeft xs order slots sheet) e ≡ Accepted
+  pub start-accepted : checkOf Strict Grow (startLeft xs order slots sheet) e ≡ Accepted
   start-accepted =
       let s = started xs order slots sheet e to in
-      file-accepted true (eqb order 1) slots sheet [] (startLeft xs order slots sheet) e (start-afresh xs order slots sheet e to) (s .some)
+      file-accepted Grow (eqb order 1) slots sheet [] (startLeft xs order slots sheet) e (start-afresh xs order slots sheet e to) (s .some)
       (areaSize nul lineFeed sheet, s .sized) (s .in-maximum) (λ z. refl)
 
-  pub start-refused : checkOf false (startLeft xs order slots sheet) e ≡ Refused (refusal TraceCount File 6)
+  pub start-refused : checkOf Strict Read (startLeft xs order slots sheet) e ≡ Refused (refusal TraceCount File 6)
   unfolding checkOf
   start-refused =
       let s = started xs order slots sheet e to in

@@ -19,7 +19,7 @@ use Rattle.layout.specs.Layout.{plainEnds, nul, lineFeed, fileBlock, startImage
 use Rattle.start.specs.Start.{startAnswer, startLeft}
 use Rattle.append.specs.Grown.{newLength, newBytes, grown}
 use Rattle.writer.specs.Answers.{addAnswer, addLeft}
-use Rattle.afresh.specs.FileOf.{sizes, pointers, blocks, fileOf, fileSize, Good, AllGood}
+use Rattle.afresh.specs.FileOf.{sizes, pointers, blocks, fileOf, fileSize, Good, Together, AllGood}
 use Rattle.layout.specs.LayoutLaws.{frontOf, length-front, around-count, length-fileBlock, length-startImage, Fronted, length-traceBytes}
 use Rattle.start.specs.StartShown.{started, start-left}
 use Rattle.writer.specs.Shown.{Added, added, add-left}
@@ -58,7 +58,7 @@ module _ (xs : List ℕ) (order slots : ℕ) (sheet : List ℕ) (e : ℕ) (to : 
         image = rw (start-left xs order slots sheet e to) ((rw k at i) ∙ sym (file-none (eqb order 1) slots sheet));
         size = sym (s .new) ∙ sym (size-none slots sheet);
         fits = omega (arith, start-past .1);
-        good = tt;
+        good = (tt, tt);
         slotted = omega arith;
         few = s .few;
       }
@@ -144,6 +144,10 @@ module _ (high : Bool) (slots : ℕ) (sheet : List ℕ) (ts : List Trace) (xs : 
     shown : Added xs n x end
     shown = added xs n x end to
 
+    -- what it has in common with the traces before it
+    together-new : Together (ts ++ (x ∷ []))
+    together-new = tt
+
     good-new : Good x
     good-new =
         record {
@@ -209,7 +213,7 @@ module _ (high : Bool) (slots : ℕ) (sheet : List ℕ) (ts : List Trace) (xs : 
               ∙ file-more high slots sheet ts x slot-free;
           size = add-end ∙ ap (λ (k : ℕ). k + traceSize nul lineFeed x) (is .size) ∙ sym (size-more slots sheet ts x);
           fits = omega (arith, add-past .1);
-          good = good-append ts (x ∷ []) (is .good) (good-new, tt);
+          good = (good-append ts (x ∷ []) (is .good .0) (good-new, tt), together-new);
           slotted = omega (arith, length-more ts x, slot-free);
           few = is .few;
         }

@@ -11,13 +11,13 @@ use lib.IntN.{pos, negsuc}
 use lib.ListN.{length, replicate}
 use Rattle.word.specs.Word.{lowBytes, bytesOf}
 use Rattle.text.specs.Runs.{run, all, same}
-use Rattle.text.specs.Order.{less, rises}
-use Rattle.strings.specs.Spelled.{written}
+use Rattle.text.specs.Order.{rises-first}
+use Rattle.strings.specs.Spelled.{texts}
 use Rattle.sample.specs.Needed.{needed, room}
 use Rattle.encode.specs.Unfit.{firstFrom, outside, unfitInteger, unfitIntegers}
 use Rattle.encode.specs.Write.{flat, residue, fixedBytes, filledUp, integersData}
-use Rattle.sheet.specs.Lines.{lineLen, keyLen, continues, judgedOf, stepOf, checkFrom, linesVerdict, linesFrom, linesOf}
-use Rattle.sheet.specs.Area.{joined, stringsOf, textSize, areaOf, areaSize, measuredOf}
+use Rattle.sheet.specs.Lines.{lineLen, lineKeyLen, continues, lineJudged, lineStep, checkFrom, linesVerdict, sheetLinesFrom, sheetLines}
+use Rattle.sheet.specs.Area.{joined, sheetStrings, textSize, areaOf, areaSize, measuredOf}
 use Rattle.layout.specs.Layout.{nul, lineFeed, fileBlock, startSize, Trace, Samples.integers, count, fitting, unfit, samplesData, traceBlock, blockBytes, dataBytes, traceBytes}
 use Rattle.afresh.specs.FileOf.{sizes, pointers, blocks, fileOf, fileSize, Measures, AllGood}
 use Rattle.afresh.specs.Afresh.{Writable}
@@ -35,7 +35,7 @@ shot = record { sheet = stack; code = 1; samples = integers (pos 1 ∷ negsuc 0 
 
 -- "pointer 56, B 44, D 8, length 108"
 pub worked-sizes : (startSize 1 units ≡ 56) × (blockBytes nul lineFeed shot ≡ 44) × (dataBytes shot ≡ 8) × (fileSize 1 units (shot ∷ []) ≡ 108)
-unfolding startSize areaSize stringsOf linesOf linesFrom lineLen keyLen run joined same textSize room needed count fileSize sizes
+unfolding startSize areaSize sheetStrings sheetLines sheetLinesFrom lineLen lineKeyLen run joined same textSize room needed count fileSize sizes
 worked-sizes = (refl, refl, refl, refl)
 
 -- the file block with N=1, slot 0, the file's strings; the trace block, its strings, its data
@@ -45,13 +45,16 @@ pub worked-bytes : fileOf false 1 units (shot ∷ [])
     ++ ((15 ∷ 0 ∷ 85 ∷ 78 ∷ 73 ∷ 84 ∷ 83 ∷ 32 ∷ 77 ∷ 69 ∷ 84 ∷ 69 ∷ 82 ∷ 83 ∷ 0 ∷ 0 ∷ 0 ∷ 0 ∷ 0 ∷ 0 ∷ [])
     ++ ((34 ∷ 68 ∷ 44 ∷ 0 ∷ 8 ∷ 0 ∷ 0 ∷ 0 ∷ 3 ∷ 0 ∷ 0 ∷ 0 ∷ 1 ∷ replicate 19 0)
     ++ ((10 ∷ 0 ∷ 83 ∷ 84 ∷ 65 ∷ 67 ∷ 75 ∷ 32 ∷ 49 ∷ 0 ∷ 0 ∷ 0 ∷ []) ++ (1 ∷ 0 ∷ 255 ∷ 255 ∷ 0 ∷ 1 ∷ 0 ∷ 0 ∷ [])))))
-unfolding fileOf fileBlock pointers blocks traceBytes traceBlock samplesData integersData filledUp flat fixedBytes residue bytesOf lowBytes areaOf written startSize areaSize stringsOf linesOf linesFrom lineLen keyLen run joined same textSize room needed count
+unfolding fileOf fileBlock pointers blocks traceBytes traceBlock samplesData integersData filledUp flat fixedBytes residue bytesOf lowBytes areaOf texts startSize areaSize sheetStrings sheetLines sheetLinesFrom lineLen lineKeyLen run joined same textSize room needed count
 worked-bytes = refl
 
 -- its sheets and its samples are let through
 pub worked-good : Measures units × AllGood (shot ∷ [])
-unfolding measuredOf linesVerdict checkFrom stepOf judgedOf continues rises less all areaSize stringsOf linesOf linesFrom lineLen keyLen run joined same textSize fitting unfit unfitIntegers firstFrom unfitInteger outside
-worked-good = ((20, refl), (record { measures = (12, refl); kind = refl; held = refl }, tt))
+unfolding measuredOf linesVerdict checkFrom lineStep lineJudged continues all areaSize sheetStrings sheetLines sheetLinesFrom lineLen lineKeyLen run joined same textSize fitting unfit unfitIntegers firstFrom unfitInteger outside
+worked-good =
+    let u = rises-first (85 ∷ 78 ∷ 73 ∷ 84 ∷ 83 ∷ []) (omega arith) in
+    let s = rises-first (83 ∷ 84 ∷ 65 ∷ 67 ∷ 75 ∷ []) (omega arith) in
+    ((20, rw u), ((record { measures = (12, rw s); kind = refl; held = refl }, tt), tt))
 
 -- so it is written, and no call refused, into every buffer of 108 bytes or more (`written-afresh`, `none-refused`)
 pub worked-writable : (xs : List ℕ) → 108 ≤ length xs → Writable xs 0 1 units (shot ∷ [])

@@ -6,7 +6,7 @@ ghost use Prim.Native.Nat.{_+_, _-_, _*_, _≤_, _<_};
 ghost use lib.ListN.{length};
 ghost use Rattle.word.specs.Put.{put};
 ghost use Rattle.word.specs.Word.{bytesOf};
-ghost use Rattle.layout.specs.Layout.{traceBytes, integers, patterns, ofIntegers, ofPatterns};
+ghost use Rattle.layout.specs.Layout.{traceBytes, integers, patterns, integersTrace, patternsTrace};
 ghost use Rattle.layout.specs.Stores.{Ready};
 ghost use Rattle.append.specs.GrownLaws.{Growing};
 ghost use Rattle.append.specs.Grown.{grown};
@@ -23,7 +23,7 @@ fn lend_integers(
     row: &[i32],
 )
     requires { ⌜ (at ≤ length (now buffer)) × Ready (now t) (now u) (now sheet) size code (integers (now row)) (length (now buffer) - at) ⌝ }
-    ensures { λ _. ⌜ now (buffer .exit) ≡ put (now (buffer .entry)) at (traceBytes high (now (t .entry)) (now (u .entry)) (ofIntegers (now (sheet .entry)) code (now (row .entry)))) ⌝ }
+    ensures { λ _. ⌜ now (buffer .exit) ≡ put (now (buffer .entry)) at (traceBytes high (now (t .entry)) (now (u .entry)) (integersTrace (now (sheet .entry)) code (now (row .entry)))) ⌝ }
 {
     layout::trace_integers(&mut buffer[at..], high, t, u, sheet, size, code, row);
 }
@@ -40,7 +40,7 @@ fn lend_bits(
     row: &[u64],
 )
     requires { ⌜ (at ≤ length (now buffer)) × Ready (now t) (now u) (now sheet) size code (patterns (now row)) (length (now buffer) - at) ⌝ }
-    ensures { λ _. ⌜ now (buffer .exit) ≡ put (now (buffer .entry)) at (traceBytes high (now (t .entry)) (now (u .entry)) (ofPatterns (now (sheet .entry)) code (now (row .entry)))) ⌝ }
+    ensures { λ _. ⌜ now (buffer .exit) ≡ put (now (buffer .entry)) at (traceBytes high (now (t .entry)) (now (u .entry)) (patternsTrace (now (sheet .entry)) code (now (row .entry)))) ⌝ }
 {
     layout::trace_bits(&mut buffer[at..], high, t, u, sheet, size, code, row);
 }
@@ -56,8 +56,8 @@ fn register(buffer: &mut [u8], high: bool, n: u16, at: usize)
 
 // The terminators are taken out of the file first: the end of the buffer is then lent, and they stand at its start.
 pub fn grow_integers(buffer: &mut [u8], n: usize, sheet: &[u8], size: usize, code: u8, row: &[i32])
-    requires { ⌜ Growing (now buffer) n (now sheet) size (ofIntegers (now sheet) code (now row)) ⌝ }
-    ensures { λ _. ⌜ now (buffer .exit) ≡ grown (now (buffer .entry)) n (ofIntegers (now (sheet .entry)) code (now (row .entry))) ⌝ }
+    requires { ⌜ Growing (now buffer) n (now sheet) size (integersTrace (now sheet) code (now row)) ⌝ }
+    ensures { λ _. ⌜ now (buffer .exit) ≡ grown (now (buffer .entry)) n (integersTrace (now (sheet .entry)) code (now (row .entry))) ⌝ }
 {
     let b = head::file_block(&buffer[..n]);
     let at = word::round_up(n);
@@ -81,8 +81,8 @@ pub fn grow_integers(buffer: &mut [u8], n: usize, sheet: &[u8], size: usize, cod
 }
 
 pub fn grow_bits(buffer: &mut [u8], n: usize, sheet: &[u8], size: usize, code: u8, row: &[u64])
-    requires { ⌜ Growing (now buffer) n (now sheet) size (ofPatterns (now sheet) code (now row)) ⌝ }
-    ensures { λ _. ⌜ now (buffer .exit) ≡ grown (now (buffer .entry)) n (ofPatterns (now (sheet .entry)) code (now (row .entry))) ⌝ }
+    requires { ⌜ Growing (now buffer) n (now sheet) size (patternsTrace (now sheet) code (now row)) ⌝ }
+    ensures { λ _. ⌜ now (buffer .exit) ≡ grown (now (buffer .entry)) n (patternsTrace (now (sheet .entry)) code (now (row .entry))) ⌝ }
 {
     let b = head::file_block(&buffer[..n]);
     let at = word::round_up(n);

@@ -19,7 +19,7 @@ use Rattle.decimal.specs.declared.NumberAnswer.the-variants.{Is, Refused
 use Rattle.text.specs.Runs.{run, Stops, run-stops}
 use Rattle.decimal.specs.Run.{digit, front, behind, run-none, parts, front-all, front-length, run-length, front-is, behind-is, run-all, behind-all, front-of-all}
 use Rattle.decimal.specs.Grammar.{Parts, Sign, Sign.dash, Sign.nothing, Digits, Fraction, Fraction.no-point, Fraction.point, Power, Power.no-power, Power.power, Writes, Short}
-use Rattle.decimal.specs.Number.{has, past, has-same, past-same, past-has, past-not, decimalOf, noNumber, tooLong, judged, tailRows, shapeRows, partsOf, numberOf}
+use Rattle.decimal.specs.Number.{has, past, has-same, past-same, past-has, past-not, decimalOf, noNumber, tooLong, judged, tailRows, shapeRows, partsOf, numberIn}
 
 -- ---- from the parts to the text: what is read is what was written
 
@@ -109,8 +109,8 @@ module _ (p : Parts) (t : List ℕ) (h : Writes p t) where
       (behind-is digit (p .whole) rest (h .whole .each) (rest-stops (h .fraction) (h .power))) refl (r .2)
       p (rw (h .text) (from-sign .0)) (front-is digit (p .whole) rest (h .whole .each) (rest-stops (h .fraction) (h .power))) (r .1) (q .1) (q .2)
 
-  pub written : numberOf t ≡ judged p
-  unfolding numberOf
+  pub written : numberIn t ≡ judged p
+  unfolding numberIn
   written = through (shapeRows t) (judged (partsOf t)) read-clear ∙ ap judged read-parts
 
 pub parts-unique : (p q : Parts) (t : List ℕ) → Writes p t → Writes q t → p ≡ q
@@ -209,8 +209,8 @@ one-answer a [] y s = inr tt
 one-answer a ((true, b) ∷ rs) y s = inl (s .0)
 one-answer a ((false, b) ∷ rs) y s = ⊎-elim (λ e. inl e) (λ c. inr (refl, c)) (one-answer a rs y (s .1))
 
-shape-or-none : (t : List ℕ) → (numberOf t ≡ noNumber) ⊎ Clear (shapeRows t)
-unfolding numberOf
+shape-or-none : (t : List ℕ) → (numberIn t ≡ noNumber) ⊎ Clear (shapeRows t)
+unfolding numberIn
 shape-or-none t = one-answer noNumber (shapeRows t) (judged (partsOf t)) (refl, (refl, (refl, (refl, (refl, tt)))))
 
 short-or-long : (p : Parts) → (Short p × (judged p ≡ Is (decimalOf p))) ⊎ ((Short p → ⊥) × (judged p ≡ tooLong))
@@ -246,36 +246,36 @@ unclear p e = ⊎-elim
     (short-or-long p)
 
 -- there is no other answer
-pub answers : (t : List ℕ) → ((n : Decimal) × (numberOf t ≡ Is n)) ⊎ ((numberOf t ≡ noNumber) ⊎ (numberOf t ≡ tooLong))
+pub answers : (t : List ℕ) → ((n : Decimal) × (numberIn t ≡ Is n)) ⊎ ((numberIn t ≡ noNumber) ⊎ (numberIn t ≡ tooLong))
 answers t = ⊎-elim (λ e. inr (inl e)) (λ c. (
     let h = written (partsOf t) t (shape-write t c) in
     ⊎-elim (λ s. inl (decimalOf (partsOf t), h ∙ s .1)) (λ l. inr (inr (h ∙ l .1))) (short-or-long (partsOf t)))) (shape-or-none t)
 
 -- 20 exactly where the grammar does not write the text
-pub no-number : (t : List ℕ) → (numberOf t ≡ noNumber) ↔ ((p : Parts) → Writes p t → ⊥)
+pub no-number : (t : List ℕ) → (numberIn t ≡ noNumber) ↔ ((p : Parts) → Writes p t → ⊥)
 no-number t = (λ e p h. unclear p (sym (written p t h) ∙ e), λ h. ⊎-elim (λ e. e) (λ c. absurd (h (partsOf t) (shape-write t c))) (shape-or-none t))
 
 -- 21 exactly where it does, with too many digits
-pub too-long : (t : List ℕ) → (numberOf t ≡ tooLong) ↔ ((p : Parts) × Writes p t × (Short p → ⊥))
+pub too-long : (t : List ℕ) → (numberIn t ≡ tooLong) ↔ ((p : Parts) × Writes p t × (Short p → ⊥))
 unfolding code
 too-long t = (
-  λ e. ⊎-elim (λ f. let z = apart (numberOf t) tooLong noNumber e f in absurd (omega arith)) (λ c. (
+  λ e. ⊎-elim (λ f. let z = apart (numberIn t) tooLong noNumber e f in absurd (omega arith)) (λ c. (
       let h = shape-write t c in
       ⊎-elim
-      (λ s. let z = apart (numberOf t) tooLong (Is (decimalOf (partsOf t))) e (written (partsOf t) t h ∙ s .1) in absurd (omega arith))
+      (λ s. let z = apart (numberIn t) tooLong (Is (decimalOf (partsOf t))) e (written (partsOf t) t h ∙ s .1) in absurd (omega arith))
       (λ l. (partsOf t, h, l .0)) (short-or-long (partsOf t)))) (shape-or-none t),
   λ w. ⊎-elim (λ s. absurd (w .2 (s .0))) (λ l. written (w .0) t (w .1) ∙ l .1) (short-or-long (w .0)),
 )
 
 -- a number exactly where it does within its digits; and then it is the parts' number
-pub is-number : (t : List ℕ) (n : Decimal) → (numberOf t ≡ Is n) ↔ ((p : Parts) × Writes p t × Short p × (n ≡ decimalOf p))
+pub is-number : (t : List ℕ) (n : Decimal) → (numberIn t ≡ Is n) ↔ ((p : Parts) × Writes p t × Short p × (n ≡ decimalOf p))
 unfolding code
 is-number t n = (
-  λ e. ⊎-elim (λ f. let z = apart (numberOf t) (Is n) noNumber e f in absurd (omega arith)) (λ c. (
+  λ e. ⊎-elim (λ f. let z = apart (numberIn t) (Is n) noNumber e f in absurd (omega arith)) (λ c. (
       let h = shape-write t c in
       ⊎-elim
       (λ s. (partsOf t, h, s .0, same-number (sym e ∙ (written (partsOf t) t h ∙ s .1))))
-      (λ l. let z = apart (numberOf t) (Is n) tooLong e (written (partsOf t) t h ∙ l .1) in absurd (omega arith))
+      (λ l. let z = apart (numberIn t) (Is n) tooLong e (written (partsOf t) t h ∙ l .1) in absurd (omega arith))
       (short-or-long (partsOf t)))) (shape-or-none t),
   λ w. ⊎-elim (λ s. written (w .0) t (w .1) ∙ s .1 ∙ ap Is (sym (w .3))) (λ l. absurd (l .0 (w .2))) (short-or-long (w .0)),
 )

@@ -8,7 +8,7 @@ use native.Mathlib.Omega.{arith}
 use lib.Dec.{eqb}
 use Rattle.decimal.specs.Run.{digit, All, all-append, all-among, all-weaker}
 use Rattle.decimal.specs.Grammar.{Parts, Sign, Sign.dash, Sign.nothing, Fraction, Fraction.no-point, Fraction.point, Power, Power.no-power, Power.power, Writes}
-use Rattle.decimal.specs.Number.{noNumber, numberOf}
+use Rattle.decimal.specs.Number.{noNumber, numberIn}
 use Rattle.decimal.specs.Agreed.{no-number}
 
 -- a digit, a point, a minus or E
@@ -37,18 +37,18 @@ written-marks p t h =
     (all-append mark (p .whole) (h .f ++ h .e) (digit-marks (p .whole) (h .whole .each)) (all-append mark (h .f) (h .e) (fraction-marks (h .fraction)) (power-marks (h .power)))))
 
 -- any other byte, anywhere in the text
-pub other-byte : (b : ℕ) → mark b ≡ false → (before after : List ℕ) → numberOf (before ++ b ∷ after) ≡ noNumber
+pub other-byte : (b : ℕ) → mark b ≡ false → (before after : List ℕ) → numberIn (before ++ b ∷ after) ≡ noNumber
 other-byte b e before after =
     no-number (before ++ b ∷ after) .1 (λ p h. (
     let z : _≡_ {A = Bool} true false = sym (all-among mark b before after (written-marks p (before ++ b ∷ after) h)) ∙ e in
     let n : _≡_ {A = ℕ} 0 1 = cc in
     omega arith))
 
-pub comma : (before after : List ℕ) → numberOf (before ++ 44 ∷ after) ≡ noNumber
+pub comma : (before after : List ℕ) → numberIn (before ++ 44 ∷ after) ≡ noNumber
 comma = other-byte 44 refl
 
-pub plus : (before after : List ℕ) → numberOf (before ++ 43 ∷ after) ≡ noNumber
+pub plus : (before after : List ℕ) → numberIn (before ++ 43 ∷ after) ≡ noNumber
 plus = other-byte 43 refl
 
-pub space : (before after : List ℕ) → numberOf (before ++ 32 ∷ after) ≡ noNumber
+pub space : (before after : List ℕ) → numberIn (before ++ 32 ∷ after) ≡ noNumber
 space = other-byte 32 refl

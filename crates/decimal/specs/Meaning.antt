@@ -17,7 +17,7 @@ use Rattle.decimal.specs.declared.Decimal.{Decimal}
 use Rattle.decimal.specs.declared.NumberAnswer.the-variants.{Is}
 use Rattle.decimal.specs.Run.{digit, All}
 use Rattle.decimal.specs.Grammar.{Parts, Fraction, Fraction.no-point, Fraction.point, Power, Power.no-power, Power.power, Writes, placed, over, under}
-use Rattle.decimal.specs.Number.{worth, worth-digit, value, powerOf, decimalOf, numberOf}
+use Rattle.decimal.specs.Number.{worth, worth-digit, value, powerOf, decimalOf, numberIn}
 use Rattle.decimal.specs.Agreed.{is-number}
 use Rattle.decimal.specs.Power.{power-down, power-less, power-more}
 
@@ -129,7 +129,7 @@ means p t h =
     }
 
 -- an answer that is a number means the value of its text, whose parts are unique (`parts-unique`)
-pub number-means : (t : List ℕ) (n : Decimal) → numberOf t ≡ Is n → (p : Parts) × Writes p t × Means n p
+pub number-means : (t : List ℕ) (n : Decimal) → numberIn t ≡ Is n → (p : Parts) × Writes p t × Means n p
 number-means t n e =
     let w = is-number t n .0 e in
     (w .0, w .1, subst (λ (m : Decimal). Means m (w .0)) (sym (w .3)) (means (w .0) t (w .1)))

@@ -135,8 +135,8 @@ partsOf t =
     let v = past 46 (behind digit s) in
     tailParts (has 45 t) (front digit s) (front digit v) (behind digit v)
 
-unfoldable pub numberOf : List ℕ → NumberAnswer
-numberOf t = first (shapeRows t) (judged (partsOf t))
+unfoldable pub numberIn : List ℕ → NumberAnswer
+numberIn t = first (shapeRows t) (judged (partsOf t))
 
 -- ---- a law for each answer, with what the code found and tested
 
@@ -174,19 +174,19 @@ module _ (m : Bool) (w d x : List ℕ) {e : Bool} (is-e : e ≡ has 69 x) where
       tail-judged h is-down at-es = rw (← is-e, ok, ← at-z, ← at-y, ← is-n, some, ← at-r, le-ltb 0 (length r) h, ← is-down, ← at-es)
 
 module _ (t : List ℕ) {s : List ℕ} {n : ℕ} (at-s : s ≡ past 45 t) (is-n : n ≡ run digit s) where
-  pub no-digit : n ≡ 0 → noNumber ≡ numberOf t
-  unfolding numberOf
+  pub no-digit : n ≡ 0 → noNumber ≡ numberIn t
+  unfolding numberIn
   no-digit h = rw (← at-s, ← is-n, eq-eqb n 0 h)
 
   module _ {u v : List ℕ} {b : Bool} {m : ℕ} (some : n ≡ 0 → ⊥) (at-u : u ≡ drop n s) (is-b : b ≡ has 46 u) (at-v : v ≡ past 46 u)
       (is-m : m ≡ run digit v) where
-    pub no-decimal : b && eqb m 0 ≡ true → noNumber ≡ numberOf t
-    unfolding numberOf
+    pub no-decimal : b && eqb m 0 ≡ true → noNumber ≡ numberIn t
+    unfolding numberIn
     no-decimal h = rw (← at-s, ← is-n, ne-eqb n 0 some, ← at-u, ← is-b, ← at-v, ← is-m, h)
 
     pub to-tail : b && eqb m 0 ≡ false → {minus : Bool} {w d x : List ℕ} → minus ≡ has 45 t → w ≡ take n s → d ≡ take m v → x ≡ drop m v
-        → tailOf minus w d x ≡ numberOf t
-    unfolding numberOf partsOf tailOf
+        → tailOf minus w d x ≡ numberIn t
+    unfolding numberIn partsOf tailOf
     to-tail h is-minus at-w at-d at-x =
         rw (← is-minus, ← at-s, ← is-n, ne-eqb n 0 some, ← at-u, ← is-b, ← at-v, ← is-m, h, ← at-w, ← at-d, ← at-x)
 

@@ -10,7 +10,7 @@ ghost use lib.ListN.{length, take, drop};
 ghost use Rattle.word.specs.Part.{PartOf, RestOf};
 ghost use Rattle.text.specs.Runs.{run};
 ghost use Rattle.decimal.specs.Run.{isOf};
-ghost use Rattle.decimal.specs.Number.{has, past, worth, value, Room, signed, powerOf, partsAre, decimalOf, noNumber, tooLong, judged, tailOf, numberOf};
+ghost use Rattle.decimal.specs.Number.{has, past, worth, value, Room, signed, powerOf, partsAre, decimalOf, noNumber, tooLong, judged, tailOf, numberIn};
 
 // The answer to the number question: sign, coefficient as written and power of ten; zero has sign plus. (It is no `Number`: a struct and a function
 // of one module may not differ only in the case of their letters.)
@@ -209,7 +209,7 @@ fn tail(minus: bool, whole: &[u8], decimals: &[u8], x: &[u8]) -> NumberAnswer
 // The number that a text is (document 01, "Numbers in values"): a comma, a plus, a space and any other byte end the reading, and what is left then
 // makes it no number.
 pub fn number(text: &[u8]) -> NumberAnswer
-    ensures { λ r. ⌜ r ≡ numberOf (now (text .entry)) ⌝ }
+    ensures { λ r. ⌜ r ≡ numberIn (now (text .entry)) ⌝ }
 {
     let s = past(text, b'-');
     let n = run(Kind::Digit, s);

@@ -9,7 +9,7 @@ use lib.ListN.{length}
 use lib.Dec.{ltb, leb, eqb}
 use Rattle.word.specs.Word.{wordAt}
 use Rattle.sample.specs.Needed.{byCode, needed, width}
-use Rattle.sample.specs.Run.{run}
+use Rattle.sample.specs.Run.{valuesFrom}
 
 -- ---- codes 1, 2, 4 and 5: a sample is one whole number
 
@@ -56,7 +56,7 @@ integersThere code s block = integersAsked code s && leb (needed code s) (length
 
 -- what is left in a lent row: as many samples as it has, if they are there, and else itself
 unfoldable pub integersRead : ℕ → Bool → List ℕ → List ℤ → List ℤ
-integersRead code high block row = cond (integersThere code (length row) block) (run (sampleOf code high block) 0 (length row)) row
+integersRead code high block row = cond (integersThere code (length row) block) (valuesFrom (sampleOf code high block) 0 (length row)) row
 
 -- ---- the bits of a block (figures B-4 and B-5)
 
@@ -79,8 +79,8 @@ bitsThere code s t block = bitsAsked code && (eqb t s && leb (needed code s) (le
 
 -- what is left in the two lent rows: all or nothing
 unfoldable pub patternsRead : ℕ → Bool → List ℕ → List ℕ → List ℕ → List ℕ
-patternsRead code high block row classes = cond (bitsThere code (length row) (length classes) block) (run (patternOf code high block) 0 (length row)) row
+patternsRead code high block row classes = cond (bitsThere code (length row) (length classes) block) (valuesFrom (patternOf code high block) 0 (length row)) row
 
 unfoldable pub classesRead : ℕ → Bool → List ℕ → List ℕ → List ℕ → List ℕ
 classesRead code high block row classes =
-    cond (bitsThere code (length row) (length classes) block) (run (λ i. classOf code (patternOf code high block i)) 0 (length row)) classes
+    cond (bitsThere code (length row) (length classes) block) (valuesFrom (λ i. classOf code (patternOf code high block i)) 0 (length row)) classes

@@ -13,7 +13,7 @@ use borrow.Author.Tests.{lt-ltb, le-ltb, le-leb, lt-leb, leb-true, leb-false, eq
 use Rattle.word.specs.Tests.{and-false}
 use Rattle.word.specs.WordLaws.{word-take}
 use Rattle.sample.specs.Needed.{needed, width}
-use Rattle.sample.specs.Run.{run, run-same, run-map}
+use Rattle.sample.specs.Run.{valuesFrom, run-same, run-map}
 use Rattle.decode.specs.Sample.{twos, ones, scaled, groupSample, patternOf, sampleOf, integersAsked, integersThere, integersRead, classOf, bitsAsked, bitsThere, patternsRead, classesRead}
 
 -- ---- two's complement
@@ -90,8 +90,8 @@ unfolding integersRead integersThere
 read-needed code high block n row h = rw (length-take n block, leb-cut (needed code (length row)) n (length block) h) (go (integersAsked code (length row)) refl)
   where
     go : (t : Bool) → integersAsked code (length row) ≡ t
-        → cond (t && leb (needed code (length row)) (length block)) (run (sampleOf code high (take n block)) 0 (length row)) row
-        ≡ cond (t && leb (needed code (length row)) (length block)) (run (sampleOf code high block) 0 (length row)) row
+        → cond (t && leb (needed code (length row)) (length block)) (valuesFrom (sampleOf code high (take n block)) 0 (length row)) row
+        ≡ cond (t && leb (needed code (length row)) (length block)) (valuesFrom (sampleOf code high block) 0 (length row)) row
     go true e =
         ap (λ (r : List ℤ). cond (leb (needed code (length row)) (length block)) r row)
         (run-same (sampleOf code high (take n block)) (sampleOf code high block) 0 (length row)
@@ -129,7 +129,7 @@ unfolding integersRead
 nothing-read code high block row h = (sym h, sym (simp h))
 
 pub all-read : (code : ℕ) (high : Bool) (block : List ℕ) (old row : List ℤ) → integersThere code (length old) block ≡ true
-    → row ≡ run (sampleOf code high block) 0 (length old)
+    → row ≡ valuesFrom (sampleOf code high block) 0 (length old)
     → (true ≡ integersThere code (length old) block) × (row ≡ integersRead code high block old)
 unfolding integersRead
 all-read code high block old row h e = (sym h, e ∙ sym (simp h))
@@ -165,11 +165,11 @@ unfolding patternsRead classesRead
 no-bits-read code high block row classes h = (sym h, (sym (simp h), sym (simp h)))
 
 pub all-bits-read : (code : ℕ) (high : Bool) (block oldRow oldClasses row classes : List ℕ) → bitsThere code (length oldRow) (length oldClasses) block ≡ true
-    → row ≡ run (patternOf code high block) 0 (length oldRow) → classes ≡ map (classOf code) row
+    → row ≡ valuesFrom (patternOf code high block) 0 (length oldRow) → classes ≡ map (classOf code) row
     → (true ≡ bitsThere code (length oldRow) (length oldClasses) block)
     × ((row ≡ patternsRead code high block oldRow oldClasses) × (classes ≡ classesRead code high block oldRow oldClasses))
 unfolding patternsRead classesRead
 all-bits-read code high block oldRow oldClasses row classes h e f =
-    let g : classes ≡ run (λ i. classOf code (patternOf code high block i)) 0 (length oldRow) =
+    let g : classes ≡ valuesFrom (λ i. classOf code (patternOf code high block i)) 0 (length oldRow) =
     f ∙ ap (map (classOf code)) e ∙ sym (run-map (classOf code) (patternOf code high block) 0 (length oldRow)) in
     (sym h, (e ∙ sym (simp h), g ∙ sym (simp h)))

@@ -8,7 +8,7 @@ ghost use lib.ListN.{length};
 ghost use Rattle.word.specs.Put.{put};
 ghost use Rattle.word.specs.Word.{wordAt};
 ghost use Rattle.sample.specs.Needed.{needed};
-ghost use Rattle.sample.specs.Run.{run};
+ghost use Rattle.sample.specs.Run.{valuesFrom};
 ghost use Rattle.decode.specs.Sample.{twos, exponentIn, scaled, groupSample, patternOf, sampleOf, integersThere, integersRead};
 ghost use Rattle.decode.specs.Sample.{classOf, bitsThere, patternsRead, classesRead};
 
@@ -130,7 +130,7 @@ fn group_sample(block: &[u8], high: bool, at: usize, exponents: usize, k: usize)
 // The four samples of group g, each taken from its words and stored before the next: no array is kept.
 fn read_group(block: &[u8], high: bool, g: usize, row: &mut [i32])
     requires { ⌜ (10 * g + 10 ≤ length (now block)) × (4 * g + 4 ≤ length (now row)) ⌝ }
-    ensures { λ _. ⌜ now (row .exit) ≡ put (now (row .entry)) (4 * g) (run (sampleOf 3 high (now (block .entry))) (4 * g) 4) ⌝ }
+    ensures { λ _. ⌜ now (row .exit) ≡ put (now (row .entry)) (4 * g) (valuesFrom (sampleOf 3 high (now (block .entry))) (4 * g) 4) ⌝ }
 {
     let at = 10 * g;
     let exponents = word_at(block, high, at);
@@ -147,7 +147,7 @@ fn read_group(block: &[u8], high: bool, g: usize, row: &mut [i32])
 // All groups of a row.
 fn read_groups(block: &[u8], high: bool, row: &mut [i32])
     requires { ⌜ (length (now row) % 4 ≡ 0) × (needed 3 (length (now row)) ≤ length (now block)) ⌝ }
-    ensures { λ _. ⌜ now (row .exit) ≡ run (sampleOf 3 high (now (block .entry))) 0 (length (now (row .entry))) ⌝ }
+    ensures { λ _. ⌜ now (row .exit) ≡ valuesFrom (sampleOf 3 high (now (block .entry))) 0 (length (now (row .entry))) ⌝ }
 {
     let count = row.len() / 4;
     let mut g = 0;
@@ -214,7 +214,7 @@ fn class5(pattern: u64) -> u8
 // The patterns of code 4, and their classes.
 fn patterns4(block: &[u8], high: bool, row: &mut [u64])
     requires { ⌜ needed 4 (length (now row)) ≤ length (now block) ⌝ }
-    ensures { λ _. ⌜ now (row .exit) ≡ run (patternOf 4 high (now (block .entry))) 0 (length (now (row .entry))) ⌝ }
+    ensures { λ _. ⌜ now (row .exit) ≡ valuesFrom (patternOf 4 high (now (block .entry))) 0 (length (now (row .entry))) ⌝ }
 {
     let mut i = 0;
     while i < row.len() {
@@ -237,7 +237,7 @@ fn classes4(row: &[u64], classes: &mut [u8])
 // The same of code 5.
 fn patterns5(block: &[u8], high: bool, row: &mut [u64])
     requires { ⌜ needed 5 (length (now row)) ≤ length (now block) ⌝ }
-    ensures { λ _. ⌜ now (row .exit) ≡ run (patternOf 5 high (now (block .entry))) 0 (length (now (row .entry))) ⌝ }
+    ensures { λ _. ⌜ now (row .exit) ≡ valuesFrom (patternOf 5 high (now (block .entry))) 0 (length (now (row .entry))) ⌝ }
 {
     let mut i = 0;
     while i < row.len() {

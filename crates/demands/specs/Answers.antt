@@ -9,11 +9,14 @@ use mathlib.Core.Logic.{_↔_}
 use Prim.Native.Nat.{ℕ}
 use lib.IntN.{ℤ}
 use lib.ListN.{length, take}
+use Rattle.head.specs.declared.Purpose.{Purpose}
+use Rattle.text.specs.declared.Manner.the-variants.{Strict}
+use Rattle.refusal.specs.Verdicts.{asked}
 use Rattle.refusal.specs.declared.Refusal.{Refusal}
 use Rattle.refusal.specs.declared.Verdict.{Verdict}
 use Rattle.refusal.specs.declared.Verdict.the-variants.{Accepted, Refused}
 use Rattle.image.specs.Image.{checkOf}
-use Rattle.reader.specs.Questions.{asked, integersAnswer, bitsAnswer, integersLeft, patternsLeft, classesLeft}
+use Rattle.reader.specs.Questions.{integersAnswer, bitsAnswer, integersLeft, patternsLeft, classesLeft}
 use Rattle.reader.specs.Answers.{integers-kept, bits-kept}
 use Rattle.start.specs.declared.Written.the-variants as written
 use Rattle.layout.specs.Layout.{startSize, Trace}
@@ -22,19 +25,19 @@ use Rattle.append.specs.Grown.{newLength}
 use Rattle.writer.specs.Answers.{addAnswer, addLeft}
 use Rattle.start.specs.StartShown.{not-refused, start-refused}
 use Rattle.writer.specs.Shown.{add-refused}
-use Rattle.demands.specs.FirstRow.{NoneMet, Met, firstOf, refused-by-the-first, accepted-where-none-is-met}
+use Rattle.refusal.specs.FirstRow.{NoneMet, Met, firstOf, refused-by-the-first, accepted-where-none-is-met}
 use Rattle.demands.specs.FileRows.{checkRows, check-answers-first}
-use Rattle.demands.specs.QuestionRows.{integersRows, bitsRows, integers-answer-first, bits-answer-first}
+use Rattle.demands.specs.QuestionRows.{integersAskedRows, bitsAskedRows, integers-answer-first, bits-answer-first}
 use Rattle.demands.specs.WriterRows.{startRows, addRows, start-answers-first, addition-answers-first}
 
 -- ---- "input that meets rows of the refusal table gets the first of them in its order, with its place; no other input is refused"
 
 -- Rules out a check that refuses what keeps the rules, or that accepts what breaks one.
-pub check-refuses-by-the-first : (grow : Bool) (xs : List ℕ) (n : ℕ) (r : Refusal) → (checkOf grow xs n ≡ Refused r) ↔ Met (checkRows grow xs n) r
-check-refuses-by-the-first grow xs n r = rw (check-answers-first grow xs n) (refused-by-the-first (checkRows grow xs n) r)
+pub check-refuses-by-the-first : (purpose : Purpose) (xs : List ℕ) (n : ℕ) (r : Refusal) → (checkOf Strict purpose xs n ≡ Refused r) ↔ Met (checkRows Strict purpose xs n) r
+check-refuses-by-the-first purpose xs n r = rw (check-answers-first Strict purpose xs n) (refused-by-the-first (checkRows Strict purpose xs n) r)
 
-pub check-accepts-where-none : (grow : Bool) (xs : List ℕ) (n : ℕ) → (checkOf grow xs n ≡ Accepted) ↔ NoneMet (checkRows grow xs n)
-check-accepts-where-none grow xs n = rw (check-answers-first grow xs n) (accepted-where-none-is-met (checkRows grow xs n))
+pub check-accepts-where-none : (purpose : Purpose) (xs : List ℕ) (n : ℕ) → (checkOf Strict purpose xs n ≡ Accepted) ↔ NoneMet (checkRows Strict purpose xs n)
+check-accepts-where-none purpose xs n = rw (check-answers-first Strict purpose xs n) (accepted-where-none-is-met (checkRows Strict purpose xs n))
 
 -- a length is answered, or a refusal
 to-passed : (v : Verdict) (end to : ℕ) → asked written.Refused v (written.To end) ≡ written.To to → v ≡ Accepted
@@ -77,17 +80,17 @@ pub addition-accepts-where-none : (xs : List ℕ) (n : ℕ) (x : Trace) → (add
 addition-accepts-where-none xs n x = writes (addRows xs n x) (newLength (take n xs) n x) (addAnswer xs n x) (addition-answers-first xs n x) .1
 
 -- Rules out a row of samples that is refused for another reason, or filled where it must not be.
-pub integers-refused-by-the-first : (xs : List ℕ) (n : ℕ) (z : ℤ) (s : ℕ) (r : Refusal) → (integersAnswer xs n z s ≡ Refused r) ↔ Met (integersRows xs n z s) r
-integers-refused-by-the-first xs n z s r = rw (integers-answer-first xs n z s) (refused-by-the-first (integersRows xs n z s) r)
+pub integers-refused-by-the-first : (xs : List ℕ) (n : ℕ) (z : ℤ) (s : ℕ) (r : Refusal) → (integersAnswer Strict xs n z s ≡ Refused r) ↔ Met (integersAskedRows Strict xs n z s) r
+integers-refused-by-the-first xs n z s r = rw (integers-answer-first Strict xs n z s) (refused-by-the-first (integersAskedRows Strict xs n z s) r)
 
-pub integers-accepted-where-none : (xs : List ℕ) (n : ℕ) (z : ℤ) (s : ℕ) → (integersAnswer xs n z s ≡ Accepted) ↔ NoneMet (integersRows xs n z s)
-integers-accepted-where-none xs n z s = rw (integers-answer-first xs n z s) (accepted-where-none-is-met (integersRows xs n z s))
+pub integers-accepted-where-none : (xs : List ℕ) (n : ℕ) (z : ℤ) (s : ℕ) → (integersAnswer Strict xs n z s ≡ Accepted) ↔ NoneMet (integersAskedRows Strict xs n z s)
+integers-accepted-where-none xs n z s = rw (integers-answer-first Strict xs n z s) (accepted-where-none-is-met (integersAskedRows Strict xs n z s))
 
-pub bits-refused-by-the-first : (xs : List ℕ) (n : ℕ) (z : ℤ) (s c : ℕ) (r : Refusal) → (bitsAnswer xs n z s c ≡ Refused r) ↔ Met (bitsRows xs n z s c) r
-bits-refused-by-the-first xs n z s c r = rw (bits-answer-first xs n z s c) (refused-by-the-first (bitsRows xs n z s c) r)
+pub bits-refused-by-the-first : (xs : List ℕ) (n : ℕ) (z : ℤ) (s c : ℕ) (r : Refusal) → (bitsAnswer Strict xs n z s c ≡ Refused r) ↔ Met (bitsAskedRows Strict xs n z s c) r
+bits-refused-by-the-first xs n z s c r = rw (bits-answer-first Strict xs n z s c) (refused-by-the-first (bitsAskedRows Strict xs n z s c) r)
 
-pub bits-accepted-where-none : (xs : List ℕ) (n : ℕ) (z : ℤ) (s c : ℕ) → (bitsAnswer xs n z s c ≡ Accepted) ↔ NoneMet (bitsRows xs n z s c)
-bits-accepted-where-none xs n z s c = rw (bits-answer-first xs n z s c) (accepted-where-none-is-met (bitsRows xs n z s c))
+pub bits-accepted-where-none : (xs : List ℕ) (n : ℕ) (z : ℤ) (s c : ℕ) → (bitsAnswer Strict xs n z s c ≡ Accepted) ↔ NoneMet (bitsAskedRows Strict xs n z s c)
+bits-accepted-where-none xs n z s c = rw (bits-answer-first Strict xs n z s c) (accepted-where-none-is-met (bitsAskedRows Strict xs n z s c))
 
 -- ---- "after a refusal no byte or sample of the caller's buffers has changed". Check and questions on blocks, strings and numbers are lent no memory that
 -- they may change. Rules out a writer that stores before its last row, and a reader that fills a row in part.
@@ -99,10 +102,10 @@ refused-start-changes-nothing = start-refused
 pub refused-addition-changes-nothing : (xs : List ℕ) (n : ℕ) (x : Trace) (r : Refusal) → addAnswer xs n x ≡ written.Refused r → addLeft xs n x ≡ xs
 refused-addition-changes-nothing = add-refused
 
-pub refused-integers-change-nothing : (xs : List ℕ) (n : ℕ) (z : ℤ) (row : List ℤ) (r : Refusal) → integersAnswer xs n z (length row) ≡ Refused r
-    → integersLeft xs n z row ≡ row
-refused-integers-change-nothing = integers-kept
+pub refused-integers-change-nothing : (xs : List ℕ) (n : ℕ) (z : ℤ) (row : List ℤ) (r : Refusal) → integersAnswer Strict xs n z (length row) ≡ Refused r
+    → integersLeft Strict xs n z row ≡ row
+refused-integers-change-nothing = integers-kept Strict
 
 pub refused-bits-change-nothing : (xs : List ℕ) (n : ℕ) (z : ℤ) (row classes : List ℕ) (r : Refusal)
-    → bitsAnswer xs n z (length row) (length classes) ≡ Refused r → (patternsLeft xs n z row classes ≡ row) × (classesLeft xs n z row classes ≡ classes)
-refused-bits-change-nothing = bits-kept
+    → bitsAnswer Strict xs n z (length row) (length classes) ≡ Refused r → (patternsLeft Strict xs n z row classes ≡ row) × (classesLeft Strict xs n z row classes ≡ classes)
+refused-bits-change-nothing = bits-kept Strict

@@ -9,6 +9,8 @@ use Prim.Native.Nat.{ℕ, _+_, _*_, _≤_, _<_}
 use native.Mathlib.Omega.{arith}
 use lib.ListN.{length, getD, take}
 use lib.Dec.{eqb}
+use Rattle.head.specs.declared.Purpose.the-variants.{Read}
+use Rattle.text.specs.declared.Manner.the-variants.{Strict}
 use Rattle.word.specs.Bytes.{Bytes}
 use Rattle.word.specs.Round.{round4}
 use Rattle.word.specs.Word.{wordAt}
@@ -16,14 +18,14 @@ use Rattle.word.specs.WordLaws.{word-take}
 use Rattle.refusal.specs.declared.Verdict.the-variants.{Accepted}
 use Rattle.sample.specs.Needed.{needed, room}
 use Rattle.text.specs.Runs.{run, same}
-use Rattle.sheet.specs.Lines.{lineLen, keyLen, linesFrom, linesOf}
-use Rattle.sheet.specs.Area.{joined, stringsOf, textSize, areaSize}
-use Rattle.head.specs.Head.{highFirst, roomOf, countOf, stringEnd, lineEnd}
+use Rattle.sheet.specs.Lines.{lineLen, lineKeyLen, sheetLinesFrom, sheetLines}
+use Rattle.sheet.specs.Area.{joined, sheetStrings, textSize, areaSize}
+use Rattle.head.specs.Head.{fileBlockOf, highFirst, roomOf, countOf, stringEnd, lineEnd}
 use Rattle.block.specs.Block.{pointerOf, blockSize, dataSize, sampleCount, formatCode, traceBlockOf}
 use Rattle.image.specs.Image.{checkOf}
-use Rattle.reader.specs.declared.FileAnswer.{FileAnswer}
-use Rattle.reader.specs.declared.FileAnswer.the-variants as file
-use Rattle.reader.specs.Questions.{fileFacts, fileAnswer}
+use Rattle.head.specs.declared.FileAnswer.{FileAnswer}
+use Rattle.head.specs.declared.FileAnswer.the-variants as file
+use Rattle.reader.specs.Questions.{fileAnswer}
 use Rattle.start.specs.declared.Written.the-variants.{To}
 use Rattle.layout.specs.Layout.{nul, lineFeed, startSize, Trace, count, traceSize}
 use Rattle.layout.specs.LayoutLaws.{Stands}
@@ -36,7 +38,7 @@ use Rattle.growth.specs.Grows.{grown-grows}
 use Rattle.growth.specs.Kept.{count-grown}
 use Rattle.afresh.specs.FileOf.{sizes, fileSize}
 use Rattle.afresh.specs.Calls.{after, answersOf, acceptedOf, start-grows, calls-afresh}
-use Rattle.afresh.specs.Stands.{noTrace, file-traces}
+use Rattle.afresh.specs.Stands.{emptyTrace, file-traces}
 use Rattle.afresh.specs.FileLaws.{file-fronted}
 use Rattle.afresh.specs.Afresh.{lengths, start-accepted, none-refused, written-afresh, afresh-accepted, accepted-writable}
 use Rattle.afresh.specs.Worked.{units, shot, worked-sizes, worked-good, worked-writable}
@@ -54,21 +56,21 @@ lengthOf xs order slots sheet ts = after (startLeft xs order slots sheet) (start
 
 -- every list that can be written is a file that the reader takes, with as many traces as the list
 pub not-all-files-refused : (xs : List ℕ) (order slots : ℕ) (sheet : List ℕ) (ts : List Trace) → GoodList xs order slots sheet ts → 0 < length ts
-    → (checkOf false (bufferOf xs order slots sheet ts) (lengthOf xs order slots sheet ts) ≡ Accepted)
-    × (fileAnswer (bufferOf xs order slots sheet ts) (lengthOf xs order slots sheet ts)
+    → (checkOf Strict Read (bufferOf xs order slots sheet ts) (lengthOf xs order slots sheet ts) ≡ Accepted)
+    × (fileAnswer Strict (bufferOf xs order slots sheet ts) (lengthOf xs order slots sheet ts)
     ≡ file.Is (record { high = eqb order 1; m = 4 * slots; n = length ts; strings = 1; lines = 1 }))
 not-all-files-refused xs order slots sheet ts g some =
     let w = good-is-writable g in
     let h = written-afresh xs order slots sheet ts w .holds in
     let s = h .size in
     let m = w .most in (
-      afresh-accepted xs order slots sheet ts w false (λ z. absurd (omega arith)),
+      afresh-accepted xs order slots sheet ts w Read (λ z. absurd (omega arith)),
       list-file-block h (w .some) (w .measures) (omega arith) some,
     )
 
 -- such lists are there: document 01's own file ("pointer 56, B 44, D 8, length 108"), and one with two slots and that trace twice
 two-sizes : fileSize 2 units (shot ∷ shot ∷ []) ≡ 164
-unfolding startSize areaSize stringsOf linesOf linesFrom lineLen keyLen run joined same textSize room needed count fileSize sizes
+unfolding startSize areaSize sheetStrings sheetLines sheetLinesFrom lineLen lineKeyLen run joined same textSize room needed count fileSize sizes
 two-sizes = refl
 
 two-good : (xs : List ℕ) → 164 ≤ length xs → GoodList xs 0 2 units (shot ∷ shot ∷ [])
@@ -79,7 +81,7 @@ two-good xs h =
       some = omega arith;
       few = omega arith;
       measures = worked-good .0;
-      good = (worked-good .1 .0, (worked-good .1 .0, tt));
+      good = ((worked-good .1 .0 .0, (worked-good .1 .0 .0, tt)), tt);
       slotted = omega arith;
       fits = omega arith;
       most = omega arith;
@@ -90,8 +92,8 @@ traces-in (file.Is f) = f .n
 traces-in (file.Refused r) = 0
 
 pub not-the-same-for-all : (xs : List ℕ) → 164 ≤ length xs
-    → fileAnswer (bufferOf xs 0 1 units (shot ∷ [])) (lengthOf xs 0 1 units (shot ∷ []))
-    ≡ fileAnswer (bufferOf xs 0 2 units (shot ∷ shot ∷ [])) (lengthOf xs 0 2 units (shot ∷ shot ∷ []))
+    → fileAnswer Strict (bufferOf xs 0 1 units (shot ∷ [])) (lengthOf xs 0 1 units (shot ∷ []))
+    ≡ fileAnswer Strict (bufferOf xs 0 2 units (shot ∷ shot ∷ [])) (lengthOf xs 0 2 units (shot ∷ shot ∷ []))
     → ⊥
 not-the-same-for-all xs h e =
     let a = not-all-files-refused xs 0 1 units (shot ∷ []) (writable-is-good (worked-writable xs (omega arith))) (omega arith) .1 in
@@ -138,24 +140,24 @@ pub every-trace-is-written : (xs : List ℕ) (order slots : ℕ) (sheet : List �
     → Stands (eqb order 1) nul lineFeed
     (take (after (startLeft xs order slots sheet) e calls .1) (after (startLeft xs order slots sheet) e calls .0))
     (fileSize slots sheet (take k (acceptedOf (startLeft xs order slots sheet) e calls)))
-    (getD (acceptedOf (startLeft xs order slots sheet) e calls) k noTrace)
+    (getD (acceptedOf (startLeft xs order slots sheet) e calls) k emptyTrace)
 every-trace-is-written xs order slots sheet e to calls k low =
     let w = accepted-writable xs order slots sheet e to calls in
     let ts : List Trace = acceptedOf (startLeft xs order slots sheet) e calls in
-    rw (calls-afresh xs order slots sheet e to calls .0) (file-traces (eqb order 1) slots sheet ts (w .slotted) (w .good) (w .most) k low .here)
+    rw (calls-afresh xs order slots sheet e to calls .0) (file-traces (eqb order 1) slots sheet ts (w .slotted) (w .good .0) (w .most) k low .here)
 
 -- ---- "invented N, S or length"
 
 -- what the reader answers stands in the file: N in bytes 6 and 7, S in the four bytes from p+8
 pub numbers-are-the-files : (f : List ℕ) (k : ℕ)
-    → (fileFacts f .n ≡ wordAt 2 (highFirst f) f 6)
-    × (fileFacts f .m ≡ wordAt 2 (highFirst f) f 4)
+    → (fileBlockOf f .n ≡ wordAt 2 (highFirst f) f 6)
+    × (fileBlockOf f .m ≡ wordAt 2 (highFirst f) f 4)
     × (traceBlockOf (highFirst f) f k .p ≡ wordAt 4 (highFirst f) f (32 + 4 * k))
     × (traceBlockOf (highFirst f) f k .b ≡ wordAt 2 (highFirst f) f (traceBlockOf (highFirst f) f k .p + 2))
     × (traceBlockOf (highFirst f) f k .d ≡ wordAt 4 (highFirst f) f (traceBlockOf (highFirst f) f k .p + 4))
     × (traceBlockOf (highFirst f) f k .s ≡ wordAt 4 (highFirst f) f (traceBlockOf (highFirst f) f k .p + 8))
     × (traceBlockOf (highFirst f) f k .code ≡ getD f (traceBlockOf (highFirst f) f k .p + 12) 0)
-unfolding countOf roomOf traceBlockOf pointerOf blockSize dataSize sampleCount formatCode
+unfolding fileBlockOf countOf roomOf traceBlockOf pointerOf blockSize dataSize sampleCount formatCode
 numbers-are-the-files f k = (refl, refl, refl, refl, refl, refl, refl)
 
 -- what the writers put there is the list's: N the number of accepted traces, and the length where the last one's D bytes end

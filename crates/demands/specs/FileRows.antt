@@ -5,187 +5,209 @@
 use mathlib.Core.Path.{_≡_, refl, sym, ap, ap₂, _∙_}
 use mathlib.Core.Bool.{Bool, true, false, not}
 use mathlib.Core.List.{List, [], _∷_, _++_}
-use Prim.Native.Nat.{ℕ, zero, suc, _+_, _-_, _*_}
+use Prim.Native.Nat.{ℕ, zero, suc, _+_, _*_}
 use lib.ListN.{length, take, drop}
-use lib.Dec.{ltb, eqb}
+use lib.IntN.{ℤ, pos, negsuc}
+use lib.Dec.{eqb}
 use Rattle.word.specs.Part.{part}
-use Rattle.refusal.specs.declared.Rule.the-variants.{Length, Pointer, StringOffset, StringEnd, Character, KeywordOrder}
+use Rattle.refusal.specs.declared.Rule.{Rule}
+use Rattle.refusal.specs.declared.Rule.the-variants.{Length, Pointer, StringOffset}
 use Rattle.refusal.specs.declared.Part.{Part}
 use Rattle.refusal.specs.declared.Part.the-variants.{File, Trace}
 use Rattle.refusal.specs.declared.Verdict.{Verdict}
 use Rattle.refusal.specs.declared.Verdict.the-variants.{Accepted, Refused}
-use Rattle.refusal.specs.Table.{refusal}
-use Rattle.refusal.specs.Rows.{pick}
+use Rattle.refusal.specs.Table.{refusal, numberOf, partOf}
+use Rattle.refusal.specs.Rows.{Rows, pick, ruled, ruled-map}
+use Rattle.refusal.specs.Verdicts.{andThen}
+use Rattle.refusal.specs.FirstRow.{row, firstOf, first-nothing, first-one, first-row, first-more, flat, EachFirst, first-flat, rowsAt, rule-first, each, Refuses, first-each}
+use Rattle.text.specs.declared.Manner.{Manner}
+use Rattle.text.specs.Manner.{openEnd}
+use Rattle.strings.specs.declared.Frame.{Frame}
 use Rattle.strings.specs.declared.Frame.the-variants.{End, Broken, Text}
+use Rattle.strings.specs.declared.Judged.{Judged}
 use Rattle.strings.specs.declared.Judged.the-variants.{Keyword, Wrong}
-use Rattle.text.specs.Chars.{keyChar}
-use Rattle.text.specs.Runs.{all, same}
-use Rattle.text.specs.Order.{rises}
-use Rattle.text.specs.Note.{valueOk}
-use Rattle.strings.specs.Strings.{offset, body, keyLen, keyOf, valueOf, frameOf, judgedOf, onJudged, onFrame, stepOf, onStep, stringsFrom, stringsOf}
+use Rattle.strings.specs.Strings.{offset, body, keyLen, frameRows, endOrText, frameOf, textRows, judgedOf, onJudged, onFrame, stepOf, onStep, stringsFrom, stringsOf}
+use Rattle.head.specs.declared.Purpose.{Purpose}
 use Rattle.head.specs.Head.{highFirst, roomOf, countOf, stringEnd, lineEnd, headRows, headOf}
 use Rattle.block.specs.Block.{pointerOf, blockSize, endAt, badPointer, pointerRow, blockRows, blockOf}
-use Rattle.image.specs.Image.{areaOf, andThen, traceOf, tracesFrom, restOf, imageOf, badLength, checkOf}
-use Rattle.demands.specs.FirstRow.{row, firstOf, first-nothing, first-row, first-more, first-next, each, Refuses, first-each}
+use Rattle.block.specs.BlockLaws.{headAt}
+use Rattle.image.specs.Image.{areaVerdict, traceChecks, traceOf, tracesFrom, filledChecks, restOf, imageOf, badLength, checkOf}
 
--- ---- the strings of an area, from one at the place `at` on: 14 "offset not in the area, too small for a keyword, or past it", 15 "terminator not at the
--- string's end", 16 "forbidden character or empty keyword", 17 "order", and then the next string's. "Offset 0 ends the list"
-unfoldable pub stringRows : ℕ → Bool → List ℕ → List ℕ → Part → List ℕ → List ℕ → ℕ → List Verdict
-stringRows zero high t u p prev l at = Refused (refusal StringOffset p at) ∷ []
-stringRows (suc m) high t u p prev l at =
+-- ---- the strings of an area, from one at the place `at` on: 14 and 15 (`frameRows` of `strings`), 16 and 17 (`textRows`), and then the next string's.
+-- "Offset 0 ends the list". `how` is the manner of reading
+unfoldable pub stringRows : Manner → ℕ → Bool → List ℕ → List ℕ → Part → List ℕ → List ℕ → ℕ → List Verdict
+stringRows how zero high t u p prev l at = row (not (openEnd how)) StringOffset p at ∷ []
+stringRows how (suc m) high t u p prev l at =
     let o = offset high l in
     let b = body t o l in
-    row (ltb (length l) 2) StringOffset p at
-    ∷ pick (eqb o 0) []
-    (row (ltb o (3 + length t)) StringOffset p at
-    ∷ row (ltb (length l) o) StringOffset p at
-    ∷ row (not (same (part (o - length t) o l) t)) StringEnd p at
-    ∷ row (eqb (keyLen b) 0) Character p at
-    ∷ row (not (all keyChar (keyOf b))) Character p at
-    ∷ row (not (valueOk u (keyOf b) (valueOf b))) Character p at
-    ∷ row (not (rises prev (keyOf b))) KeywordOrder p at
-    ∷ stringRows m high t u p (take (keyLen b) (drop 2 l)) (drop o l) (at + o))
+    rowsAt p at (frameRows how high t l)
+    ++ pick (eqb o 0) [] (rowsAt p at (textRows how u prev b) ++ stringRows how m high t u p (take (keyLen b) (drop 2 l)) (drop o l) (at + o))
 
 -- "An empty area is an empty list"
-abbrev pub areaRows : Bool → List ℕ → List ℕ → List ℕ → Part → ℕ → ℕ → List Verdict
-areaRows high t u f p a e = pick (eqb (length (part a e f)) 0) [] (stringRows (length (part a e f)) high t u p [] (part a e f) a)
+abbrev pub areaRows : Manner → Bool → List ℕ → List ℕ → List ℕ → Part → ℕ → ℕ → List Verdict
+areaRows how high t u f p a e = pick (eqb (length (part a e f)) 0) [] (stringRows how (length (part a e f)) high t u p [] (part a e f) a)
 
-judged-first : (a b c d : Bool) (p : Part) (at o n : ℕ) (next : ℕ → ℕ → Verdict) (more : List Verdict) → next o n ≡ firstOf more
-    → onStep (onJudged (pick a (Wrong Character) (pick b (Wrong Character) (pick c (Wrong Character) (pick d (Wrong KeywordOrder) (Keyword n))))) p at o) next
-    ≡ firstOf (row a Character p at ∷ row b Character p at ∷ row c Character p at ∷ row d KeywordOrder p at ∷ more)
-unfolding firstOf
-judged-first true b c d p at o n next more h = refl
-judged-first false true c d p at o n next more h = refl
-judged-first false false true d p at o n next more h = refl
-judged-first false false false true p at o n next more h = refl
-judged-first false false false false p at o n next more h = h
-
-frame-first : (a b c d e : Bool) (t u prev l : List ℕ) (p : Part) (at o : ℕ) (next : ℕ → ℕ → Verdict) (more : List Verdict)
-    → onStep (onJudged (judgedOf u prev (body t o l)) p at o) next ≡ firstOf more
-    → onStep (onFrame (pick a (Broken StringOffset) (pick b End (pick c (Broken StringOffset) (pick d (Broken StringOffset) (pick e (Broken StringEnd) (Text o)))))) t u prev l p at) next
-    ≡ firstOf (row a StringOffset p at ∷ pick b [] (row c StringOffset p at ∷ row d StringOffset p at ∷ row e StringEnd p at ∷ more))
-unfolding firstOf onFrame
-frame-first true b c d e t u prev l p at o next more h = refl
-frame-first false true c d e t u prev l p at o next more h = refl
-frame-first false false true d e t u prev l p at o next more h = refl
-frame-first false false false true e t u prev l p at o next more h = refl
-frame-first false false false false true t u prev l p at o next more h = refl
-frame-first false false false false false t u prev l p at o next more h = h
-
-strings-first : (m : ℕ) (high : Bool) (t u : List ℕ) (p : Part) (prev l : List ℕ) (at : ℕ)
-    → stringsFrom m high t u p prev l at ≡ firstOf (stringRows m high t u p prev l at)
-unfolding stringsFrom stringRows stepOf frameOf judgedOf firstOf
-strings-first zero high t u p prev l at = refl
-strings-first (suc m) high t u p prev l at =
-    let o : ℕ = offset high l in
-    let b : List ℕ = body t o l in
-    let next : ℕ → ℕ → Verdict = λ i n. stringsFrom m high t u p (take n (drop 2 l)) (drop i l) (at + i) in
-    let more : List Verdict = stringRows m high t u p (take (keyLen b) (drop 2 l)) (drop o l) (at + o) in
-    frame-first (ltb (length l) 2) (eqb o 0) (ltb o (3 + length t)) (ltb (length l) o) (not (same (part (o - length t) o l) t)) t u prev l p at o next
-    (row (eqb (keyLen b) 0) Character p at
-    ∷ row (not (all keyChar (keyOf b))) Character p at
-    ∷ row (not (valueOk u (keyOf b) (valueOf b))) Character p at
-    ∷ row (not (rises prev (keyOf b))) KeywordOrder p at
-    ∷ more)
-    (judged-first (eqb (keyLen b) 0) (not (all keyChar (keyOf b))) (not (valueOk u (keyOf b) (valueOf b))) (not (rises prev (keyOf b))) p at o (keyLen b) next more
-    (strings-first m high t u p (take (keyLen b) (drop 2 l)) (drop o l) (at + o)))
-
-pick-first : (w : Bool) (v : Verdict) (vs : List Verdict) → v ≡ firstOf vs → pick w Accepted v ≡ firstOf (pick w [] vs)
+pub pick-first : (w : Bool) (v : Verdict) (vs : List Verdict) → v ≡ firstOf vs → pick w Accepted v ≡ firstOf (pick w [] vs)
 unfolding firstOf
 pick-first true v vs h = refl
 pick-first false v vs h = h
 
-area-first : (high : Bool) (t u f : List ℕ) (p : Part) (a e : ℕ) → areaOf high t u f p a e ≡ firstOf (areaRows high t u f p a e)
-unfolding areaOf stringsOf
-area-first high t u f p a e =
-    pick-first (eqb (length (part a e f)) 0) (stringsFrom (length (part a e f)) high t u p [] (part a e f) a)
-    (stringRows (length (part a e f)) high t u p [] (part a e f) a) (strings-first (length (part a e f)) high t u p [] (part a e f) a)
+-- a string's text: its rows, and then what comes behind
+text-first : (how : Manner) (u prev b : List ℕ) (p : Part) (at o : ℕ) (next : ℕ → ℕ → Verdict) (more : List Verdict) → next o (keyLen b) ≡ firstOf more
+    → onStep (onJudged (judgedOf how u prev b) p at o) next ≡ firstOf (rowsAt p at (textRows how u prev b) ++ more)
+unfolding judgedOf
+text-first how u prev b p at o next more h =
+    let rs = textRows how u prev b in
+    ruled-map (λ (j : Judged). onStep (onJudged j p at o) next) rs Wrong (Keyword (keyLen b))
+    ∙ rule-first rs p at (next o (keyLen b)) ∙ ap (andThen (firstOf (rowsAt p at rs))) h ∙ sym (first-more (rowsAt p at rs) more)
 
--- ---- the traces, so many of them from k on, behind what ends at prev: of each 8, then 9 to 13 (`blockRows` of `block`), then its strings
-abbrev pub pointerTest : Bool → List ℕ → ℕ → ℕ → Verdict
-pointerTest high f k prev = row (badPointer (length f) prev (pointerOf high f k)) Pointer (Trace k) (32 + 4 * k)
+-- its frame: its rows, and then the end of the list or the text
+ends-first : (how : Manner) (w : Bool) (o : ℕ) (t u prev l : List ℕ) (p : Part) (at : ℕ) (next : ℕ → ℕ → Verdict) (more : List Verdict)
+    → onStep (onJudged (judgedOf how u prev (body t o l)) p at o) next ≡ firstOf more
+    → onStep (onFrame how (pick w End (Text o)) t u prev l p at) next ≡ firstOf (pick w [] more)
+unfolding onFrame firstOf
+ends-first how true o t u prev l p at next more h = refl
+ends-first how false o t u prev l p at next more h = h
 
-unfoldable pub traceRows : Bool → List ℕ → List ℕ → List ℕ → ℕ → ℕ → ℕ → List Verdict
-traceRows high t u f zero k prev = []
-traceRows high t u f (suc left) k prev =
+strings-first : (how : Manner) (m : ℕ) (high : Bool) (t u : List ℕ) (p : Part) (prev l : List ℕ) (at : ℕ)
+    → stringsFrom how m high t u p prev l at ≡ firstOf (stringRows how m high t u p prev l at)
+unfolding stringsFrom stringRows stepOf frameOf onFrame
+strings-first how zero high t u p prev l at = go (openEnd how)
+  where
+    go : (w : Bool) → pick w Accepted (Refused (refusal StringOffset p at)) ≡ firstOf (row (not w) StringOffset p at ∷ [])
+    go true = first-one Accepted
+    go false = first-one (Refused (refusal StringOffset p at))
+strings-first how (suc m) high t u p prev l at =
+    let o : ℕ = offset high l in
+    let b : List ℕ = body t o l in
+    let next : ℕ → ℕ → Verdict = λ i n. stringsFrom how m high t u p (take n (drop 2 l)) (drop i l) (at + i) in
+    let more : List Verdict = rowsAt p at (textRows how u prev b) ++ stringRows how m high t u p (take (keyLen b) (drop 2 l)) (drop o l) (at + o) in
+    let rs = frameRows how high t l in
+    ruled-map (λ (w : Frame). onStep (onFrame how w t u prev l p at) next) rs Broken (endOrText high l)
+    ∙ rule-first rs p at (onStep (onFrame how (endOrText high l) t u prev l p at) next)
+    ∙ ap (andThen (firstOf (rowsAt p at rs)))
+    (ends-first how (eqb o 0) o t u prev l p at next more
+    (text-first how u prev b p at o next (stringRows how m high t u p (take (keyLen b) (drop 2 l)) (drop o l) (at + o))
+    (strings-first how m high t u p (take (keyLen b) (drop 2 l)) (drop o l) (at + o))))
+    ∙ sym (first-more (rowsAt p at rs) (pick (eqb o 0) [] more))
+
+area-first : (how : Manner) (high : Bool) (t u f : List ℕ) (p : Part) (a e : ℕ) → areaVerdict how high t u f p a e ≡ firstOf (areaRows how high t u f p a e)
+unfolding areaVerdict stringsOf
+area-first how high t u f p a e =
+    pick-first (eqb (length (part a e f)) 0) (stringsFrom how (length (part a e f)) high t u p [] (part a e f) a)
+    (stringRows how (length (part a e f)) high t u p [] (part a e f) a) (strings-first how (length (part a e f)) high t u p [] (part a e f) a)
+
+-- ---- a trace k behind what ends at prev: 8 at its slot, then 9 to 13 (`blockRows` of `block`), then its strings
+abbrev pub pointerTest : ℕ → ℕ → ℕ → ℕ → Verdict
+pointerTest end k prev p = row (badPointer end prev p) Pointer (Trace k) (32 + 4 * k)
+
+abbrev pub oneTraceRows : Manner → Bool → List ℕ → List ℕ → List ℕ → ℕ → ℕ → List (List Verdict)
+oneTraceRows how high t u f k prev =
     let p = pointerOf high f k in
-    pointerTest high f k prev
-    ∷ (each (blockRows high f k p)
-    ++ (areaRows high t u f (Trace k) (p + 32) (p + blockSize high f p) ++ traceRows high t u f left (k + 1) (endAt high f p)))
+    (pointerTest (length f) k prev p ∷ [])
+    ∷ each (blockRows high (headAt f p) (length f) k p)
+    ∷ areaRows how high t u f (Trace k) (p + 32) (p + blockSize high f p)
+    ∷ []
 
-then-assoc : (a b c : Verdict) → andThen (andThen a b) c ≡ andThen a (andThen b c)
-unfolding andThen
-then-assoc Accepted b c = refl
-then-assoc (Refused r) b c = refl
+-- the traces, so many of them from k on
+unfoldable pub tracesRows : Manner → Bool → List ℕ → List ℕ → List ℕ → ℕ → ℕ → ℕ → List Verdict
+tracesRows how high t u f zero k prev = []
+tracesRows how high t u f (suc left) k prev =
+    flat (oneTraceRows how high t u f k prev) ++ tracesRows how high t u f left (k + 1) (endAt high f (pointerOf high f k))
 
-block-refuses : (high : Bool) (f : List ℕ) (k p : ℕ) → Refuses (blockRows high f k p)
-block-refuses high f k p = ((_, refl), ((_, refl), ((_, refl), ((_, refl), ((_, refl), tt)))))
+block-refuses : (high : Bool) (b : List ℕ) (end k p : ℕ) → Refuses (blockRows high b end k p)
+block-refuses high b end k p = ((_, refl), ((_, refl), ((_, refl), ((_, refl), ((_, refl), tt)))))
 
-block-first : (high : Bool) (f : List ℕ) (k p : ℕ) → blockOf high f k p ≡ firstOf (each (blockRows high f k p))
+block-first : (high : Bool) (b : List ℕ) (end k p : ℕ) → blockOf high b end k p ≡ firstOf (each (blockRows high b end k p))
 unfolding blockOf
-block-first high f k p = first-each (blockRows high f k p) (block-refuses high f k p)
+block-first high b end k p = first-each (blockRows high b end k p) (block-refuses high b end k p)
 
-traces-first : (high : Bool) (t u f : List ℕ) (left k prev : ℕ) → tracesFrom high t u f left k prev ≡ firstOf (traceRows high t u f left k prev)
-unfolding tracesFrom traceRows traceOf pointerRow
-traces-first high t u f zero k prev = sym first-nothing
-traces-first high t u f (suc left) k prev =
+trace-first : (how : Manner) (high : Bool) (t u f : List ℕ) (k prev : ℕ) → traceOf how high t u f k prev ≡ firstOf (flat (oneTraceRows how high t u f k prev))
+unfolding traceOf pointerRow
+trace-first how high t u f k prev =
     let p : ℕ = pointerOf high f k in
-    let bs : List Verdict = each (blockRows high f k p) in
-    let ss : List Verdict = areaRows high t u f (Trace k) (p + 32) (p + blockSize high f p) in
-    let ts : List Verdict = traceRows high t u f left (k + 1) (endAt high f p) in
-    let v : Verdict = pointerTest high f k prev in
-    sym
-    (first-next v (bs ++ (ss ++ ts))
-    ∙ ap (andThen v) (first-more bs (ss ++ ts) ∙ ap (andThen (firstOf bs)) (first-more ss ts))
-    ∙ sym (then-assoc v (andThen (firstOf bs) (firstOf ss)) (firstOf ts) ∙ ap (andThen v) (then-assoc (firstOf bs) (firstOf ss) (firstOf ts)))
-    ∙ sym (rw (block-first high f k p, area-first high t u f (Trace k) (p + 32) (p + blockSize high f p), traces-first high t u f left (k + 1) (endAt high f p))))
+    first-flat (traceChecks how high t u f k prev) (oneTraceRows how high t u f k prev) (
+      first-one (pointerTest (length f) k prev p),
+      (block-first high (headAt f p) (length f) k p, (area-first how high t u f (Trace k) (p + 32) (p + blockSize high f p), tt)),
+    )
+
+traces-first : (how : Manner) (high : Bool) (t u f : List ℕ) (left k prev : ℕ)
+    → tracesFrom how high t u f left k prev ≡ firstOf (tracesRows how high t u f left k prev)
+unfolding tracesFrom tracesRows
+traces-first how high t u f zero k prev = sym first-nothing
+traces-first how high t u f (suc left) k prev =
+    let e : ℕ = endAt high f (pointerOf high f k) in
+    ap₂ andThen (trace-first how high t u f k prev) (traces-first how high t u f left (k + 1) e)
+    ∙ sym (first-more (flat (oneTraceRows how high t u f k prev)) (tracesRows how high t u f left (k + 1) e))
 
 -- ---- an image: 2 to 7 (`headRows` of `head`), "then the first pointer, then the file's strings, then each trace"; "With N=0 the file's strings run to the
 -- image's end", which only an addition takes
-abbrev pub restRows : Bool → List ℕ → List ℕ → List ℕ → ℕ → ℕ → List Verdict
-restRows high t u f m n =
-    pick (eqb n 0) (areaRows high t u f File (32 + m) (length f))
-    (pointerTest high f 0 (32 + m) ∷ (areaRows high t u f File (32 + m) (pointerOf high f 0) ++ traceRows high t u f n 0 (32 + m)))
+abbrev pub filledRows : Manner → Bool → List ℕ → List ℕ → List ℕ → ℕ → ℕ → List (List Verdict)
+filledRows how high t u f m n =
+    (pointerTest (length f) 0 (32 + m) (pointerOf high f 0) ∷ [])
+    ∷ areaRows how high t u f File (32 + m) (pointerOf high f 0)
+    ∷ tracesRows how high t u f n 0 (32 + m)
+    ∷ []
 
-abbrev pub imageRows : Bool → List ℕ → List Verdict
-imageRows grow f = each (headRows grow f) ++ restRows (highFirst f) (stringEnd f) (lineEnd f) f (roomOf f) (countOf f)
+abbrev pub restRows : Manner → Bool → List ℕ → List ℕ → List ℕ → ℕ → ℕ → List Verdict
+restRows how high t u f m n = pick (eqb n 0) (areaRows how high t u f File (32 + m) (length f)) (flat (filledRows how high t u f m n))
+
+abbrev pub imageRows : Manner → Purpose → List ℕ → List Verdict
+imageRows how purpose f =
+    each (headRows purpose (take 32 f) (length f)) ++ restRows how (highFirst f) (stringEnd f) (lineEnd f) f (roomOf f) (countOf f)
 
 -- and 1 before all
-abbrev pub checkRows : Bool → List ℕ → ℕ → List Verdict
-checkRows grow xs n = row (badLength (length xs) n) Length File 0 ∷ imageRows grow (take n xs)
+abbrev pub checkRows : Manner → Purpose → List ℕ → ℕ → List Verdict
+checkRows how purpose xs n = row (badLength (length xs) n) Length File 0 ∷ imageRows how purpose (take n xs)
 
-head-refuses : (grow : Bool) (f : List ℕ) → Refuses (headRows grow f)
-head-refuses grow f = ((_, refl), ((_, refl), ((_, refl), ((_, refl), ((_, refl), ((_, refl), ((_, refl), tt)))))))
+head-refuses : (purpose : Purpose) (b : List ℕ) (end : ℕ) → Refuses (headRows purpose b end)
+head-refuses purpose b end = ((_, refl), ((_, refl), ((_, refl), ((_, refl), ((_, refl), ((_, refl), ((_, refl), tt)))))))
 
-head-first : (grow : Bool) (f : List ℕ) → headOf grow f ≡ firstOf (each (headRows grow f))
+head-first : (purpose : Purpose) (b : List ℕ) (end : ℕ) → headOf purpose b end ≡ firstOf (each (headRows purpose b end))
 unfolding headOf
-head-first grow f = first-each (headRows grow f) (head-refuses grow f)
+head-first purpose b end = first-each (headRows purpose b end) (head-refuses purpose b end)
 
-rest-first : (high : Bool) (t u f : List ℕ) (m n : ℕ) → restOf high t u f m n ≡ firstOf (restRows high t u f m n)
+rest-first : (how : Manner) (high : Bool) (t u f : List ℕ) (m n : ℕ) → restOf how high t u f m n ≡ firstOf (restRows how high t u f m n)
 unfolding restOf pointerRow
-rest-first high t u f m n =
-    let p : ℕ = pointerOf high f 0 in
-    let ss : List Verdict = areaRows high t u f File (32 + m) p in
-    let ts : List Verdict = traceRows high t u f n 0 (32 + m) in
-    let v : Verdict = pointerTest high f 0 (32 + m) in
-    either (eqb n 0) (areaRows high t u f File (32 + m) (length f)) (v ∷ (ss ++ ts)) (area-first high t u f File (32 + m) (length f))
-    (rw (area-first high t u f File (32 + m) p, traces-first high t u f n 0 (32 + m)) (ap (andThen v) (sym (first-more ss ts)) ∙ sym (first-next v (ss ++ ts))))
+rest-first how high t u f m n =
+    either (eqb n 0) (areaRows how high t u f File (32 + m) (length f)) (flat (filledRows how high t u f m n)) (area-first how high t u f File (32 + m) (length f))
+    (first-flat (filledChecks how high t u f m n) (filledRows how high t u f m n) (
+      first-one (pointerTest (length f) 0 (32 + m) (pointerOf high f 0)),
+      (area-first how high t u f File (32 + m) (pointerOf high f 0), (traces-first how high t u f n 0 (32 + m), tt)),
+    ))
   where
     either : (w : Bool) {a b : Verdict} (ls rs : List Verdict) → a ≡ firstOf ls → b ≡ firstOf rs → pick w a b ≡ firstOf (pick w ls rs)
     either true ls rs h k = h
     either false ls rs h k = k
 
-image-first : (grow : Bool) (f : List ℕ) → imageOf grow f ≡ firstOf (imageRows grow f)
+image-first : (how : Manner) (purpose : Purpose) (f : List ℕ) → imageOf how purpose f ≡ firstOf (imageRows how purpose f)
 unfolding imageOf
-image-first grow f =
-    ap₂ andThen (head-first grow f) (rest-first (highFirst f) (stringEnd f) (lineEnd f) f (roomOf f) (countOf f))
-    ∙ sym (first-more (each (headRows grow f)) (restRows (highFirst f) (stringEnd f) (lineEnd f) f (roomOf f) (countOf f)))
+image-first how purpose f =
+    ap₂ andThen (head-first purpose (take 32 f) (length f)) (rest-first how (highFirst f) (stringEnd f) (lineEnd f) f (roomOf f) (countOf f))
+    ∙ sym (first-more (each (headRows purpose (take 32 f) (length f))) (restRows how (highFirst f) (stringEnd f) (lineEnd f) f (roomOf f) (countOf f)))
 
 -- the check answers the first row met. Rules out a check that stops early, takes the rows in another order, or gives another part or place.
-pub check-answers-first : (grow : Bool) (xs : List ℕ) (n : ℕ) → checkOf grow xs n ≡ firstOf (checkRows grow xs n)
+pub check-answers-first : (how : Manner) (purpose : Purpose) (xs : List ℕ) (n : ℕ) → checkOf how purpose xs n ≡ firstOf (checkRows how purpose xs n)
 unfolding checkOf
-check-answers-first grow xs n =
-    rw (image-first grow (take n xs)) (go (badLength (length xs) n))
+check-answers-first how purpose xs n =
+    rw (image-first how purpose (take n xs)) (go (badLength (length xs) n))
   where
-    go : (w : Bool) → pick w (Refused (refusal Length File 0)) (firstOf (imageRows grow (take n xs))) ≡ firstOf (row w Length File 0 ∷ imageRows grow (take n xs))
-    go w = sym (first-row w Length File 0 (imageRows grow (take n xs)))
+    go : (w : Bool) → pick w (Refused (refusal Length File 0)) (firstOf (imageRows how purpose (take n xs)))
+        ≡ firstOf (row w Length File 0 ∷ imageRows how purpose (take n xs))
+    go w = sym (first-row w Length File 0 (imageRows how purpose (take n xs)))
+
+-- ---- numbers, parts and places of rows 2 to 7 and of 9 to 13, as the table has them; the block of the trace k begins at p
+
+abbrev pub numbered : Rows Verdict → List (ℕ × ℤ × ℕ)
+numbered [] = []
+numbered ((test, Accepted) ∷ rs) = (0, negsuc 0, 0) ∷ numbered rs
+numbered ((test, Refused r) ∷ rs) = (numberOf (r .rule), partOf (r .part), r .place) ∷ numbered rs
+
+abbrev pub ofFile : ℕ → ℕ → ℕ × ℤ × ℕ
+ofFile number place = (number, negsuc 0, place)
+
+-- Rules out a row under another number, of another part or at another place.
+pub places-of-the-table : (purpose : Purpose) (high : Bool) (b : List ℕ) (end k p : ℕ)
+    → (numbered (headRows purpose b end) ≡ ofFile 2 0 ∷ ofFile 3 2 ∷ ofFile 4 4 ∷ ofFile 5 6 ∷ ofFile 6 8 ∷ ofFile 6 11 ∷ ofFile 7 4 ∷ [])
+    × (numbered (blockRows high b end k p) ≡ (9, pos k, p) ∷ (10, pos k, p + 2) ∷ (11, pos k, p + 4) ∷ (12, pos k, p + 12) ∷ (13, pos k, p + 8) ∷ [])
+places-of-the-table purpose high b end k p = (refl, refl)

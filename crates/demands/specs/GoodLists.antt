@@ -20,12 +20,12 @@ use Rattle.encode.specs.Unfit.{firstFrom, outside, unfitInteger, unfitPattern, 
 use Rattle.encode.specs.Back.{reach, fit-reach}
 use Rattle.sheet.specs.declared.Measured.the-variants.{Size}
 use Rattle.sheet.specs.Lines.{Line}
-use Rattle.sheet.specs.Area.{joined, stringsOf, textSize, areaOf, areaSize}
+use Rattle.sheet.specs.Area.{joined, sheetStrings, textSize, areaOf, areaSize}
 use Rattle.sheet.specs.Sizes.{length-area}
 use Rattle.sheet.specs.Paper.{sheetOf, GoodLines, accepted-lines, lines-read}
 use Rattle.area.specs.Spelling.{measured-size, good-measured}
 use Rattle.layout.specs.Layout.{nul, lineFeed, Trace, Samples, Samples.integers, Samples.patterns, fitting, unfit}
-use Rattle.afresh.specs.FileOf.{fileOf, fileSize, Measures, Good, AllGood}
+use Rattle.afresh.specs.FileOf.{fileOf, fileSize, Measures, Good, EachGood}
 use Rattle.afresh.specs.FileLaws.{length-file}
 use Rattle.afresh.specs.Afresh.{Writable}
 
@@ -45,7 +45,7 @@ sheet-good sheet m =
     record { lines = _; bytes = l .0; good = l .1; small = omega (arith, a, b .1, b .2) }
 
 sheet-measured : (sheet : List ℕ) → GoodSheet sheet → Measures sheet
-unfolding areaSize stringsOf
+unfolding areaSize sheetStrings
 sheet-measured sheet g =
     let ls = g .lines in
     let a : length (areaOf false nul lineFeed (sheetOf ls)) ≡ round4 (textSize nul (joined lineFeed ls)) =
@@ -157,23 +157,23 @@ good-trace x g =
     let h = all-held (x .code) (x .samples) (g .samples) in
     record { measures = sheet-measured (x .sheet) (g .strings); kind = h .0; held = h .1 }
 
-traces-good : (ts : List Trace) → AllGood ts → GoodTraces ts
+traces-good : (ts : List Trace) → EachGood ts → GoodTraces ts
 traces-good [] g = tt
 traces-good (x ∷ ts) g = (trace-good x (g .0), traces-good ts (g .1))
 
-good-traces : (ts : List Trace) → GoodTraces ts → AllGood ts
+good-traces : (ts : List Trace) → GoodTraces ts → EachGood ts
 good-traces [] g = tt
 good-traces (x ∷ ts) g = (good-trace x (g .0), good-traces ts (g .1))
 
 pub writable-is-good : {xs : List ℕ} {order slots : ℕ} {sheet : List ℕ} {ts : List Trace} → Writable xs order slots sheet ts → GoodList xs order slots sheet ts
 writable-is-good {xs} {order} {slots} {sheet} {ts} w =
-    let l = length-file (eqb order 1) slots sheet ts (w .slotted) (w .good) in
+    let l = length-file (eqb order 1) slots sheet ts (w .slotted) (w .good .0) in
     record {
       either = w .either;
       some = w .some;
       few = w .few;
       strings = sheet-good sheet (w .measures);
-      traces = traces-good ts (w .good);
+      traces = traces-good ts (w .good .0);
       slotted = w .slotted;
       fits = omega (arith, l, w .fits);
       most = omega (arith, l, w .most);
@@ -188,7 +188,7 @@ good-is-writable {xs} {order} {slots} {sheet} {ts} g =
       some = g .some;
       few = g .few;
       measures = sheet-measured sheet (g .strings);
-      good = all;
+      good = (all, tt);
       slotted = g .slotted;
       fits = omega (arith, l, g .fits);
       most = omega (arith, l, g .most);

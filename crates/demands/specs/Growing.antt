@@ -13,6 +13,9 @@ use lib.IntN.{ℤ, pos, negsuc}
 use lib.ListN.{length, getD, take, drop, replicate}
 use lib.Seq.{length-take-le}
 use lib.Dec.{eqb}
+use Rattle.head.specs.declared.Purpose.{Purpose}
+use Rattle.head.specs.declared.Purpose.the-variants.{Read}
+use Rattle.text.specs.declared.Manner.the-variants.{Strict}
 use Rattle.word.specs.Bytes.{Bytes}
 use Rattle.word.specs.Part.{part}
 use Rattle.word.specs.Round.{round4}
@@ -22,10 +25,11 @@ use Rattle.strings.specs.Spelled.{Str, Spells}
 use Rattle.head.specs.Head.{highFirst, roomOf, countOf, stringEnd, lineEnd}
 use Rattle.image.specs.Image.{checkOf}
 use Rattle.image.specs.Keeps.{stringsEnd}
-use Rattle.reader.specs.declared.FileAnswer.the-variants as file
+use Rattle.head.specs.declared.FileAnswer.the-variants as file
 use Rattle.reader.specs.Questions.{fileAnswer, traceAnswer, countAnswer, nthAnswer, findAnswer, keywordAnswer, valueAnswer, numberAnswer, doubleAnswer, locationAnswer, integersAnswer, bitsAnswer, integersLeft, patternsLeft, classesLeft}
 use Rattle.start.specs.declared.Written.{Written}
-use Rattle.start.specs.declared.Written.the-variants.{To, Refused}
+use Rattle.start.specs.declared.Written.the-variants as written
+use Rattle.start.specs.declared.Written.the-variants.{To}
 use Rattle.layout.specs.Layout.{startSize, Trace, traceBytes}
 use Rattle.start.specs.Start.{startAnswer, startLeft}
 use Rattle.append.specs.Grown.{newBytes}
@@ -38,14 +42,12 @@ use Rattle.growth.specs.Grows.{grown-grows}
 use Rattle.growth.specs.Kept.{count-grown}
 use Rattle.growth.specs.StillKeeps.{grown-accepted}
 use Rattle.growth.specs.StillRead as still
-use Rattle.growth.specs.TraceReads.{ReadsAs}
 use Rattle.growth.specs.AllBytes.{grown-are-bytes, start-are-bytes}
 use Rattle.afresh.specs.FileOf.{fileOf, fileSize, AllGood}
 use Rattle.afresh.specs.Step.{Holds, start-afresh, add-afresh}
 use Rattle.afresh.specs.Calls.{after, answersOf, acceptedOf, after-to, after-refused, after-accepted, start-grows, calls-afresh}
 use Rattle.afresh.specs.Afresh.{lengths, none-refused, image-afresh, accepted-writable}
 use Rattle.demands.specs.GoodLists.{GoodList, writable-is-good, good-is-writable}
-use Rattle.demands.specs.Reading.{new-trace-reads-back}
 
 -- ---- "after each accepted addition the file is, byte for byte, the one that the whole list of accepted traces defines when written afresh": `after` are the
 -- buffer and the length that the calls leave, `acceptedOf` the traces whose call answered a length. For every list of calls, so after each. Rules out an
@@ -69,7 +71,7 @@ pub data Made (order slots : ℕ) (sheet : List ℕ) : List Trace → List ℕ �
   an-addition : {ts : List Trace} {f : List ℕ} → Made order slots sheet ts f → (xs : List ℕ) → length f ≤ length xs → take (length f) xs ≡ f → (x : Trace) (end : ℕ)
       → addAnswer xs (length f) x ≡ To end → Made order slots sheet (ts ++ (x ∷ [])) (take end (addLeft xs (length f) x))
 
-record Image (order slots : ℕ) (sheet : List ℕ) (ts : List Trace) (f : List ℕ) : Type 0 where
+record ImageOf (order slots : ℕ) (sheet : List ℕ) (ts : List Trace) (f : List ℕ) : Type 0 where
   image : f ≡ fileOf (eqb order 1) slots sheet ts
   size : length f ≡ fileSize slots sheet ts
   good : AllGood ts
@@ -77,11 +79,11 @@ record Image (order slots : ℕ) (sheet : List ℕ) (ts : List Trace) (f : List 
   few : slots ≤ 16383
 
 held-image : {order slots : ℕ} {sheet : List ℕ} {ts : List Trace} {xs : List ℕ} {n : ℕ} → Holds (eqb order 1) slots sheet ts xs n
-    → Image order slots sheet ts (take n xs)
+    → ImageOf order slots sheet ts (take n xs)
 held-image {xs = xs} {n = n} h =
     record { image = h .image; size = length-take-le n xs (h .fits) ∙ h .size; good = h .good; slotted = h .slotted; few = h .few }
 
-made-image : {order slots : ℕ} {sheet : List ℕ} (ts : List Trace) (f : List ℕ) → Made order slots sheet ts f → Image order slots sheet ts f
+made-image : {order slots : ℕ} {sheet : List ℕ} (ts : List Trace) (f : List ℕ) → Made order slots sheet ts f → ImageOf order slots sheet ts f
 made-image {order} {slots} {sheet} ts f (a-start xs e to) = held-image {order = order} (start-afresh xs order slots sheet e to)
 made-image {order} {slots} {sheet} us g (an-addition {ts} {f} m xs fits same x end to) =
     let i = made-image ts f m in
@@ -145,8 +147,8 @@ module _ (xs : List ℕ) (n : ℕ) (x : Trace) (end : ℕ) (to : addAnswer xs n 
   -- an addition that spoils what stood there.
 
   module _ (by : Bytes xs) where
-    pub grown-file-is-accepted : (grow : Bool) → checkOf grow (addLeft xs n x) end ≡ Accepted
-    grown-file-is-accepted grow = rw (add-left xs n x end to) (grown-accepted grow by (added xs n x end to))
+    pub grown-file-is-accepted : (purpose : Purpose) → checkOf Strict purpose (addLeft xs n x) end ≡ Accepted
+    grown-file-is-accepted purpose = rw (add-left xs n x end to) (grown-accepted purpose by (added xs n x end to))
 
     -- so the next call's laws hold of it as well
     pub grown-buffer-is-of-bytes : Bytes (addLeft xs n x)
@@ -154,23 +156,23 @@ module _ (xs : List ℕ) (n : ℕ) (x : Trace) (end : ℕ) (to : addAnswer xs n 
 
 -- every question on part z is answered alike
 pub record AnsweredAlike (ys : List ℕ) (m : ℕ) (xs : List ℕ) (n : ℕ) (z : ℤ) : Type 0 where
-  pub block : traceAnswer ys m z ≡ traceAnswer xs n z
-  pub many : countAnswer ys m z ≡ countAnswer xs n z
-  pub nth : (i : ℕ) → nthAnswer ys m z i ≡ nthAnswer xs n z i
-  pub found : (key : List ℕ) → findAnswer ys m z key ≡ findAnswer xs n z key
-  pub keyword : (key : List ℕ) → keywordAnswer ys m z key ≡ keywordAnswer xs n z key
-  pub value : (key : List ℕ) → valueAnswer ys m z key ≡ valueAnswer xs n z key
-  pub number : (key : List ℕ) → numberAnswer ys m z key ≡ numberAnswer xs n z key
-  pub double : (key : List ℕ) → doubleAnswer ys m z key ≡ doubleAnswer xs n z key
-  pub location : (key : List ℕ) → locationAnswer ys m z key ≡ locationAnswer xs n z key
-  pub integers : (s : ℕ) → integersAnswer ys m z s ≡ integersAnswer xs n z s
-  pub integers-left : (row : List ℤ) → integersLeft ys m z row ≡ integersLeft xs n z row
-  pub bits : (s c : ℕ) → bitsAnswer ys m z s c ≡ bitsAnswer xs n z s c
-  pub patterns-left : (row classes : List ℕ) → patternsLeft ys m z row classes ≡ patternsLeft xs n z row classes
-  pub classes-left : (row classes : List ℕ) → classesLeft ys m z row classes ≡ classesLeft xs n z row classes
+  pub block : traceAnswer Strict ys m z ≡ traceAnswer Strict xs n z
+  pub many : countAnswer Strict ys m z ≡ countAnswer Strict xs n z
+  pub nth : (i : ℕ) → nthAnswer Strict ys m z i ≡ nthAnswer Strict xs n z i
+  pub found : (key : List ℕ) → findAnswer Strict ys m z key ≡ findAnswer Strict xs n z key
+  pub keyword : (key : List ℕ) → keywordAnswer Strict ys m z key ≡ keywordAnswer Strict xs n z key
+  pub value : (key : List ℕ) → valueAnswer Strict ys m z key ≡ valueAnswer Strict xs n z key
+  pub number : (key : List ℕ) → numberAnswer Strict ys m z key ≡ numberAnswer Strict xs n z key
+  pub double : (key : List ℕ) → doubleAnswer Strict ys m z key ≡ doubleAnswer Strict xs n z key
+  pub location : (key : List ℕ) → locationAnswer Strict ys m z key ≡ locationAnswer Strict xs n z key
+  pub integers : (s : ℕ) → integersAnswer Strict ys m z s ≡ integersAnswer Strict xs n z s
+  pub integers-left : (row : List ℤ) → integersLeft Strict ys m z row ≡ integersLeft Strict xs n z row
+  pub bits : (s c : ℕ) → bitsAnswer Strict ys m z s c ≡ bitsAnswer Strict xs n z s c
+  pub patterns-left : (row classes : List ℕ) → patternsLeft Strict ys m z row classes ≡ patternsLeft Strict xs n z row classes
+  pub classes-left : (row classes : List ℕ) → classesLeft Strict ys m z row classes ≡ classesLeft Strict xs n z row classes
 
 -- the file (-1) and the traces that it had
-pub earlier-read-as-before : (xs : List ℕ) (n : ℕ) (x : Trace) (end : ℕ) → addAnswer xs n x ≡ To end → Bytes xs → checkOf false xs n ≡ Accepted
+pub earlier-read-as-before : (xs : List ℕ) (n : ℕ) (x : Trace) (end : ℕ) → addAnswer xs n x ≡ To end → Bytes xs → checkOf Strict Read xs n ≡ Accepted
     → (z : ℤ) → still.Old z (countOf (take n xs)) → AnsweredAlike (addLeft xs n x) end xs n z
 earlier-read-as-before xs n x end to by ok z old =
     let h = added xs n x end to in
@@ -235,42 +237,39 @@ old-still : (z : ℤ) (n m : ℕ) → n ≤ m → still.Old z n → still.Old z 
 old-still (pos k) n m l o = omega arith
 old-still (negsuc k) n m l o = tt
 
-pub earlier-read-as-before-always : (calls : List Trace) (xs : List ℕ) (n : ℕ) → Bytes xs → checkOf false xs n ≡ Accepted → (z : ℤ)
+pub earlier-read-as-before-always : (calls : List Trace) (xs : List ℕ) (n : ℕ) → Bytes xs → checkOf Strict Read xs n ≡ Accepted → (z : ℤ)
     → still.Old z (countOf (take n xs)) → AnsweredAlike (after xs n calls .0) (after xs n calls .1) xs n z
 unfolding after
 earlier-read-as-before-always [] xs n by ok z old = alike-still xs n z
 earlier-read-as-before-always (x ∷ calls) xs n by ok z old = go (addAnswer xs n x) refl (earlier-read-as-before-always calls)
   where
     go : (w : Written) → addAnswer xs n x ≡ w
-        → ((ys : List ℕ) (m : ℕ) → Bytes ys → checkOf false ys m ≡ Accepted → (y : ℤ) → still.Old y (countOf (take m ys))
+        → ((ys : List ℕ) (m : ℕ) → Bytes ys → checkOf Strict Read ys m ≡ Accepted → (y : ℤ) → still.Old y (countOf (take m ys))
         → AnsweredAlike (after ys m calls .0) (after ys m calls .1) ys m y)
         → AnsweredAlike (after xs n (x ∷ calls) .0) (after xs n (x ∷ calls) .1) xs n z
     go (To end) h more =
         let c : countOf (take end (addLeft xs n x)) ≡ countOf (take n xs) + 1 = rw (add-left xs n x end h) (count-grown (grown-grows by (added xs n x end h))) in
         rw (after-to xs n x calls end h)
         (alike-again
-        (more (addLeft xs n x) end (grown-buffer-is-of-bytes xs n x end h by) (grown-file-is-accepted xs n x end h by false) z
+        (more (addLeft xs n x) end (grown-buffer-is-of-bytes xs n x end h by) (grown-file-is-accepted xs n x end h by Read) z
         (old-still z (countOf (take n xs)) (countOf (take end (addLeft xs n x))) (omega arith) old))
         (earlier-read-as-before xs n x end h by ok z old))
-    go (Refused r) h more = rw (after-refused xs n x calls r h) (more xs n by ok z old)
+    go (written.Refused r) h more = rw (after-refused xs n x calls r h) (more xs n by ok z old)
 
 -- the file's strings also where there was no trace, so that no reader took the image: they are those that its bytes spelled to its end
 pub file-strings-read-as-before : (xs : List ℕ) (n : ℕ) (x : Trace) (end : ℕ) (ss : List Str) → addAnswer xs n x ≡ To end → Bytes xs
-    → Spells (highFirst (take n xs)) (stringEnd (take n xs)) (lineEnd (take n xs)) ss (part (32 + roomOf (take n xs)) (stringsEnd (take n xs)) (take n xs))
+    → Spells Strict (highFirst (take n xs)) (stringEnd (take n xs)) (lineEnd (take n xs)) ss (part (32 + roomOf (take n xs)) (stringsEnd (take n xs)) (take n xs))
     → AnswersBy (addLeft xs n x) end (negsuc 0) ss
 file-strings-read-as-before xs n x end ss to by s = rw (add-left xs n x end to) (still.strings-answers-kept by (added xs n x end to) s)
 
--- ---- "and the new one reads last": there is one trace more, and the last reads as given. Rules out an addition that puts it elsewhere in the order.
+-- ---- "and the new one reads last": there is one trace more, and the last, trace N, reads as given (Reading `new-trace-reads-back`). Rules out an
+-- addition that puts it elsewhere in the order.
 
 pub one-trace-more : (xs : List ℕ) (n : ℕ) (x : Trace) (end : ℕ) → addAnswer xs n x ≡ To end → Bytes xs
-    → fileAnswer (addLeft xs n x) end
+    → fileAnswer Strict (addLeft xs n x) end
     ≡ file.Is
     (record { high = highFirst (take n xs); m = roomOf (take n xs); n = countOf (take n xs) + 1; strings = getD (take n xs) 8 0; lines = getD (take n xs) 11 0 })
 one-trace-more xs n x end to by = rw (add-left xs n x end to) (still.file-answer-grown by (added xs n x end to))
-
-pub new-one-reads-last : (xs : List ℕ) (n : ℕ) (x : Trace) (end : ℕ) → addAnswer xs n x ≡ To end → Bytes xs
-    → ReadsAs (addLeft xs n x) end (countOf (take n xs)) (round4 n) x
-new-one-reads-last xs n x end to by = new-trace-reads-back xs n x end by to
 
 -- a started buffer is one of bytes too, so that all this holds from the start on
 pub started-buffer-is-of-bytes : (xs : List ℕ) (order slots : ℕ) (sheet : List ℕ) (e : ℕ) → startAnswer xs order slots sheet ≡ To e → Bytes xs

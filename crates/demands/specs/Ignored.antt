@@ -9,6 +9,8 @@ use mathlib.Core.List.{List}
 use Prim.Native.Nat.{ℕ, _≤_}
 use lib.IntN.{ℤ}
 use lib.ListN.{length, take}
+use Rattle.head.specs.declared.Purpose.{Purpose}
+use Rattle.text.specs.declared.Manner.the-variants.{Strict}
 use Rattle.image.specs.Image.{checkOf}
 use Rattle.reader.specs.Questions.{fileAnswer}
 use Rattle.ignored.specs.Images.{Alike}
@@ -17,10 +19,10 @@ use Rattle.demands.specs.Growing.{AnsweredAlike}
 
 module _ (xs ys : List ℕ) (n : ℕ) (fx : n ≤ length xs) (fy : n ≤ length ys) (a : Alike (take n xs) (take n ys)) where
   -- Rules out a check that refuses for a reserved byte, or judges a slot that is not in use.
-  pub ignored-by-the-check : (grow : Bool) → checkOf grow xs n ≡ checkOf grow ys n
+  pub ignored-by-the-check : (purpose : Purpose) → checkOf Strict purpose xs n ≡ checkOf Strict purpose ys n
   ignored-by-the-check = reads.alike-check xs ys n fx fy a
 
-  pub ignored-by-the-file-block : fileAnswer xs n ≡ fileAnswer ys n
+  pub ignored-by-the-file-block : fileAnswer Strict xs n ≡ fileAnswer Strict ys n
   ignored-by-the-file-block = reads.alike-file xs ys n fx fy a
 
   -- Rules out a question that looks into a gap, past an end mark or past the needed bytes.

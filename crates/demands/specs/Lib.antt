@@ -1,4 +1,3 @@
-pub mod FirstRow
 pub mod FileRows
 pub mod WriterRows
 pub mod QuestionRows

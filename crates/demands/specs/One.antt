@@ -8,6 +8,7 @@ use mathlib.Core.List.{List}
 use lib.IntN.{ℤ}
 use lib.ListN.{length}
 use denote.Ref.{RefT}
+use Rattle.text.specs.declared.Manner.the-variants.{Strict}
 use Rattle.word.specs.Part.{PartOf}
 use Rattle.refusal.specs.declared.Verdict.{Verdict}
 use Rattle.start.specs.declared.Written.{Written}
@@ -35,13 +36,13 @@ pub one-addition : (xs : List ℕ) (n : ℕ) (x : Trace) (r s : Written) (ys zs 
 one-addition xs n x r s ys zs h k = (one-outcome _ r s (h .0) (k .0), one-outcome _ ys zs (h .1) (k .1))
 
 pub one-row-of-integers : (xs : List ℕ) (n : ℕ) (z : ℤ) (row : List ℤ) (r s : Verdict) (ys zs : List ℤ)
-    → (r ≡ integersAnswer xs n z (length row)) × (ys ≡ integersLeft xs n z row)
-    → (s ≡ integersAnswer xs n z (length row)) × (zs ≡ integersLeft xs n z row) → (r ≡ s) × (ys ≡ zs)
+    → (r ≡ integersAnswer Strict xs n z (length row)) × (ys ≡ integersLeft Strict xs n z row)
+    → (s ≡ integersAnswer Strict xs n z (length row)) × (zs ≡ integersLeft Strict xs n z row) → (r ≡ s) × (ys ≡ zs)
 one-row-of-integers xs n z row r s ys zs h k = (one-outcome _ r s (h .0) (k .0), one-outcome _ ys zs (h .1) (k .1))
 
 pub one-row-of-bits : (xs : List ℕ) (n : ℕ) (z : ℤ) (row classes : List ℕ) (r s : Verdict) (ys zs cs ds : List ℕ)
-    → (r ≡ bitsAnswer xs n z (length row) (length classes)) × (ys ≡ patternsLeft xs n z row classes) × (cs ≡ classesLeft xs n z row classes)
-    → (s ≡ bitsAnswer xs n z (length row) (length classes)) × (zs ≡ patternsLeft xs n z row classes) × (ds ≡ classesLeft xs n z row classes)
+    → (r ≡ bitsAnswer Strict xs n z (length row) (length classes)) × (ys ≡ patternsLeft Strict xs n z row classes) × (cs ≡ classesLeft Strict xs n z row classes)
+    → (s ≡ bitsAnswer Strict xs n z (length row) (length classes)) × (zs ≡ patternsLeft Strict xs n z row classes) × (ds ≡ classesLeft Strict xs n z row classes)
     → (r ≡ s) × (ys ≡ zs) × (cs ≡ ds)
 one-row-of-bits xs n z row classes r s ys zs cs ds h k =
     (one-outcome _ r s (h .0) (k .0), one-outcome _ ys zs (h .1) (k .1), one-outcome _ cs ds (h .2) (k .2))

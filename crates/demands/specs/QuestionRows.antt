@@ -13,13 +13,17 @@ use lib.Dec.{ltb, eqb}
 use lib.Ieee.{Float}
 use native.Mathlib.Omega.{arith}
 use borrow.Author.Tests.{ne-eqb}
+use Rattle.head.specs.declared.Purpose.the-variants.{Read}
+use Rattle.text.specs.declared.Manner.{Manner}
+use Rattle.refusal.specs.Verdicts.{andThen, asked}
+use Rattle.refusal.specs.declared.Rule.{Rule}
 use Rattle.refusal.specs.declared.Rule.the-variants.{NoTrace, RowLength, CodeKind}
 use Rattle.refusal.specs.declared.Part.the-variants.{File}
 use Rattle.refusal.specs.declared.Refusal.{Refusal}
 use Rattle.refusal.specs.declared.Verdict.{Verdict}
 use Rattle.refusal.specs.declared.Verdict.the-variants.{Accepted, Refused}
 use Rattle.refusal.specs.Table.{refusal}
-use Rattle.refusal.specs.Rows.{Rows, pick, first}
+use Rattle.refusal.specs.Rows.{Rows, pick, first, ruled}
 use Rattle.strings.specs.declared.Place.{Place}
 use Rattle.strings.specs.declared.Found.{Found}
 use Rattle.strings.specs.declared.Found.the-variants.{Nothing, Is}
@@ -29,23 +33,22 @@ use Rattle.decimal.specs.declared.NumberAnswer.the-variants as number
 use Rattle.double.specs.declared.DoubleAnswer.the-variants as double
 use Rattle.double.specs.declared.LocationAnswer.{LocationAnswer}
 use Rattle.double.specs.declared.LocationAnswer.the-variants as location
-use Rattle.decimal.specs.Number.{decimalOf, limits, judged, shapeRows, partsOf, numberOf}
+use Rattle.decimal.specs.Number.{decimalOf, limits, judged, shapeRows, partsOf, numberIn}
 use Rattle.double.specs.Double.{scaledOf, withSign, noDouble, doubleFrom, onNumber, doubleOf}
 use Rattle.double.specs.Values.{Value, valuesOf}
 use Rattle.double.specs.Location.{valueCount, absent, coordinates, onDouble, oneOf, threeOf, located, locationOf}
-use Rattle.head.specs.Head.{highFirst, countOf}
+use Rattle.head.specs.Head.{fileBlockOf, highFirst, countOf}
 use Rattle.block.specs.Block.{traceBlockOf}
-use Rattle.image.specs.Image.{andThen, checkOf}
+use Rattle.image.specs.Image.{checkOf}
 use Rattle.reader.specs.declared.Whose.the-variants.{One, Nobody}
-use Rattle.reader.specs.declared.FileAnswer.the-variants as file
-use Rattle.reader.specs.declared.TraceAnswer.the-variants as trace
+use Rattle.head.specs.declared.FileAnswer.the-variants as file
+use Rattle.block.specs.declared.TraceAnswer.the-variants as trace
 use Rattle.reader.specs.declared.CountAnswer.the-variants as count
 use Rattle.reader.specs.declared.StringAnswer.the-variants as string
 use Rattle.reader.specs.declared.KeywordAnswer.the-variants as keyword
-use Rattle.reader.specs.Questions as questions
-use Rattle.reader.specs.Questions.{asked, noTrace, whoseOf, areaOf, areaAsked, onArea, onTrace, fileFacts, fileAnswer, traceAnswer, placesIn, countAnswer, there, nthAnswer, findAnswer, yesOrNo, keywordAnswer, valueThere, valueAnswer, onString, numberAnswer, doubleAnswer, locationAnswer, codeAt, countAt, ofIntegers, ofBits, integersAnswer, bitsAnswer, traceNumber}
+use Rattle.reader.specs.Questions.{noTrace, whoseOf, areaNamed, areaAsked, onArea, onTrace, fileAnswer, traceAnswer, placesIn, countAnswer, there, nthAnswer, findAnswer, yesOrNo, keywordAnswer, valueThere, valueAnswer, onString, numberAnswer, doubleAnswer, locationAnswer, codeAt, countAt, ofIntegers, ofBits, blockAt, integersRows, bitsRows, integersVerdict, bitsVerdict, integersAnswer, bitsAnswer, traceNumber}
 use Rattle.reader.specs.Listed.{found-value}
-use Rattle.demands.specs.FirstRow.{row, firstOf, first-nothing, first-row, first-more, asked-more, asked-row, asked-none}
+use Rattle.refusal.specs.FirstRow.{row, firstOf, first-more, rowsAt, rule-first, asked-more, asked-row, asked-none}
 use Rattle.demands.specs.FileRows.{checkRows, check-answers-first}
 
 -- ---- 18
@@ -60,11 +63,11 @@ isPart (pos k) n = ltb k n
 isPart (negsuc zero) n = true
 isPart (negsuc (suc k)) n = false
 
-abbrev pub traceRows : List ℕ → ℕ → ℤ → List Verdict
-traceRows xs n z = checkRows false xs n ++ (row (not (isTrace z (countOf (take n xs)))) NoTrace File 0 ∷ [])
+abbrev pub traceAskedRows : Manner → List ℕ → ℕ → ℤ → List Verdict
+traceAskedRows how xs n z = checkRows how Read xs n ++ (row (not (isTrace z (countOf (take n xs)))) NoTrace File 0 ∷ [])
 
-abbrev pub partRows : List ℕ → ℕ → ℤ → List Verdict
-partRows xs n z = checkRows false xs n ++ (row (not (isPart z (countOf (take n xs)))) NoTrace File 0 ∷ [])
+abbrev pub partAskedRows : Manner → List ℕ → ℕ → ℤ → List Verdict
+partAskedRows how xs n z = checkRows how Read xs n ++ (row (not (isPart z (countOf (take n xs)))) NoTrace File 0 ∷ [])
 
 -- behind the check a row and the value
 one-more : {A : Type 0} (bad : Refusal → A) (vs : List Verdict) (w : Bool) (a : A)
@@ -76,9 +79,9 @@ one-more bad vs w a =
 -- ---- blocks
 
 -- Rules out an answer on a file that the check refuses, and a refusal of one that it accepts.
-pub file-answers-first : (xs : List ℕ) (n : ℕ) → fileAnswer xs n ≡ asked file.Refused (firstOf (checkRows false xs n)) (file.Is (fileFacts (take n xs)))
+pub file-answers-first : (how : Manner) (xs : List ℕ) (n : ℕ) → fileAnswer how xs n ≡ asked file.Refused (firstOf (checkRows how Read xs n)) (file.Is (fileBlockOf (take n xs)))
 unfolding fileAnswer
-file-answers-first xs n = rw (check-answers-first false xs n)
+file-answers-first how xs n = rw (check-answers-first how Read xs n)
 
 on-trace : {A : Type 0} (none : A) (some : ℕ → A) (z : ℤ) (n : ℕ) → onTrace (whoseOf z n) none some ≡ pick (not (isTrace z n)) none (some (traceNumber z))
 unfolding whoseOf
@@ -91,92 +94,92 @@ on-trace none some (negsuc zero) n = refl
 on-trace none some (negsuc (suc k)) n = refl
 
 -- Rules out a trace that is not there.
-pub trace-answers-first : (xs : List ℕ) (n : ℕ) (z : ℤ)
-    → traceAnswer xs n z ≡ asked trace.Refused (firstOf (traceRows xs n z)) (trace.Is (traceBlockOf (highFirst (take n xs)) (take n xs) (traceNumber z)))
+pub trace-answers-first : (how : Manner) (xs : List ℕ) (n : ℕ) (z : ℤ)
+    → traceAnswer how xs n z ≡ asked trace.Refused (firstOf (traceAskedRows how xs n z)) (trace.Is (traceBlockOf (highFirst (take n xs)) (take n xs) (traceNumber z)))
 unfolding traceAnswer
-trace-answers-first xs n z =
+trace-answers-first how xs n z =
     let f : List ℕ = take n xs in
     ap (λ (v : Verdict). asked trace.Refused v (onTrace (whoseOf z (countOf f)) (trace.Refused noTrace) (λ k. trace.Is (traceBlockOf (highFirst f) f k))))
-    (check-answers-first false xs n)
-    ∙ ap (asked trace.Refused (firstOf (checkRows false xs n))) (on-trace (trace.Refused noTrace) (λ k. trace.Is (traceBlockOf (highFirst f) f k)) z (countOf f))
-    ∙ sym (one-more trace.Refused (checkRows false xs n) (not (isTrace z (countOf f))) (trace.Is (traceBlockOf (highFirst f) f (traceNumber z))))
+    (check-answers-first how Read xs n)
+    ∙ ap (asked trace.Refused (firstOf (checkRows how Read xs n))) (on-trace (trace.Refused noTrace) (λ k. trace.Is (traceBlockOf (highFirst f) f k)) z (countOf f))
+    ∙ sym (one-more trace.Refused (checkRows how Read xs n) (not (isTrace z (countOf f))) (trace.Is (traceBlockOf (highFirst f) f (traceNumber z))))
 
 -- ---- strings
 
 -- the places of the strings of a part
-abbrev pub placesAsked : List ℕ → ℤ → List Place
-placesAsked f z = onArea (areaAsked f z) [] (λ a e. placesIn f a e)
+abbrev pub placesAsked : Manner → List ℕ → ℤ → List Place
+placesAsked how f z = onArea (areaAsked f z) [] (λ a e. placesIn how f a e)
 
-on-area : {A : Type 0} (none : A) (some : List Place → A) (f : List ℕ) (z : ℤ)
-    → onArea (areaAsked f z) none (λ a e. some (placesIn f a e)) ≡ pick (not (isPart z (countOf f))) none (some (placesAsked f z))
-unfolding whoseOf areaOf
-on-area none some f (pos k) = go (ltb k (countOf f))
+on-area : (how : Manner) {A : Type 0} (none : A) (some : List Place → A) (f : List ℕ) (z : ℤ)
+    → onArea (areaAsked f z) none (λ a e. some (placesIn how f a e)) ≡ pick (not (isPart z (countOf f))) none (some (placesAsked how f z))
+unfolding whoseOf areaNamed
+on-area how none some f (pos k) = go (ltb k (countOf f))
   where
     go : (w : Bool)
-        → onArea (areaOf f (pick w (One k) Nobody)) none (λ a e. some (placesIn f a e))
-        ≡ pick (not w) none (some (onArea (areaOf f (pick w (One k) Nobody)) [] (λ a e. placesIn f a e)))
+        → onArea (areaNamed f (pick w (One k) Nobody)) none (λ a e. some (placesIn how f a e))
+        ≡ pick (not w) none (some (onArea (areaNamed f (pick w (One k) Nobody)) [] (λ a e. placesIn how f a e)))
     go true = refl
     go false = refl
-on-area none some f (negsuc zero) = refl
-on-area none some f (negsuc (suc k)) = refl
+on-area how none some f (negsuc zero) = refl
+on-area how none some f (negsuc (suc k)) = refl
 
-abbrev pub foundAsked : List ℕ → ℤ → List ℕ → Found
-foundAsked f z key = findOf f (placesAsked f z) key
+abbrev pub foundAsked : Manner → List ℕ → ℤ → List ℕ → Found
+foundAsked how f z key = findOf how f (placesAsked how f z) key
 
 -- a question on a part: the check, 18, the value
-part-first : {A : Type 0} (bad : Refusal → A) (some : List Place → A) (xs : List ℕ) (n : ℕ) (z : ℤ)
-    → asked bad (checkOf false xs n) (onArea (areaAsked (take n xs) z) (bad noTrace) (λ a e. some (placesIn (take n xs) a e)))
-    ≡ asked bad (firstOf (partRows xs n z)) (some (placesAsked (take n xs) z))
-part-first bad some xs n z =
+part-first : (how : Manner) {A : Type 0} (bad : Refusal → A) (some : List Place → A) (xs : List ℕ) (n : ℕ) (z : ℤ)
+    → asked bad (checkOf how Read xs n) (onArea (areaAsked (take n xs) z) (bad noTrace) (λ a e. some (placesIn how (take n xs) a e)))
+    ≡ asked bad (firstOf (partAskedRows how xs n z)) (some (placesAsked how (take n xs) z))
+part-first how bad some xs n z =
     let f : List ℕ = take n xs in
-    ap (λ (v : Verdict). asked bad v (onArea (areaAsked f z) (bad noTrace) (λ a e. some (placesIn f a e)))) (check-answers-first false xs n)
-    ∙ ap (asked bad (firstOf (checkRows false xs n))) (on-area (bad noTrace) some f z)
-    ∙ sym (one-more bad (checkRows false xs n) (not (isPart z (countOf f))) (some (placesAsked f z)))
+    ap (λ (v : Verdict). asked bad v (onArea (areaAsked f z) (bad noTrace) (λ a e. some (placesIn how f a e)))) (check-answers-first how Read xs n)
+    ∙ ap (asked bad (firstOf (checkRows how Read xs n))) (on-area how (bad noTrace) some f z)
+    ∙ sym (one-more bad (checkRows how Read xs n) (not (isPart z (countOf f))) (some (placesAsked how f z)))
 
 -- Rules out strings of no part, and of a file that the check refuses.
-pub count-answers-first : (xs : List ℕ) (n : ℕ) (z : ℤ)
-    → countAnswer xs n z ≡ asked count.Refused (firstOf (partRows xs n z)) (count.Is (length (placesAsked (take n xs) z)))
+pub count-answers-first : (how : Manner) (xs : List ℕ) (n : ℕ) (z : ℤ)
+    → countAnswer how xs n z ≡ asked count.Refused (firstOf (partAskedRows how xs n z)) (count.Is (length (placesAsked how (take n xs) z)))
 unfolding countAnswer
-count-answers-first xs n z = part-first count.Refused (λ ps. count.Is (length ps)) xs n z
+count-answers-first how xs n z = part-first how count.Refused (λ ps. count.Is (length ps)) xs n z
 
-pub nth-answers-first : (xs : List ℕ) (n : ℕ) (z : ℤ) (i : ℕ)
-    → nthAnswer xs n z i ≡ asked string.Refused (firstOf (partRows xs n z)) (there (nthOf (placesAsked (take n xs) z) i))
+pub nth-answers-first : (how : Manner) (xs : List ℕ) (n : ℕ) (z : ℤ) (i : ℕ)
+    → nthAnswer how xs n z i ≡ asked string.Refused (firstOf (partAskedRows how xs n z)) (there (nthOf (placesAsked how (take n xs) z) i))
 unfolding nthAnswer
-nth-answers-first xs n z i = part-first string.Refused (λ ps. there (nthOf ps i)) xs n z
+nth-answers-first how xs n z i = part-first how string.Refused (λ ps. there (nthOf ps i)) xs n z
 
-pub find-answers-first : (xs : List ℕ) (n : ℕ) (z : ℤ) (key : List ℕ)
-    → findAnswer xs n z key ≡ asked string.Refused (firstOf (partRows xs n z)) (there (foundAsked (take n xs) z key))
+pub find-answers-first : (how : Manner) (xs : List ℕ) (n : ℕ) (z : ℤ) (key : List ℕ)
+    → findAnswer how xs n z key ≡ asked string.Refused (firstOf (partAskedRows how xs n z)) (there (foundAsked how (take n xs) z key))
 unfolding findAnswer
-find-answers-first xs n z key = part-first string.Refused (λ ps. there (findOf (take n xs) ps key)) xs n z
+find-answers-first how xs n z key = part-first how string.Refused (λ ps. there (findOf how (take n xs) ps key)) xs n z
 
 -- "one answers yes, no or the refusal". Rules out a no where the file is broken.
-pub keyword-answers-first : (xs : List ℕ) (n : ℕ) (z : ℤ) (key : List ℕ)
-    → keywordAnswer xs n z key ≡ asked keyword.Refused (firstOf (partRows xs n z)) (yesOrNo (there (foundAsked (take n xs) z key)))
+pub keyword-answers-first : (how : Manner) (xs : List ℕ) (n : ℕ) (z : ℤ) (key : List ℕ)
+    → keywordAnswer how xs n z key ≡ asked keyword.Refused (firstOf (partAskedRows how xs n z)) (yesOrNo (there (foundAsked how (take n xs) z key)))
 unfolding keywordAnswer
-keyword-answers-first xs n z key = ap yesOrNo (find-answers-first xs n z key) ∙ go (firstOf (partRows xs n z))
+keyword-answers-first how xs n z key = ap yesOrNo (find-answers-first how xs n z key) ∙ go (firstOf (partAskedRows how xs n z))
   where
-    go : (v : Verdict) → yesOrNo (asked string.Refused v (there (foundAsked (take n xs) z key))) ≡ asked keyword.Refused v (yesOrNo (there (foundAsked (take n xs) z key)))
+    go : (v : Verdict) → yesOrNo (asked string.Refused v (there (foundAsked how (take n xs) z key))) ≡ asked keyword.Refused v (yesOrNo (there (foundAsked how (take n xs) z key)))
     go Accepted = refl
     go (Refused r) = refl
 
 -- "the other answers the value as the caller's own bytes, not a copy, and for a no or a refusal the empty part at the start of the lent buffer".
 -- Rules out bytes of a file that was refused.
-pub value-answers-first : (xs : List ℕ) (n : ℕ) (z : ℤ) (key : List ℕ)
-    → valueAnswer xs n z key ≡ asked (λ r. []) (firstOf (partRows xs n z)) (valueFound (take n xs) (foundAsked (take n xs) z key))
+pub value-answers-first : (how : Manner) (xs : List ℕ) (n : ℕ) (z : ℤ) (key : List ℕ)
+    → valueAnswer how xs n z key ≡ asked (λ r. []) (firstOf (partAskedRows how xs n z)) (valueFound (take n xs) (foundAsked how (take n xs) z key))
 unfolding valueAnswer
-value-answers-first xs n z key =
-    ap (valueThere (take n xs)) (find-answers-first xs n z key) ∙ go (firstOf (partRows xs n z)) (foundAsked (take n xs) z key)
+value-answers-first how xs n z key =
+    ap (valueThere (take n xs)) (find-answers-first how xs n z key) ∙ go (firstOf (partAskedRows how xs n z)) (foundAsked how (take n xs) z key)
   where
     go : (v : Verdict) (y : Found) → valueThere (take n xs) (asked string.Refused v (there y)) ≡ asked (λ r. []) v (valueFound (take n xs) y)
     go (Refused r) y = refl
     go Accepted y = found-value (take n xs) y
 
 -- a number in a value: the file's rows, then the number's own
-made-first : {A : Type 0} (bad : Refusal → A) (g : List ℕ → A) (xs : List ℕ) (n : ℕ) (z : ℤ) (key : List ℕ)
-    → onString bad (findAnswer xs n z key) (g (valueAnswer xs n z key))
-    ≡ asked bad (firstOf (partRows xs n z)) (g (valueFound (take n xs) (foundAsked (take n xs) z key)))
-made-first bad g xs n z key =
-    rw (find-answers-first xs n z key, value-answers-first xs n z key) (go (firstOf (partRows xs n z)) (foundAsked (take n xs) z key))
+made-first : (how : Manner) {A : Type 0} (bad : Refusal → A) (g : List ℕ → A) (xs : List ℕ) (n : ℕ) (z : ℤ) (key : List ℕ)
+    → onString bad (findAnswer how xs n z key) (g (valueAnswer how xs n z key))
+    ≡ asked bad (firstOf (partAskedRows how xs n z)) (g (valueFound (take n xs) (foundAsked how (take n xs) z key)))
+made-first how bad g xs n z key =
+    rw (find-answers-first how xs n z key, value-answers-first how xs n z key) (go (firstOf (partAskedRows how xs n z)) (foundAsked how (take n xs) z key))
   where
     go : (v : Verdict) (y : Found)
         → onString bad (asked string.Refused v (there y)) (g (asked (λ r. []) v (valueFound (take n xs) y))) ≡ asked bad v (g (valueFound (take n xs) y))
@@ -184,20 +187,20 @@ made-first bad g xs n z key =
     go Accepted Nothing = refl
     go Accepted (Is s) = refl
 
-pub number-answers-first : (xs : List ℕ) (n : ℕ) (z : ℤ) (key : List ℕ)
-    → numberAnswer xs n z key ≡ asked number.Refused (firstOf (partRows xs n z)) (numberOf (valueFound (take n xs) (foundAsked (take n xs) z key)))
+pub number-answers-first : (how : Manner) (xs : List ℕ) (n : ℕ) (z : ℤ) (key : List ℕ)
+    → numberAnswer how xs n z key ≡ asked number.Refused (firstOf (partAskedRows how xs n z)) (numberIn (valueFound (take n xs) (foundAsked how (take n xs) z key)))
 unfolding numberAnswer
-number-answers-first = made-first number.Refused numberOf
+number-answers-first how = made-first how number.Refused numberIn
 
-pub double-answers-first : (xs : List ℕ) (n : ℕ) (z : ℤ) (key : List ℕ)
-    → doubleAnswer xs n z key ≡ asked double.Refused (firstOf (partRows xs n z)) (doubleOf (valueFound (take n xs) (foundAsked (take n xs) z key)))
+pub double-answers-first : (how : Manner) (xs : List ℕ) (n : ℕ) (z : ℤ) (key : List ℕ)
+    → doubleAnswer how xs n z key ≡ asked double.Refused (firstOf (partAskedRows how xs n z)) (doubleOf (valueFound (take n xs) (foundAsked how (take n xs) z key)))
 unfolding doubleAnswer
-double-answers-first = made-first double.Refused doubleOf
+double-answers-first how = made-first how double.Refused doubleOf
 
-pub location-answers-first : (xs : List ℕ) (n : ℕ) (z : ℤ) (key : List ℕ)
-    → locationAnswer xs n z key ≡ asked location.Refused (firstOf (partRows xs n z)) (locationOf (valueFound (take n xs) (foundAsked (take n xs) z key)))
+pub location-answers-first : (how : Manner) (xs : List ℕ) (n : ℕ) (z : ℤ) (key : List ℕ)
+    → locationAnswer how xs n z key ≡ asked location.Refused (firstOf (partAskedRows how xs n z)) (locationOf (valueFound (take n xs) (foundAsked how (take n xs) z key)))
 unfolding locationAnswer
-location-answers-first = made-first location.Refused locationOf
+location-answers-first how = made-first how location.Refused locationOf
 
 -- ---- "20 no number, 21 too many digits, 22 not within the double case, 23 neither one nor three values: 23 first, then value by value; place is the
 -- value's start in the text". Rules out a double of what is no number, and a location whose values are judged before they are counted.
@@ -206,19 +209,19 @@ first-append : {A : Type 0} (rs qs : Rows A) (a : A) → first (rs ++ qs) a ≡ 
 first-append [] qs a = refl
 first-append (r ∷ rs) qs a = ap (pick (r .0) (r .1)) (first-append rs qs a)
 
-pub number-refused-first : (t : List ℕ) → numberOf t ≡ first (shapeRows t ++ limits (partsOf t)) (number.Is (decimalOf (partsOf t)))
-unfolding numberOf judged
+pub number-refused-first : (t : List ℕ) → numberIn t ≡ first (shapeRows t ++ limits (partsOf t)) (number.Is (decimalOf (partsOf t)))
+unfolding numberIn judged
 number-refused-first t = sym (first-append (shapeRows t) (limits (partsOf t)) (number.Is (decimalOf (partsOf t))))
 
 -- 20 and 21 are the number's, 22 comes behind them
-pub double-refused-first : (t : List ℕ) (n : Decimal) → numberOf t ≡ number.Is n
+pub double-refused-first : (t : List ℕ) (n : Decimal) → numberIn t ≡ number.Is n
     → doubleOf t
     ≡ first ((ltb 9007199254740991 (n .coefficient), noDouble) ∷ (ltb 15 (natAbs (n .power)), noDouble) ∷ [])
     (double.Is (withSign (n .minus) (scaledOf (ltZ (n .power) (pos 0)) (n .coefficient) (natAbs (n .power)))))
 unfolding doubleOf onNumber doubleFrom
 double-refused-first t n e = rw e
 
-pub double-refused-before : (t : List ℕ) (r : Refusal) → numberOf t ≡ number.Refused r → doubleOf t ≡ double.Refused r
+pub double-refused-before : (t : List ℕ) (r : Refusal) → numberIn t ≡ number.Refused r → doubleOf t ≡ double.Refused r
 unfolding doubleOf onNumber
 double-refused-before t r e = rw e
 
@@ -254,55 +257,51 @@ unfolding andThen
 then-is-asked Accepted b = refl
 then-is-asked (Refused r) b = refl
 
-samples-rows : (xs : List ℕ) (n : ℕ) (z : ℤ) (some : ℕ → Verdict) (vs : List Verdict) → some (traceNumber z) ≡ firstOf vs
-    → asked Refused (checkOf false xs n) (onTrace (whoseOf z (countOf (take n xs))) (Refused noTrace) some) ≡ firstOf (traceRows xs n z ++ vs)
-samples-rows xs n z some vs h =
+samples-rows : (how : Manner) (xs : List ℕ) (n : ℕ) (z : ℤ) (some : ℕ → Verdict) (vs : List Verdict) → some (traceNumber z) ≡ firstOf vs
+    → asked Refused (checkOf how Read xs n) (onTrace (whoseOf z (countOf (take n xs))) (Refused noTrace) some) ≡ firstOf (traceAskedRows how xs n z ++ vs)
+samples-rows how xs n z some vs h =
     let f : List ℕ = take n xs in
     let w : Bool = not (isTrace z (countOf f)) in
-    ap (λ (v : Verdict). asked Refused v (onTrace (whoseOf z (countOf f)) (Refused noTrace) some)) (check-answers-first false xs n)
-    ∙ ap (asked Refused (firstOf (checkRows false xs n))) (on-trace (Refused noTrace) some z (countOf f) ∙ ap (pick w (Refused noTrace)) h)
+    ap (λ (v : Verdict). asked Refused v (onTrace (whoseOf z (countOf f)) (Refused noTrace) some)) (check-answers-first how Read xs n)
+    ∙ ap (asked Refused (firstOf (checkRows how Read xs n))) (on-trace (Refused noTrace) some z (countOf f) ∙ ap (pick w (Refused noTrace)) h)
     ∙ sym
-    (first-more (traceRows xs n z) vs
-    ∙ then-is-asked (firstOf (traceRows xs n z)) (firstOf vs)
-    ∙ one-more Refused (checkRows false xs n) w (firstOf vs))
+    (first-more (traceAskedRows how xs n z) vs
+    ∙ then-is-asked (firstOf (traceAskedRows how xs n z)) (firstOf vs)
+    ∙ one-more Refused (checkRows how Read xs n) w (firstOf vs))
 
-abbrev pub integersRows : List ℕ → ℕ → ℤ → ℕ → List Verdict
-integersRows xs n z s =
-    traceRows xs n z
-    ++ (row (not (ofIntegers (codeAt (take n xs) (traceNumber z)))) CodeKind File 0 ∷ row (not (eqb s (countAt (take n xs) (traceNumber z)))) RowLength File 0 ∷ [])
+abbrev pub integersAskedRows : Manner → List ℕ → ℕ → ℤ → ℕ → List Verdict
+integersAskedRows how xs n z s =
+    traceAskedRows how xs n z
+    ++ (row (not (ofIntegers (codeAt (take n xs) (traceNumber z)))) CodeKind File 0
+    ∷ row (not (eqb s (countAt (take n xs) (traceNumber z)))) RowLength File 0
+    ∷ [])
+
+-- behind the rows nothing comes
+ruled-rows : (rs : Rows Rule) → ruled rs (λ r. Refused (refusal r File 0)) Accepted ≡ firstOf (rowsAt File 0 rs)
+unfolding andThen
+ruled-rows rs = rule-first rs File 0 Accepted ∙ then-none (firstOf (rowsAt File 0 rs))
+  where
+    then-none : (v : Verdict) → andThen v Accepted ≡ v
+    then-none Accepted = refl
+    then-none (Refused r) = refl
 
 -- Rules out integers of a float trace, bits of an integer one, and a row that is filled in part.
-pub integers-answer-first : (xs : List ℕ) (n : ℕ) (z : ℤ) (s : ℕ) → integersAnswer xs n z s ≡ firstOf (integersRows xs n z s)
-unfolding integersAnswer questions.integersRows
-integers-answer-first xs n z s =
-    let f : List ℕ = take n xs in
-    let k : ℕ = traceNumber z in
-    let a : Bool = not (ofIntegers (codeAt f k)) in
-    let b : Bool = not (eqb s (countAt f k)) in
-    samples-rows xs n z (λ i. questions.integersRows f i s) (row a CodeKind File 0 ∷ row b RowLength File 0 ∷ [])
-    (sym
-    (first-row a CodeKind File 0 (row b RowLength File 0 ∷ [])
-    ∙ ap (pick a (Refused (refusal CodeKind File 0))) (first-row b RowLength File 0 [] ∙ ap (pick b (Refused (refusal RowLength File 0))) first-nothing)))
+pub integers-answer-first : (how : Manner) (xs : List ℕ) (n : ℕ) (z : ℤ) (s : ℕ) → integersAnswer how xs n z s ≡ firstOf (integersAskedRows how xs n z s)
+unfolding integersAnswer integersVerdict traceBlockOf
+integers-answer-first how xs n z s =
+    let rs = integersRows (blockAt (take n xs) (traceNumber z)) s in
+    samples-rows how xs n z (λ i. integersVerdict (blockAt (take n xs) i) s) (rowsAt File 0 rs) (ruled-rows rs)
 
-abbrev pub bitsRows : List ℕ → ℕ → ℤ → ℕ → ℕ → List Verdict
-bitsRows xs n z s c =
-    traceRows xs n z
+abbrev pub bitsAskedRows : Manner → List ℕ → ℕ → ℤ → ℕ → ℕ → List Verdict
+bitsAskedRows how xs n z s c =
+    traceAskedRows how xs n z
     ++ (row (not (ofBits (codeAt (take n xs) (traceNumber z)))) CodeKind File 0
     ∷ row (not (eqb s (countAt (take n xs) (traceNumber z)))) RowLength File 0
     ∷ row (not (eqb c (countAt (take n xs) (traceNumber z)))) RowLength File 0
     ∷ [])
 
-pub bits-answer-first : (xs : List ℕ) (n : ℕ) (z : ℤ) (s c : ℕ) → bitsAnswer xs n z s c ≡ firstOf (bitsRows xs n z s c)
-unfolding bitsAnswer questions.bitsRows
-bits-answer-first xs n z s c =
-    let f : List ℕ = take n xs in
-    let k : ℕ = traceNumber z in
-    let a : Bool = not (ofBits (codeAt f k)) in
-    let b : Bool = not (eqb s (countAt f k)) in
-    let d : Bool = not (eqb c (countAt f k)) in
-    samples-rows xs n z (λ i. questions.bitsRows f i s c) (row a CodeKind File 0 ∷ row b RowLength File 0 ∷ row d RowLength File 0 ∷ [])
-    (sym
-    (first-row a CodeKind File 0 (row b RowLength File 0 ∷ row d RowLength File 0 ∷ [])
-    ∙ ap (pick a (Refused (refusal CodeKind File 0)))
-    (first-row b RowLength File 0 (row d RowLength File 0 ∷ [])
-    ∙ ap (pick b (Refused (refusal RowLength File 0))) (first-row d RowLength File 0 [] ∙ ap (pick d (Refused (refusal RowLength File 0))) first-nothing))))
+pub bits-answer-first : (how : Manner) (xs : List ℕ) (n : ℕ) (z : ℤ) (s c : ℕ) → bitsAnswer how xs n z s c ≡ firstOf (bitsAskedRows how xs n z s c)
+unfolding bitsAnswer bitsVerdict traceBlockOf
+bits-answer-first how xs n z s c =
+    let rs = bitsRows (blockAt (take n xs) (traceNumber z)) s c in
+    samples-rows how xs n z (λ i. bitsVerdict (blockAt (take n xs) i) s c) (rowsAt File 0 rs) (ruled-rows rs)

@@ -17,13 +17,13 @@ use Rattle.word.specs.Part.{part}
 use Rattle.word.specs.Word.{wordAt}
 use Rattle.word.specs.WordLaws.{word-byte, word-joined, word-part, word-small}
 use Rattle.sample.specs.Needed.{needed, width}
-use Rattle.sample.specs.Run.{run}
+use Rattle.sample.specs.Run.{valuesFrom}
 use Rattle.decode.specs.Sample.{patternOf, exponentIn, groupSample, sampleOf, classBy, classOf}
 use Rattle.decode.specs.SampleLaws.{twos-plus, twos-minus, scaled-plus, scaled-minus}
 use Rattle.decode.specs.Classes.{valueClass, codeOf, class-ieee}
 use Rattle.head.specs.Head.{highFirst}
-use Rattle.block.specs.Block.{pointerOf, blockSize, dataSize, sampleCount, formatCode, endAt}
-use Rattle.reader.specs.Questions.{dataOf, samplesOf, patternsOf, classesOf}
+use Rattle.block.specs.Block.{pointerOf, blockSize, dataSize, sampleCount, formatCode, traceBlockOf}
+use Rattle.reader.specs.Questions.{samplesIn, patternsIn, classesIn, samplesOf, patternsOf, classesOf}
 use Rattle.ignored.specs.Data.{samples-same, patterns-same, classes-same}
 
 -- ---- whole numbers: what each byte weighs, low byte first (`false`) and high byte first (`true`)
@@ -131,10 +131,10 @@ classes-are-ieee = class-ieee
 
 pub samples-of-the-data : (f : List ℕ) (k : ℕ) (h : Bool) (p b d s c : ℕ) → h ≡ eqb (byteAt f 0) 58 → p ≡ wordAt 4 h f (32 + 4 * k)
     → b ≡ wordAt 2 h f (p + 2) → d ≡ wordAt 4 h f (p + 4) → s ≡ wordAt 4 h f (p + 8) → c ≡ byteAt f (p + 12)
-    → (samplesOf f k ≡ run (sampleOf c h (part (p + b) (p + b + d) f)) 0 s)
-    × (patternsOf f k ≡ run (patternOf c h (part (p + b) (p + b + d) f)) 0 s)
-    × (classesOf f k ≡ run (λ i. classOf c (patternOf c h (part (p + b) (p + b + d) f) i)) 0 s)
-unfolding samplesOf patternsOf classesOf dataOf highFirst pointerOf blockSize dataSize sampleCount formatCode endAt
+    → (samplesOf f k ≡ valuesFrom (sampleOf c h (part (p + b) (p + b + d) f)) 0 s)
+    × (patternsOf f k ≡ valuesFrom (patternOf c h (part (p + b) (p + b + d) f)) 0 s)
+    × (classesOf f k ≡ valuesFrom (λ i. classOf c (patternOf c h (part (p + b) (p + b + d) f) i)) 0 s)
+unfolding samplesIn patternsIn classesIn traceBlockOf highFirst pointerOf blockSize dataSize sampleCount formatCode
 samples-of-the-data f k h p b d s c eh ep eb ed es ec = rw (← eh, ← ep, ← eb, ← ed, ← es, ← ec) (refl, refl, refl)
 
 -- the block's words are the file's, from p+B on
@@ -144,8 +144,8 @@ words-of-the-data = word-part
 -- ---- "D may exceed this; the rest is ignored": blocks that agree in the needed bytes have the same samples, patterns and classes
 
 pub rest-of-the-data-ignored : (code : ℕ) (high : Bool) (block other : List ℕ) (s : ℕ) → take (needed code s) block ≡ take (needed code s) other
-    → ((code ≡ 3 → s % 4 ≡ 0) → run (sampleOf code high block) 0 s ≡ run (sampleOf code high other) 0 s)
-    × (run (patternOf code high block) 0 s ≡ run (patternOf code high other) 0 s)
-    × (run (λ i. classOf code (patternOf code high block i)) 0 s ≡ run (λ i. classOf code (patternOf code high other i)) 0 s)
+    → ((code ≡ 3 → s % 4 ≡ 0) → valuesFrom (sampleOf code high block) 0 s ≡ valuesFrom (sampleOf code high other) 0 s)
+    × (valuesFrom (patternOf code high block) 0 s ≡ valuesFrom (patternOf code high other) 0 s)
+    × (valuesFrom (λ i. classOf code (patternOf code high block i)) 0 s ≡ valuesFrom (λ i. classOf code (patternOf code high other i)) 0 s)
 rest-of-the-data-ignored code high block other s e =
     (samples-same code high block other s e, patterns-same code high block other s e, classes-same code high block other s e)

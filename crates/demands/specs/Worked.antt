@@ -17,11 +17,11 @@ use Rattle.decode.specs.Sample.{patternOf, twos, exponentIn, ones, scaled, grou
 use Rattle.encode.specs.Unfit.{firstFrom, unfitInteger, unfitIntegers}
 use Rattle.encode.specs.Write.{smallest, exponentOf, mantissaOf, onesBits, exponentsOf, wordsOf, groupBytes, groups, filledUp, integersData}
 use Rattle.decimal.specs.declared.NumberAnswer.{NumberAnswer}
-use Rattle.decimal.specs.declared.NumberAnswer.the-variants.{Is, Refused}
+use Rattle.decimal.specs.declared.NumberAnswer.the-variants as answer
 use Rattle.text.specs.Runs.{run}
-use Rattle.decimal.specs.Number.{has, past, worth, value, powerOf, decimalOf, judged, partsOf, numberOf}
+use Rattle.decimal.specs.Number.{has, past, worth, value, powerOf, decimalOf, judged, partsOf, numberIn}
 use Rattle.layout.specs.Layout.{Samples.integers, fitting, unfit}
-use Rattle.writer.specs.Answers.{samplesOf}
+use Rattle.writer.specs.Answers.{samplesVerdict}
 
 -- what a worked value says
 pub data Case : Type 0 where
@@ -42,24 +42,24 @@ refusedBy verdict.Accepted = (0, 0)
 refusedBy (verdict.Refused r) = (refusals.numberOf (r .rule), r .place)
 
 abbrev unreadBy : NumberAnswer → ℕ × ℕ
-unreadBy (Is n) = (0, 0)
-unreadBy (Refused r) = (refusals.numberOf (r .rule), r .place)
+unreadBy (answer.Is n) = (0, 0)
+unreadBy (answer.Refused r) = (refusals.numberOf (r .rule), r .place)
 
-unfoldable pub Holds : Case → Type 0
+unfoldable pub CaseHolds : Case → Type 0
 unfolding row-of
-Holds (reads code high block row) = integersRead code high block (row-of (length row)) ≡ row
-Holds (writes z e m) = (exponentOf z ≡ e) × (mantissaOf z ≡ m)
-Holds (stands code high row block) = integersData code high row ≡ block
-Holds (becomes z v) =
+CaseHolds (reads code high block row) = integersRead code high block (row-of (length row)) ≡ row
+CaseHolds (writes z e m) = (exponentOf z ≡ e) × (mantissaOf z ≡ m)
+CaseHolds (stands code high row block) = integersData code high row ≡ block
+CaseHolds (becomes z v) =
     (integersRead 3 false (integersData 3 false (z ∷ row-of 3)) (row-of 4) ≡ v ∷ row-of 3)
     × (integersRead 3 true (integersData 3 true (z ∷ row-of 3)) (row-of 4) ≡ v ∷ row-of 3)
-Holds (unwritten code row r at) = refusedBy (samplesOf code (integers row)) ≡ (r, at)
-Holds (number t m c p) = numberOf t ≡ Is (record { minus = m; coefficient = c; power = p })
-Holds (unread t r) = unreadBy (numberOf t) ≡ (r, 0)
+CaseHolds (unwritten code row r at) = refusedBy (samplesVerdict code (integers row)) ≡ (r, at)
+CaseHolds (number t m c p) = numberIn t ≡ answer.Is (record { minus = m; coefficient = c; power = p })
+CaseHolds (unread t r) = unreadBy (numberIn t) ≡ (r, 0)
 
 unfoldable pub AllHold : List Case → Type 0
 AllHold [] = Unit {0}
-AllHold (c ∷ cs) = Holds c × AllHold cs
+AllHold (c ∷ cs) = CaseHolds c × AllHold cs
 
 unfoldable pub table : List Case
 table =
@@ -98,6 +98,6 @@ table =
 
 -- Rules out a library that is right in its laws and wrong in a constant.
 pub worked-values : AllHold table
-unfolding AllHold Holds table row-of lowFirst valueOf wordAt lowBytes bytesOf needed width samples.run patternOf twos exponentIn ones scaled groupSample sampleOf integersThere integersRead firstFrom unfitInteger unfitIntegers smallest exponentOf mantissaOf onesBits exponentsOf wordsOf groupBytes groups filledUp integersData samplesOf fitting unfit numberOf partsOf judged decimalOf powerOf value worth past has run
+unfolding AllHold CaseHolds table row-of lowFirst valueOf wordAt lowBytes bytesOf needed width samples.valuesFrom patternOf twos exponentIn ones scaled groupSample sampleOf integersThere integersRead firstFrom unfitInteger unfitIntegers smallest exponentOf mantissaOf onesBits exponentsOf wordsOf groupBytes groups filledUp integersData samplesVerdict fitting unfit numberIn partsOf judged decimalOf powerOf value worth past has run
 worked-values =
     (refl, (refl, (refl, (refl, (refl, ((refl, refl), (refl, (refl, ((refl, refl), ((refl, refl), (refl, (refl, (refl, (refl, (refl, (refl, (refl, (refl, (refl, tt)))))))))))))))))))

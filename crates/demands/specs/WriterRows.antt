@@ -6,88 +6,79 @@ use mathlib.Core.Path.{_≡_, refl, sym, ap, _∙_}
 use mathlib.Core.Bool.{Bool, true, false, not, cond, _&&_, _||_}
 use mathlib.Core.List.{List, [], _∷_, _++_}
 use Prim.Native.Nat.{ℕ, zero, suc, _+_}
-use lib.ListN.{length, getD, take, drop}
+use lib.ListN.{length, take, drop}
 use lib.Dec.{ltb, leb, eqb}
-use Rattle.refusal.specs.declared.Rule.the-variants.{NoSlot, SheetLine, SheetOrder, AreaSize, EntryCode, SampleRange, NoRoom, StartValues}
+use Rattle.head.specs.declared.Purpose.the-variants.{Grow}
+use Rattle.refusal.specs.Verdicts.{asked, andThen}
+use Rattle.refusal.specs.declared.Rule.the-variants.{NoSlot, SheetLine, AreaSize, EntryCode, SampleRange, NoRoom, StartValues}
 use Rattle.refusal.specs.declared.Part.the-variants.{File}
 use Rattle.refusal.specs.declared.Verdict.{Verdict}
 use Rattle.refusal.specs.declared.Verdict.the-variants.{Accepted, Refused}
 use Rattle.refusal.specs.Table.{refusal}
-use Rattle.refusal.specs.Rows.{pick}
-use Rattle.text.specs.Runs.{all}
-use Rattle.text.specs.Order.{rises}
+use Rattle.refusal.specs.Rows.{pick, ruled-map}
+use Rattle.text.specs.declared.Manner.the-variants.{Strict}
 use Rattle.encode.specs.Unfit.{firstFrom, unfitInteger, unfitPattern, unfitIntegers, unfitPatterns}
+use Rattle.strings.specs.declared.Judged.{Judged}
 use Rattle.strings.specs.declared.Judged.the-variants.{Keyword, Wrong}
 use Rattle.sheet.specs.declared.Step.the-variants.{Bad}
 use Rattle.sheet.specs.declared.Measured.the-variants as measured
-use Rattle.sheet.specs.Lines.{plain, lineLen, lineOf, keyLen, keyOf, valueOf, spaced, continues, judgedOf, onJudged, stepOf, onStep, checkFrom, linesVerdict}
-use Rattle.sheet.specs.Area as area
+use Rattle.sheet.specs.Lines.{lineLen, lineOf, lineKeyLen, lineRows, lineJudged, onLineJudged, lineStep, onLineStep, checkFrom, linesVerdict}
 use Rattle.sheet.specs.Area.{areaSize, measuredOf}
 use Rattle.head.specs.Head.{roomOf, countOf, stringEnd, lineEnd}
-use Rattle.reader.specs.Questions.{asked}
 use Rattle.start.specs.declared.Written.{Written}
 use Rattle.start.specs.declared.Written.the-variants as written
 use Rattle.layout.specs.Layout.{nul, lineFeed, startSize, Trace, Samples, Samples.integers, Samples.patterns, fitting, unfit}
 use Rattle.start.specs.Start.{onMeasured, badStart, startAnswer}
 use Rattle.append.specs.Grown.{newLength}
-use Rattle.writer.specs.Answers.{onVerdict, noSlot, openedOf, onFit, samplesOf, onSamples, addAnswer}
-use Rattle.demands.specs.FirstRow.{row, firstOf, first-nothing, first-row, asked-more, asked-row, asked-none}
-use Rattle.demands.specs.FileRows.{checkRows, check-answers-first}
+use Rattle.writer.specs.Answers.{noSlot, areaAnswer, onFit, samplesVerdict, addAnswer}
+use Rattle.refusal.specs.FirstRow.{row, firstOf, first-nothing, first-row, first-more, rowsAt, rule-first, asked-more, asked-row, asked-none}
+use Rattle.demands.specs.FileRows.{pick-first, checkRows, check-answers-first}
 
--- ---- the lines of a sheet, from one at the place `at` on: 25 "An empty or unfinished line is bad", no keyword, no tab behind it, a value's character, a
--- value that starts with a space where the line does not continue a NOTE; 26 "sheet order"; then the next line's
-unfoldable pub lineRows : ℕ → List ℕ → List ℕ → ℕ → List Verdict
-lineRows zero prev s at = []
-lineRows (suc m) prev s at =
+-- ---- the lines of a sheet, from one at the place `at` on: 25 "An empty or unfinished line is bad", the line's own 25 and 26 (`lineRows` of `sheet`), and
+-- then the next line's
+unfoldable pub linesRows : ℕ → List ℕ → List ℕ → ℕ → List Verdict
+linesRows zero prev s at = []
+linesRows (suc m) prev s at =
     let l = lineOf s in
     pick (eqb (length s) 0) []
     (row (leb (length s) (lineLen s)) SheetLine File at
-    ∷ row (eqb (keyLen l) 0) SheetLine File at
-    ∷ row (not (eqb (getD l (keyLen l) 0) 9)) SheetLine File at
-    ∷ row (not (all plain (valueOf l))) SheetLine File at
-    ∷ row (spaced (valueOf l) && not (continues prev (keyOf l))) SheetLine File at
-    ∷ row (not (continues prev (keyOf l) || rises prev (keyOf l))) SheetOrder File at
-    ∷ lineRows m (take (keyLen l) s) (drop (lineLen s + 1) s) (at + lineLen s + 1))
+    ∷ (rowsAt File at (lineRows prev l) ++ linesRows m (take (lineKeyLen l) s) (drop (lineLen s + 1) s) (at + lineLen s + 1)))
 
 -- all of them, then 27 "area too large"
 abbrev pub sheetRows : List ℕ → List ℕ → List ℕ → List Verdict
-sheetRows t u s = lineRows (length s) [] s 0 ++ (row (ltb 65500 (areaSize t u s)) AreaSize File 0 ∷ [])
+sheetRows t u s = linesRows (length s) [] s 0 ++ (row (ltb 65500 (areaSize t u s)) AreaSize File 0 ∷ [])
 
-line-first : (e a b c d f g : Bool) (at n k : ℕ) (next : ℕ → ℕ → Verdict) (more : List Verdict) → next k n ≡ firstOf more
-    → pick e Accepted (onStep (pick a (Bad (refusal SheetLine File at))
-    (onJudged (pick b (Wrong SheetLine) (pick c (Wrong SheetLine) (pick d (Wrong SheetLine) (pick f (Wrong SheetLine) (pick g (Wrong SheetOrder) (Keyword n)))))) at k)) next)
-    ≡ firstOf (pick e [] (row a SheetLine File at ∷ row b SheetLine File at ∷ row c SheetLine File at ∷ row d SheetLine File at ∷ row f SheetLine File at ∷ row g SheetOrder File at ∷ more))
-unfolding firstOf
-line-first true a b c d f g at n k next more h = refl
-line-first false true b c d f g at n k next more h = refl
-line-first false false true c d f g at n k next more h = refl
-line-first false false false true d f g at n k next more h = refl
-line-first false false false false true f g at n k next more h = refl
-line-first false false false false false true g at n k next more h = refl
-line-first false false false false false false true at n k next more h = refl
-line-first false false false false false false false at n k next more h = h
+-- a line: unfinished, its own rows, and then what comes behind
+line-first : (w : Bool) (prev l : List ℕ) (at k : ℕ) (next : ℕ → ℕ → Verdict) (more : List Verdict) → next k (lineKeyLen l) ≡ firstOf more
+    → onLineStep (pick w (Bad (refusal SheetLine File at)) (onLineJudged (lineJudged prev l) at k)) next
+    ≡ firstOf (row w SheetLine File at ∷ (rowsAt File at (lineRows prev l) ++ more))
+unfolding lineJudged firstOf
+line-first true prev l at k next more h = refl
+line-first false prev l at k next more h =
+    let rs = lineRows prev l in
+    ruled-map (λ (j : Judged). onLineStep (onLineJudged j at k) next) rs Wrong (Keyword (lineKeyLen l))
+    ∙ rule-first rs File at (next k (lineKeyLen l)) ∙ ap (andThen (firstOf (rowsAt File at rs))) h ∙ sym (first-more (rowsAt File at rs) more)
 
-lines-first : (m : ℕ) (prev s : List ℕ) (at : ℕ) → checkFrom m prev s at ≡ firstOf (lineRows m prev s at)
-unfolding checkFrom lineRows stepOf judgedOf
+lines-first : (m : ℕ) (prev s : List ℕ) (at : ℕ) → checkFrom m prev s at ≡ firstOf (linesRows m prev s at)
+unfolding checkFrom linesRows lineStep
 lines-first zero prev s at = sym first-nothing
 lines-first (suc m) prev s at =
     let l : List ℕ = lineOf s in
     let next : ℕ → ℕ → Verdict = λ i w. checkFrom m (take w s) (drop (i + 1) s) (at + i + 1) in
-    line-first (eqb (length s) 0) (leb (length s) (lineLen s)) (eqb (keyLen l) 0) (not (eqb (getD l (keyLen l) 0) 9)) (not (all plain (valueOf l)))
-    (spaced (valueOf l) && not (continues prev (keyOf l))) (not (continues prev (keyOf l) || rises prev (keyOf l))) at (keyLen l) (lineLen s) next
-    (lineRows m (take (keyLen l) s) (drop (lineLen s + 1) s) (at + lineLen s + 1))
-    (lines-first m (take (keyLen l) s) (drop (lineLen s + 1) s) (at + lineLen s + 1))
+    let more : List Verdict = linesRows m (take (lineKeyLen l) s) (drop (lineLen s + 1) s) (at + lineLen s + 1) in
+    pick-first (eqb (length s) 0) _ _
+    (line-first (leb (length s) (lineLen s)) prev l at (lineLen s) next more (lines-first m (take (lineKeyLen l) s) (drop (lineLen s + 1) s) (at + lineLen s + 1)))
 
 -- a sheet's rows, and else what comes behind them
 sheet-first : (t u s : List ℕ) (more : Written) → onMeasured (measuredOf t u s) more ≡ asked written.Refused (firstOf (sheetRows t u s)) more
 unfolding measuredOf linesVerdict
 sheet-first t u s more =
     rw (lines-first (length s) [] s 0)
-    (go (firstOf (lineRows (length s) [] s 0)) (ltb 65500 (areaSize t u s))
-    ∙ sym (asked-more written.Refused (lineRows (length s) [] s 0) (row (ltb 65500 (areaSize t u s)) AreaSize File 0 ∷ []) more))
+    (go (firstOf (linesRows (length s) [] s 0)) (ltb 65500 (areaSize t u s))
+    ∙ sym (asked-more written.Refused (linesRows (length s) [] s 0) (row (ltb 65500 (areaSize t u s)) AreaSize File 0 ∷ []) more))
   where
     go : (v : Verdict) (w : Bool)
-        → onMeasured (area.onVerdict v (pick w (measured.Refused (refusal AreaSize File 0)) (measured.Size (areaSize t u s)))) more
+        → onMeasured (asked measured.Refused v (pick w (measured.Refused (refusal AreaSize File 0)) (measured.Size (areaSize t u s)))) more
         ≡ asked written.Refused v (asked written.Refused (firstOf (row w AreaSize File 0 ∷ [])) more)
     go (Refused r) w = refl
     go Accepted true = sym (asked-row written.Refused true AreaSize File 0 [] more)
@@ -149,7 +140,7 @@ abbrev pub addRows : List ℕ → ℕ → Trace → List Verdict
 addRows xs n x =
     let f = take n xs in
     let end = newLength f n x in
-    checkRows true xs n
+    checkRows Strict Grow xs n
     ++ (row (noSlot (roomOf f) (countOf f)) NoSlot File 0
     ∷ (sheetRows (stringEnd f) (lineEnd f) (x .sheet)
     ++ (row (not (fitting (x .code) (x .samples))) EntryCode File 0
@@ -158,7 +149,7 @@ addRows xs n x =
 -- the steps of the definition, one behind the other
 steps : (c : Verdict) (s : Bool) (m : Rattle.sheet.specs.declared.Measured.Measured) (k : Bool) (f : Verdict) (w more : Written)
     → onMeasured m (pick k (written.Refused (refusal EntryCode File 0)) (asked written.Refused f w)) ≡ more
-    → onMeasured (onVerdict c (pick s (measured.Refused (refusal NoSlot File 0)) m)) (onSamples (pick k (Refused (refusal EntryCode File 0)) f) w)
+    → onMeasured (asked measured.Refused c (pick s (measured.Refused (refusal NoSlot File 0)) m)) (asked written.Refused (pick k (Refused (refusal EntryCode File 0)) f) w)
     ≡ asked written.Refused c (pick s (written.Refused (refusal NoSlot File 0)) more)
 steps (Refused r) s m k f w more h = refl
 steps Accepted true m k f w more h = refl
@@ -170,7 +161,7 @@ steps Accepted false (measured.Size b) false (Refused r) w more h = h
 -- Rules out an addition that skips a row, takes them in another order, refuses what no row refuses, or answers another length.
 pub addition-answers-first : (xs : List ℕ) (n : ℕ) (x : Trace)
     → addAnswer xs n x ≡ asked written.Refused (firstOf (addRows xs n x)) (written.To (newLength (take n xs) n x))
-unfolding addAnswer openedOf samplesOf
+unfolding addAnswer areaAnswer samplesVerdict
 addition-answers-first xs n x =
     let f : List ℕ = take n xs in
     let end : ℕ = newLength f n x in
@@ -190,8 +181,8 @@ addition-answers-first xs n x =
     ∙ ap (λ (v : Written). pick kind (written.Refused (refusal EntryCode File 0)) v)
     (asked-more written.Refused us last new ∙ ap (asked written.Refused (firstOf us)) (sym (room-first full end))))
     ∙ sym (sheet-first (stringEnd f) (lineEnd f) (x .sheet) (pick kind (written.Refused (refusal EntryCode File 0)) (asked written.Refused (firstOf us) within))) in
-    rw (check-answers-first true xs n, unfit-first (x .code) (x .samples))
-    (steps (firstOf (checkRows true xs n)) slot (measuredOf (stringEnd f) (lineEnd f) (x .sheet)) kind (firstOf us) within _ (sym tail)
+    rw (check-answers-first Strict Grow xs n, unfit-first (x .code) (x .samples))
+    (steps (firstOf (checkRows Strict Grow xs n)) slot (measuredOf (stringEnd f) (lineEnd f) (x .sheet)) kind (firstOf us) within _ (sym tail)
     ∙ sym
-    (asked-more written.Refused (checkRows true xs n) (row slot NoSlot File 0 ∷ (ss ++ (row kind EntryCode File 0 ∷ (us ++ last)))) new
-    ∙ ap (asked written.Refused (firstOf (checkRows true xs n))) (asked-row written.Refused slot NoSlot File 0 (ss ++ (row kind EntryCode File 0 ∷ (us ++ last))) new)))
+    (asked-more written.Refused (checkRows Strict Grow xs n) (row slot NoSlot File 0 ∷ (ss ++ (row kind EntryCode File 0 ∷ (us ++ last)))) new
+    ∙ ap (asked written.Refused (firstOf (checkRows Strict Grow xs n))) (asked-row written.Refused slot NoSlot File 0 (ss ++ (row kind EntryCode File 0 ∷ (us ++ last))) new)))

@@ -17,7 +17,7 @@ use Rattle.decimal.specs.declared.NumberAnswer.{NumberAnswer}
 use Rattle.decimal.specs.declared.NumberAnswer.the-variants as number
 use Rattle.double.specs.declared.DoubleAnswer.{DoubleAnswer}
 use Rattle.double.specs.declared.DoubleAnswer.the-variants.{Is, Refused}
-use Rattle.decimal.specs.Number.{numberOf}
+use Rattle.decimal.specs.Number.{numberIn}
 
 -- a whole number as a double: exact up to 2^53 (`Rounded`)
 abbrev pub exact : ℕ → Float
@@ -47,7 +47,7 @@ onNumber (number.Is n) = doubleFrom n
 onNumber (number.Refused r) = Refused r
 
 unfoldable pub doubleOf : List ℕ → DoubleAnswer
-doubleOf t = onNumber (numberOf t)
+doubleOf t = onNumber (numberIn t)
 
 -- the refusal that an answer which is no number holds; of a number it is not asked
 abbrev pub refusalOf : NumberAnswer → Refusal

@@ -15,7 +15,7 @@ use Rattle.double.specs.declared.LocationAnswer.{LocationAnswer}
 use Rattle.double.specs.declared.LocationAnswer.the-variants.{Is}
 use Rattle.text.specs.Chars.{blank}
 use Rattle.decimal.specs.Run.{All, all-append, all-among, all-weaker}
-use Rattle.decimal.specs.Number.{numberOf}
+use Rattle.decimal.specs.Number.{numberIn}
 use Rattle.decimal.specs.Agreed.{is-number}
 use Rattle.decimal.specs.Marks.{mark, written-marks, comma}
 use Rattle.refusal.specs.declared.Rule.the-variants.{NoNumber}
@@ -40,9 +40,9 @@ Marked (v ∷ vs) = All mark (v .1) × Marked vs
 
 double-marks : (t : List ℕ) (x : Float) → doubleOf t ≡ double.Is x → All mark t
 unfolding doubleOf onNumber
-double-marks t x e = go (numberOf t) refl e
+double-marks t x e = go (numberIn t) refl e
   where
-    go : (a : NumberAnswer) → numberOf t ≡ a → onNumber a ≡ double.Is x → All mark t
+    go : (a : NumberAnswer) → numberIn t ≡ a → onNumber a ≡ double.Is x → All mark t
     go (number.Is n) f g = let w = is-number t n .0 f in written-marks (w .0) t (w .1)
     go (number.Refused r) f g = let z : _≡_ {A = ℕ} 0 1 = cc in absurd (omega arith)
 

@@ -23,7 +23,7 @@ use Rattle.double.specs.declared.DoubleAnswer.the-variants.{Is, Refused}
 use Rattle.decimal.specs.declared.NumberAnswer.{NumberAnswer}
 use Rattle.decimal.specs.declared.NumberAnswer.the-variants as number
 use Rattle.decimal.specs.Grammar.{Parts, Writes, over, under}
-use Rattle.decimal.specs.Number.{decimalOf, numberOf}
+use Rattle.decimal.specs.Number.{decimalOf, numberIn}
 use Rattle.decimal.specs.Agreed.{parts-unique, is-number}
 use Rattle.double.specs.Double.{exact, scaledOf, withSign, noDouble, doubleFrom, onNumber, doubleOf}
 use Rattle.decimal.specs.Meaning.{raise, lower, numerator, denominator, denominator-pos, under-pos, means}
@@ -138,9 +138,9 @@ rounded-once n x e =
 -- and of a text: the value that its parts write, rounded once
 pub text-rounded-once : (p : Parts) (t : List ℕ) → Writes p t → (x : Float) → doubleOf t ≡ Is x → x ≡ round binary64 (decimalOf p .minus) (over p) (under p)
 unfolding doubleOf onNumber
-text-rounded-once p t h x e = go (numberOf t) refl e
+text-rounded-once p t h x e = go (numberIn t) refl e
   where
-    go : (a : NumberAnswer) → numberOf t ≡ a → onNumber a ≡ Is x → x ≡ round binary64 (decimalOf p .minus) (over p) (under p)
+    go : (a : NumberAnswer) → numberIn t ≡ a → onNumber a ≡ Is x → x ≡ round binary64 (decimalOf p .minus) (over p) (under p)
     go (number.Is n) f g =
         let w = is-number t n .0 f in
         let q : w .0 ≡ p = parts-unique (w .0) p t (w .1) h in

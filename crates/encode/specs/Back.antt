@@ -17,7 +17,7 @@ use Rattle.word.specs.Round.{round4, round4-up}
 use Rattle.word.specs.Word.{wordAt, bytesOf}
 use Rattle.word.specs.WordLaws.{word-among, word-drop, length-bytesOf}
 use Rattle.sample.specs.Needed.{byCode, needed, room, width}
-use Rattle.sample.specs.Run.{run, length-run, getD-run}
+use Rattle.sample.specs.Run.{valuesFrom, length-run, getD-run}
 use Rattle.decode.specs.Sample.{twos, patternOf, sampleOf, integersAsked, integersThere, integersRead, classOf, bitsAsked, bitsThere, patternsRead, classesRead}
 use Rattle.decode.specs.SampleLaws.{twos-plus, twos-minus, there, bits-there, all-read, all-bits-read}
 use Rattle.encode.specs.Unfit.{outside, unfitInteger, unfitIntegers, unfitPattern, unfitPatterns, all-good}
@@ -85,10 +85,10 @@ word-flat w high g d (x ∷ xs) rest (suc i) h k =
     ∙ ap (λ (f : List ℕ). wordAt w high f (w * i)) (drop-at (bytesOf w high (g x)) r w (length-bytesOf w high (g x)))
     ∙ word-flat w high g d xs rest i (omega arith) k)
 
--- a row is the run of a function that gives its elements
-row-run : {A : Type 0} (f : ℕ → A) (d : A) (row : List A) → ((i : ℕ) → i < length row → f i ≡ getD row i d) → run f 0 (length row) ≡ row
+-- a row is the valuesFrom of a function that gives its elements
+row-run : {A : Type 0} (f : ℕ → A) (d : A) (row : List A) → ((i : ℕ) → i < length row → f i ≡ getD row i d) → valuesFrom f 0 (length row) ≡ row
 row-run f d row h =
-    ext-getD d (run f 0 (length row)) row (length-run f 0 (length row))
+    ext-getD d (valuesFrom f 0 (length row)) row (length-run f 0 (length row))
     (λ i l.
     (let k : i < length row = omega (arith, length-run f 0 (length row)) in
     let e : 0 + i ≡ i = omega arith in
@@ -132,13 +132,13 @@ unfolding unfitIntegers reach
 fit-reach row h k l = inside (getD row k (pos 0)) (all-good (unfitInteger 1) (pos 0) 0 row h k l)
 
 -- "written then read gives what was given": codes 1 and 2, for every row within their reach (only the empty row is within the reach of another code)
-nothing-held : (f : ℕ → ℤ) (row : List ℤ) → ((k : ℕ) → k < length row → mag (getD row k (pos 0)) < 0) → run f 0 (length row) ≡ row
-unfolding run
+nothing-held : (f : ℕ → ℤ) (row : List ℤ) → ((k : ℕ) → k < length row → mag (getD row k (pos 0)) < 0) → valuesFrom f 0 (length row) ≡ row
+unfolding valuesFrom
 nothing-held f [] h = refl
 nothing-held f (z ∷ row) h = let l = h 0 (omega arith) in absurd (omega arith)
 
 pub integers-back : (code : ℕ) (high : Bool) (row : List ℤ) → ((k : ℕ) → k < length row → mag (getD row k (pos 0)) < reach code)
-    → run (sampleOf code high (integersData code high row)) 0 (length row) ≡ row
+    → valuesFrom (sampleOf code high (integersData code high row)) 0 (length row) ≡ row
 unfolding sampleOf patternOf width integersData filledUp fixedBytes reach
 integers-back zero high row h = nothing-held _ row h
 integers-back (suc zero) high row h =
@@ -162,7 +162,7 @@ pub integers-read-back : (code : ℕ) (high : Bool) (row old : List ℤ) → int
     → (integersThere code (length old) (integersData code high row) ≡ true) × (integersRead code high (integersData code high row) old ≡ row)
 integers-read-back code high row old a h l =
     let t = written-there code high row old a l in
-    (t, sym (all-read code high (integersData code high row) old row t (sym (ap (run _ 0) l ∙ integers-back code high row h)) .1))
+    (t, sym (all-read code high (integersData code high row) old row t (sym (ap (valuesFrom _ 0) l ∙ integers-back code high row h)) .1))
 
 -- ---- codes 4 and 5
 
@@ -172,7 +172,7 @@ unfolding unfitPatterns unfitPattern width
 fit-32 row h k l = leb-false 4294967296 (getD row k 0) (all-good (unfitPattern 4) 0 0 row h k l)
 
 pub bits-back : (code : ℕ) (high : Bool) (row : List ℕ) → bitsAsked code ≡ true → ((k : ℕ) → k < length row → getD row k 0 < 256 ^ width code)
-    → run (patternOf code high (bitsData code high row)) 0 (length row) ≡ row
+    → valuesFrom (patternOf code high (bitsData code high row)) 0 (length row) ≡ row
 unfolding patternOf width bitsData filledUp
 bits-back zero high row a h = never a
 bits-back (suc zero) high row a h = never a
@@ -189,6 +189,6 @@ pub bits-read-back : (code : ℕ) (high : Bool) (row old classes : List ℕ) →
     × ((patternsRead code high (bitsData code high row) old classes ≡ row) × (classesRead code high (bitsData code high row) old classes ≡ map (classOf code) row))
 bits-read-back code high row old classes a h l m =
     let t = bits-written-there code high row old classes a l m in
-    let b : row ≡ run (patternOf code high (bitsData code high row)) 0 (length old) = sym (ap (run _ 0) l ∙ bits-back code high row a h) in
+    let b : row ≡ valuesFrom (patternOf code high (bitsData code high row)) 0 (length old) = sym (ap (valuesFrom _ 0) l ∙ bits-back code high row a h) in
     let r = all-bits-read code high (bitsData code high row) old classes row (map (classOf code) row) t b refl in
     (t, (sym (r .1 .0), sym (r .1 .1)))

@@ -16,7 +16,7 @@ use borrow.Author.Tests.{lt-ltb, le-ltb, ltb-true, ltb-false, eq-eqb}
 use Rattle.word.specs.Bytes.{Bytes}
 use Rattle.word.specs.Word.{wordAt, bytesOf}
 use Rattle.word.specs.WordLaws.{word-drop, word-small}
-use Rattle.sample.specs.Run.{run, run-same, run-map, run-of}
+use Rattle.sample.specs.Run.{valuesFrom, run-same, run-map, run-of}
 use Rattle.decode.specs.Sample.{exponentIn, ones, scaled, groupSample, sampleOf, integersThere, integersRead}
 use Rattle.decode.specs.SampleLaws.{minus-times, scaled-plus, scaled-minus, in-group, all-read}
 use Rattle.encode.specs.Unfit.{unfitIntegers}
@@ -303,11 +303,11 @@ pub floats-read-back : (high : Bool) (row old : List ℤ) → length row % 4 ≡
     → (integersThere 3 (length old) (integersData 3 high row) ≡ true) × (integersRead 3 high (integersData 3 high row) old ≡ map cut row)
 floats-read-back high row old w h l =
     let t = written-there 3 high row old (eq-eqb (length row % 4) 0 w) l in
-    (t, sym (all-read 3 high (integersData 3 high row) old (map cut row) t (sym (ap (run (sampleOf 3 high (integersData 3 high row)) 0) l ∙ whole)) .1))
+    (t, sym (all-read 3 high (integersData 3 high row) old (map cut row) t (sym (ap (valuesFrom (sampleOf 3 high (integersData 3 high row)) 0) l ∙ whole)) .1))
   where
-    whole : run (sampleOf 3 high (integersData 3 high row)) 0 (length row) ≡ map cut row
+    whole : valuesFrom (sampleOf 3 high (integersData 3 high row)) 0 (length row) ≡ map cut row
     whole = run-of (sampleOf 3 high (integersData 3 high row)) cut (pos 0) row (λ i k. floats-back high row i w h k)
 
 -- so a row that was read under code 3 is written and read back as it was
-pub floats-kept : (high : Bool) (block : List ℕ) (n : ℕ) → Bytes block → map cut (run (sampleOf 3 high block) 0 n) ≡ run (sampleOf 3 high block) 0 n
+pub floats-kept : (high : Bool) (block : List ℕ) (n : ℕ) → Bytes block → map cut (valuesFrom (sampleOf 3 high block) 0 n) ≡ valuesFrom (sampleOf 3 high block) 0 n
 floats-kept high block n b = sym (run-map cut (sampleOf 3 high block) 0 n) ∙ run-same _ _ 0 n (λ k p q. sample-kept high block k b .0)

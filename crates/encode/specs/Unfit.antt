@@ -84,34 +84,6 @@ module _ {A : Type 0} where
       go false q f zero h = q
       go false q f (suc k) h = f q k (omega arith)
 
-  -- where the first bad one stands: it is bad, and all before it are good
-  pub record FirstBad (bad : A → Bool) (d : A) (i j : ℕ) (xs : List A) : Type 0 where
-    pub place : ℕ
-    pub counted : j ≡ i + place
-    pub within : place < length xs
-    pub is-bad : bad (getD xs place d) ≡ true
-    pub before : (m : ℕ) → m < place → bad (getD xs m d) ≡ false
-
-  first-later : (bad : A → Bool) (d : A) (i j : ℕ) (x : A) (xs : List A) → bad x ≡ false → FirstBad bad d (i + 1) j xs → FirstBad bad d i j (x ∷ xs)
-  first-later bad d i j x xs q r =
-      record { place = suc (r .place); counted = omega (arith, r .counted); within = omega (arith, r .within); is-bad = r .is-bad; before = earlier }
-    where
-      earlier : (m : ℕ) → m < suc (r .place) → bad (getD (x ∷ xs) m d) ≡ false
-      earlier zero h = q
-      earlier (suc m) h = r .before m (omega arith)
-
-  pub first-bad : (bad : A → Bool) (d : A) (i j : ℕ) (xs : List A) → firstFrom bad i xs ≡ At j → FirstBad bad d i j xs
-  unfolding firstFrom
-  first-bad bad d i j [] e = absurd (let z : _≡_ {A = ℕ} 0 1 = cc in omega arith)
-  first-bad bad d i j (x ∷ xs) e = go (bad x) refl (λ q. first-bad bad d (i + 1) j xs (rw q at e))
-    where
-      go : (t : Bool) → bad x ≡ t → ((bad x ≡ false) → FirstBad bad d (i + 1) j xs) → FirstBad bad d i j (x ∷ xs)
-      go true q f =
-          let p : _≡_ {A = Fit} (At i) (At j) = (rw q at e) in
-          let s : i ≡ j = cc in
-          record { place = 0; counted = omega arith; within = omega arith; is-bad = q; before = λ m h. absurd (omega arith) }
-      go false q f = first-later bad d i j x xs q (f q)
-
 -- ---- the codes
 
 -- not from `low` to `high`

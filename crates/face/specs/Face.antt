@@ -1,5 +1,5 @@
 -- Answers as they cross to another language: number (0: no refusal), part and place by document 01's table, and behind them the value, which is 0
--- after a refusal.
+-- after a refusal. Fields bear the names that include/seg2.h gives them («..»: the `_` in a name takes no argument).
 -- Assumes nothing.
 use mathlib.Core.Bool.{Bool}
 use Prim.Native.Nat.{ℕ, _-_}
@@ -16,10 +16,10 @@ use Rattle.double.specs.declared.DoubleAnswer.{DoubleAnswer}
 use Rattle.double.specs.declared.DoubleAnswer.the-variants as double
 use Rattle.double.specs.declared.LocationAnswer.{LocationAnswer}
 use Rattle.double.specs.declared.LocationAnswer.the-variants as location
-use Rattle.reader.specs.declared.FileAnswer.{FileAnswer}
-use Rattle.reader.specs.declared.FileAnswer.the-variants as file
-use Rattle.reader.specs.declared.TraceAnswer.{TraceAnswer}
-use Rattle.reader.specs.declared.TraceAnswer.the-variants as trace
+use Rattle.head.specs.declared.FileAnswer.{FileAnswer}
+use Rattle.head.specs.declared.FileAnswer.the-variants as file
+use Rattle.block.specs.declared.TraceAnswer.{TraceAnswer}
+use Rattle.block.specs.declared.TraceAnswer.the-variants as trace
 use Rattle.reader.specs.declared.CountAnswer.{CountAnswer}
 use Rattle.reader.specs.declared.CountAnswer.the-variants as count
 use Rattle.reader.specs.declared.StringAnswer.{StringAnswer}
@@ -45,69 +45,144 @@ abbrev pub flag : Bool → ℕ
 flag b = pick b 1 0
 
 -- number, part and place of a refusal
-abbrev pub rowOf : Refusal → ℕ
-rowOf r = numberOf (r .rule)
+abbrev pub asRow : Refusal → ℕ
+asRow r = numberOf (r .rule)
 
-abbrev pub whoseOf : Refusal → ℤ
-whoseOf r = partOf (r .part)
+abbrev pub asPart : Refusal → ℤ
+asPart r = partOf (r .part)
 
-unfoldable pub verdictOf : Verdict → Seg2Verdict
-verdictOf Accepted = record { number = 0; part = negsuc 0; place = 0 }
-verdictOf (Refused r) = record { number = rowOf r; part = whoseOf r; place = r .place }
+unfoldable pub asVerdict : Verdict → Seg2Verdict
+asVerdict Accepted = record { number = 0; part = negsuc 0; place = 0 }
+asVerdict (Refused r) = record { number = asRow r; part = asPart r; place = r .place }
 
-unfoldable pub fileOf : FileAnswer → Seg2File
-fileOf (file.Is f) =
-    record { number = 0; part = negsuc 0; place = 0; order = flag (f .high); room = f .m; count = f .n; strings = f .strings; lines = f .lines }
-fileOf (file.Refused r) = record { number = rowOf r; part = whoseOf r; place = r .place; order = 0; room = 0; count = 0; strings = 0; lines = 0 }
+unfoldable pub asFile : FileAnswer → Seg2File
+asFile (file.Is f) =
+    record {
+      number = 0;
+      part = negsuc 0;
+      place = 0;
+      order = flag (f .high);
+      «pointer_room» = f .m;
+      «trace_count» = f .n;
+      «string_terminator_size» = f .strings;
+      «line_terminator_size» = f .lines;
+    }
+asFile (file.Refused r) =
+    record {
+      number = asRow r;
+      part = asPart r;
+      place = r .place;
+      order = 0;
+      «pointer_room» = 0;
+      «trace_count» = 0;
+      «string_terminator_size» = 0;
+      «line_terminator_size» = 0;
+    }
 
-unfoldable pub traceOf : TraceAnswer → Seg2Trace
-traceOf (trace.Is t) =
-    record { number = 0; part = negsuc 0; place = 0; start = t .p; block = t .b; bytes = t .d; count = t .s; code = t .code }
-traceOf (trace.Refused r) = record { number = rowOf r; part = whoseOf r; place = r .place; start = 0; block = 0; bytes = 0; count = 0; code = 0 }
+unfoldable pub asTrace : TraceAnswer → Seg2Trace
+asTrace (trace.Is t) =
+    record {
+      number = 0;
+      part = negsuc 0;
+      place = 0;
+      start = t .p;
+      «block_size» = t .b;
+      «data_size» = t .d;
+      «sample_count» = t .s;
+      «format_code» = t .code;
+    }
+asTrace (trace.Refused r) =
+    record {
+      number = asRow r;
+      part = asPart r;
+      place = r .place;
+      start = 0;
+      «block_size» = 0;
+      «data_size» = 0;
+      «sample_count» = 0;
+      «format_code» = 0;
+    }
 
-unfoldable pub countOf : CountAnswer → Seg2Count
-countOf (count.Is n) = record { number = 0; part = negsuc 0; place = 0; count = n }
-countOf (count.Refused r) = record { number = rowOf r; part = whoseOf r; place = r .place; count = 0 }
+unfoldable pub asCount : CountAnswer → Seg2Count
+asCount (count.Is n) = record { number = 0; part = negsuc 0; place = 0; count = n }
+asCount (count.Refused r) = record { number = asRow r; part = asPart r; place = r .place; count = 0 }
 
 -- starts and lengths in the caller's own buffer
-unfoldable pub stringOf : StringAnswer → Seg2String
-stringOf (string.There s) =
+unfoldable pub asString : StringAnswer → Seg2String
+asString (string.There s) =
     record {
       number = 0;
       part = negsuc 0;
       place = 0;
       found = 1;
-      key = s .key;
-      letters = s .gap - s .key;
-      value = s .value;
-      size = s .end - s .value;
+      «key_start» = s .key;
+      «key_length» = s .gap - s .key;
+      «value_start» = s .value;
+      «value_length» = s .end - s .value;
     }
-stringOf string.Absent = record { number = 0; part = negsuc 0; place = 0; found = 0; key = 0; letters = 0; value = 0; size = 0 }
-stringOf (string.Refused r) = record { number = rowOf r; part = whoseOf r; place = r .place; found = 0; key = 0; letters = 0; value = 0; size = 0 }
+asString string.Absent =
+    record {
+      number = 0;
+      part = negsuc 0;
+      place = 0;
+      found = 0;
+      «key_start» = 0;
+      «key_length» = 0;
+      «value_start» = 0;
+      «value_length» = 0;
+    }
+asString (string.Refused r) =
+    record {
+      number = asRow r;
+      part = asPart r;
+      place = r .place;
+      found = 0;
+      «key_start» = 0;
+      «key_length» = 0;
+      «value_start» = 0;
+      «value_length» = 0;
+    }
 
-unfoldable pub keywordOf : KeywordAnswer → Seg2Keyword
-keywordOf keyword.Yes = record { number = 0; part = negsuc 0; place = 0; found = 1 }
-keywordOf keyword.No = record { number = 0; part = negsuc 0; place = 0; found = 0 }
-keywordOf (keyword.Refused r) = record { number = rowOf r; part = whoseOf r; place = r .place; found = 0 }
+unfoldable pub asKeyword : KeywordAnswer → Seg2Keyword
+asKeyword keyword.Yes = record { number = 0; part = negsuc 0; place = 0; found = 1 }
+asKeyword keyword.No = record { number = 0; part = negsuc 0; place = 0; found = 0 }
+asKeyword (keyword.Refused r) = record { number = asRow r; part = asPart r; place = r .place; found = 0 }
 
 -- "for a no or a refusal the empty part at the start of the lent buffer"
-unfoldable pub valueOf : StringAnswer → Seg2Value
-valueOf (string.There s) = record { number = 0; part = negsuc 0; place = 0; start = s .value; size = s .end - s .value }
-valueOf string.Absent = record { number = 0; part = negsuc 0; place = 0; start = 0; size = 0 }
-valueOf (string.Refused r) = record { number = rowOf r; part = whoseOf r; place = r .place; start = 0; size = 0 }
+unfoldable pub asValue : StringAnswer → Seg2Value
+asValue (string.There s) = record { number = 0; part = negsuc 0; place = 0; «value_start» = s .value; «value_length» = s .end - s .value }
+asValue string.Absent = record { number = 0; part = negsuc 0; place = 0; «value_start» = 0; «value_length» = 0 }
+asValue (string.Refused r) = record { number = asRow r; part = asPart r; place = r .place; «value_start» = 0; «value_length» = 0 }
 
-unfoldable pub decimalOf : NumberAnswer → Seg2Number
-decimalOf (number.Is n) = record { number = 0; part = negsuc 0; place = 0; minus = flag (n .minus); power = n .power; coefficient = n .coefficient }
-decimalOf (number.Refused r) = record { number = rowOf r; part = whoseOf r; place = r .place; minus = 0; power = pos 0; coefficient = 0 }
+unfoldable pub asNumber : NumberAnswer → Seg2Number
+asNumber (number.Is n) =
+    record {
+      number = 0;
+      part = negsuc 0;
+      place = 0;
+      minus = flag (n .minus);
+      power = n .power;
+      coefficient = n .coefficient;
+    }
+asNumber (number.Refused r) = record { number = asRow r; part = asPart r; place = r .place; minus = 0; power = pos 0; coefficient = 0 }
 
-unfoldable pub doubleOf : DoubleAnswer → Seg2Double
-doubleOf (double.Is x) = record { number = 0; part = negsuc 0; place = 0; value = x }
-doubleOf (double.Refused r) = record { number = rowOf r; part = whoseOf r; place = r .place; value = absent }
+unfoldable pub asDouble : DoubleAnswer → Seg2Double
+asDouble (double.Is x) = record { number = 0; part = negsuc 0; place = 0; value = x }
+asDouble (double.Refused r) = record { number = asRow r; part = asPart r; place = r .place; value = absent }
 
-unfoldable pub locationOf : LocationAnswer → Seg2Location
-locationOf (location.Is c) = record { number = 0; part = negsuc 0; place = 0; count = c .count; x = c .x; y = c .y; z = c .z }
-locationOf (location.Refused r) = record { number = rowOf r; part = whoseOf r; place = r .place; count = 0; x = absent; y = absent; z = absent }
+unfoldable pub asLocation : LocationAnswer → Seg2Location
+asLocation (location.Is c) = record { number = 0; part = negsuc 0; place = 0; count = c .count; x = c .x; y = c .y; z = c .z }
+asLocation (location.Refused r) =
+    record {
+      number = asRow r;
+      part = asPart r;
+      place = r .place;
+      count = 0;
+      x = absent;
+      y = absent;
+      z = absent;
+    }
 
-unfoldable pub lengthOf : Written → Seg2Length
-lengthOf (written.To n) = record { number = 0; part = negsuc 0; place = 0; length = n }
-lengthOf (written.Refused r) = record { number = rowOf r; part = whoseOf r; place = r .place; length = 0 }
+unfoldable pub asLength : Written → Seg2Length
+asLength (written.To n) = record { number = 0; part = negsuc 0; place = 0; length = n }
+asLength (written.Refused r) = record { number = asRow r; part = asPart r; place = r .place; length = 0 }

@@ -1,19 +1,21 @@
-// The answers as they cross to another language: C structs of numbers, each beginning with the refusal's number in document 01's table (0: none), its
-// part (-1 for the file, else the trace) and its place. Face has the definitions; include/seg2.h declares the structs. Stands on `reader`, `start`, `double` and what they stand on.
+// The answers as they cross to another language: C structs of numbers, each beginning with the refusal's number in
+// document 01's table (0: none), its part (-1 for the file, else the trace) and its place. Face has the definitions;
+// include/seg2.h declares the structs, with the same fields in the same order, to which a host test holds both.
+// Stands on `reader`, `start`, `double` and what they stand on.
 // The rules in words: docs/FORMAT.md, "Refusal numbers, in order of checking".
+use block::TraceAnswer;
 use decimal::NumberAnswer;
 use double::DoubleAnswer;
 use double::LocationAnswer;
+use head::FileAnswer;
 use reader::CountAnswer;
-use reader::FileAnswer;
 use reader::KeywordAnswer;
 use reader::StringAnswer;
-use reader::TraceAnswer;
 use refusal::Verdict;
 use start::Written;
 ghost use mathlib.Core.Path.{_≡_};
 ghost use Prim.Native.Nat.{_-_};
-ghost use Rattle.face.specs.Face.{flag, verdictOf, fileOf, traceOf, countOf, stringOf, keywordOf, valueOf, decimalOf, doubleOf, locationOf, lengthOf};
+ghost use Rattle.face.specs.Face.{flag, asVerdict, asFile, asTrace, asCount, asString, asKeyword, asValue, asNumber, asDouble, asLocation, asLength};
 
 #[repr(C)]
 pub struct Seg2Verdict {
@@ -29,10 +31,10 @@ pub struct Seg2File {
     pub part: i32,
     pub place: usize,
     pub order: u32,
-    pub room: usize,
-    pub count: usize,
-    pub strings: usize,
-    pub lines: usize,
+    pub pointer_room: usize,
+    pub trace_count: usize,
+    pub string_terminator_size: usize,
+    pub line_terminator_size: usize,
 }
 
 // Where the block starts, B, D, S and the format code.
@@ -42,10 +44,10 @@ pub struct Seg2Trace {
     pub part: i32,
     pub place: usize,
     pub start: usize,
-    pub block: usize,
-    pub bytes: usize,
-    pub count: usize,
-    pub code: u32,
+    pub block_size: usize,
+    pub data_size: usize,
+    pub sample_count: usize,
+    pub format_code: u32,
 }
 
 #[repr(C)]
@@ -63,10 +65,10 @@ pub struct Seg2String {
     pub part: i32,
     pub place: usize,
     pub found: u32,
-    pub key: usize,
-    pub letters: usize,
-    pub value: usize,
-    pub size: usize,
+    pub key_start: usize,
+    pub key_length: usize,
+    pub value_start: usize,
+    pub value_length: usize,
 }
 
 #[repr(C)]
@@ -83,8 +85,8 @@ pub struct Seg2Value {
     pub number: u32,
     pub part: i32,
     pub place: usize,
-    pub start: usize,
-    pub size: usize,
+    pub value_start: usize,
+    pub value_length: usize,
 }
 
 // Sign (1: minus), coefficient as written and power of ten.
@@ -146,7 +148,7 @@ fn span(a: usize, e: usize) -> usize
 // ---- answers as they cross to another language
 
 pub fn told(v: Verdict) -> Seg2Verdict
-    ensures { λ r. ⌜ r ≡ verdictOf v ⌝ }
+    ensures { λ r. ⌜ r ≡ asVerdict v ⌝ }
 {
     match v {
         Verdict::Accepted => Seg2Verdict {
@@ -167,7 +169,7 @@ pub fn told(v: Verdict) -> Seg2Verdict
 }
 
 pub fn file_told(a: FileAnswer) -> Seg2File
-    ensures { λ r. ⌜ r ≡ fileOf a ⌝ }
+    ensures { λ r. ⌜ r ≡ asFile a ⌝ }
 {
     match a {
         FileAnswer::Is(f) => Seg2File {
@@ -175,10 +177,10 @@ pub fn file_told(a: FileAnswer) -> Seg2File
             part: -1,
             place: 0,
             order: one_if(f.high),
-            room: f.m,
-            count: f.n,
-            strings: f.strings,
-            lines: f.lines,
+            pointer_room: f.m,
+            trace_count: f.n,
+            string_terminator_size: f.strings,
+            line_terminator_size: f.lines,
         },
         FileAnswer::Refused(r) => {
             let t = told(Verdict::Refused(r));
@@ -187,17 +189,17 @@ pub fn file_told(a: FileAnswer) -> Seg2File
                 part: t.part,
                 place: t.place,
                 order: 0,
-                room: 0,
-                count: 0,
-                strings: 0,
-                lines: 0,
+                pointer_room: 0,
+                trace_count: 0,
+                string_terminator_size: 0,
+                line_terminator_size: 0,
             }
         }
     }
 }
 
 pub fn trace_told(a: TraceAnswer) -> Seg2Trace
-    ensures { λ r. ⌜ r ≡ traceOf a ⌝ }
+    ensures { λ r. ⌜ r ≡ asTrace a ⌝ }
 {
     match a {
         TraceAnswer::Is(t) => Seg2Trace {
@@ -205,10 +207,10 @@ pub fn trace_told(a: TraceAnswer) -> Seg2Trace
             part: -1,
             place: 0,
             start: t.p,
-            block: t.b,
-            bytes: t.d,
-            count: t.s,
-            code: t.code as u32,
+            block_size: t.b,
+            data_size: t.d,
+            sample_count: t.s,
+            format_code: t.code as u32,
         },
         TraceAnswer::Refused(r) => {
             let t = told(Verdict::Refused(r));
@@ -217,17 +219,17 @@ pub fn trace_told(a: TraceAnswer) -> Seg2Trace
                 part: t.part,
                 place: t.place,
                 start: 0,
-                block: 0,
-                bytes: 0,
-                count: 0,
-                code: 0,
+                block_size: 0,
+                data_size: 0,
+                sample_count: 0,
+                format_code: 0,
             }
         }
     }
 }
 
 pub fn count_told(a: CountAnswer) -> Seg2Count
-    ensures { λ r. ⌜ r ≡ countOf a ⌝ }
+    ensures { λ r. ⌜ r ≡ asCount a ⌝ }
 {
     match a {
         CountAnswer::Is(n) => Seg2Count {
@@ -249,7 +251,7 @@ pub fn count_told(a: CountAnswer) -> Seg2Count
 }
 
 pub fn string_told(a: StringAnswer) -> Seg2String
-    ensures { λ r. ⌜ r ≡ stringOf a ⌝ }
+    ensures { λ r. ⌜ r ≡ asString a ⌝ }
 {
     match a {
         StringAnswer::There(s) => Seg2String {
@@ -257,20 +259,20 @@ pub fn string_told(a: StringAnswer) -> Seg2String
             part: -1,
             place: 0,
             found: 1,
-            key: s.key,
-            letters: span(s.key, s.gap),
-            value: s.value,
-            size: span(s.value, s.end),
+            key_start: s.key,
+            key_length: span(s.key, s.gap),
+            value_start: s.value,
+            value_length: span(s.value, s.end),
         },
         StringAnswer::Absent => Seg2String {
             number: 0,
             part: -1,
             place: 0,
             found: 0,
-            key: 0,
-            letters: 0,
-            value: 0,
-            size: 0,
+            key_start: 0,
+            key_length: 0,
+            value_start: 0,
+            value_length: 0,
         },
         StringAnswer::Refused(r) => {
             let t = told(Verdict::Refused(r));
@@ -279,17 +281,17 @@ pub fn string_told(a: StringAnswer) -> Seg2String
                 part: t.part,
                 place: t.place,
                 found: 0,
-                key: 0,
-                letters: 0,
-                value: 0,
-                size: 0,
+                key_start: 0,
+                key_length: 0,
+                value_start: 0,
+                value_length: 0,
             }
         }
     }
 }
 
 pub fn keyword_told(a: KeywordAnswer) -> Seg2Keyword
-    ensures { λ r. ⌜ r ≡ keywordOf a ⌝ }
+    ensures { λ r. ⌜ r ≡ asKeyword a ⌝ }
 {
     match a {
         KeywordAnswer::Yes => Seg2Keyword {
@@ -317,22 +319,22 @@ pub fn keyword_told(a: KeywordAnswer) -> Seg2Keyword
 }
 
 pub fn value_told(a: StringAnswer) -> Seg2Value
-    ensures { λ r. ⌜ r ≡ valueOf a ⌝ }
+    ensures { λ r. ⌜ r ≡ asValue a ⌝ }
 {
     match a {
         StringAnswer::There(s) => Seg2Value {
             number: 0,
             part: -1,
             place: 0,
-            start: s.value,
-            size: span(s.value, s.end),
+            value_start: s.value,
+            value_length: span(s.value, s.end),
         },
         StringAnswer::Absent => Seg2Value {
             number: 0,
             part: -1,
             place: 0,
-            start: 0,
-            size: 0,
+            value_start: 0,
+            value_length: 0,
         },
         StringAnswer::Refused(r) => {
             let t = told(Verdict::Refused(r));
@@ -340,15 +342,15 @@ pub fn value_told(a: StringAnswer) -> Seg2Value
                 number: t.number,
                 part: t.part,
                 place: t.place,
-                start: 0,
-                size: 0,
+                value_start: 0,
+                value_length: 0,
             }
         }
     }
 }
 
 pub fn number_told(a: NumberAnswer) -> Seg2Number
-    ensures { λ r. ⌜ r ≡ decimalOf a ⌝ }
+    ensures { λ r. ⌜ r ≡ asNumber a ⌝ }
 {
     match a {
         NumberAnswer::Is(n) => Seg2Number {
@@ -374,7 +376,7 @@ pub fn number_told(a: NumberAnswer) -> Seg2Number
 }
 
 pub fn double_told(a: DoubleAnswer) -> Seg2Double
-    ensures { λ r. ⌜ r ≡ doubleOf a ⌝ }
+    ensures { λ r. ⌜ r ≡ asDouble a ⌝ }
 {
     match a {
         DoubleAnswer::Is(x) => Seg2Double {
@@ -396,7 +398,7 @@ pub fn double_told(a: DoubleAnswer) -> Seg2Double
 }
 
 pub fn location_told(a: LocationAnswer) -> Seg2Location
-    ensures { λ r. ⌜ r ≡ locationOf a ⌝ }
+    ensures { λ r. ⌜ r ≡ asLocation a ⌝ }
 {
     match a {
         LocationAnswer::Is(c) => Seg2Location {
@@ -424,7 +426,7 @@ pub fn location_told(a: LocationAnswer) -> Seg2Location
 }
 
 pub fn length_told(a: Written) -> Seg2Length
-    ensures { λ r. ⌜ r ≡ lengthOf a ⌝ }
+    ensures { λ r. ⌜ r ≡ asLength a ⌝ }
 {
     match a {
         Written::To(n) => Seg2Length {

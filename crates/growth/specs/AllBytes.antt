@@ -11,6 +11,8 @@ use lib.IntN.{ℤ}
 use lib.ListN.{length, replicate}
 use lib.Dec.{leb, eqb}
 use borrow.Author.Tests.{le-leb, lt-leb, ne-eqb, leb-true}
+use Rattle.block.specs.Block.{traceMark}
+use Rattle.text.specs.declared.Manner.the-variants.{Strict}
 use Rattle.word.specs.Tests.{both, never}
 use Rattle.word.specs.Bytes.{Bytes, bytes-append}
 use Rattle.word.specs.Put.{put}
@@ -20,10 +22,10 @@ use Rattle.word.specs.WordLaws.{bytesOf-bytes}
 use Rattle.text.specs.Chars.{blank, keyChar, valueChar, note, blank-value, control}
 use Rattle.text.specs.Runs.{all, same, same-eq, same-not}
 use Rattle.text.specs.Note.{Lines, Lines.done, Lines.char, Lines.line}
-use Rattle.strings.specs.Spelled.{Str, Good, Rising, textOf, sizeOf, written, Spells, Spells.empty, Spells.full}
+use Rattle.strings.specs.Spelled.{Str, GoodString, Rising, textOf, sizeOf, texts, markedEnd, Spells, Spells.empty, Spells.full}
 use Rattle.encode.specs.Write.{flat, residue, fixedBytes, exponentsOf, mantissaOf, onesBits, wordsOf, groupBytes, groups, filledUp, integersData, bitsData}
 use Rattle.sheet.specs.declared.Measured.the-variants.{Size}
-use Rattle.sheet.specs.Area.{areaOf, areaSize, padding, stringsOf, textSize, measuredOf}
+use Rattle.sheet.specs.Area.{areaOf, areaSize, padding, sheetStrings, textSize, measuredOf}
 use Rattle.area.specs.Spelling.{among, Terminators, terminators-end, area-spells}
 use Rattle.head.specs.Head.{highFirst, stringEnd, lineEnd}
 use Rattle.layout.specs.Layout.{Trace, Samples, Samples.integers, Samples.patterns, count, fitting, samplesData, orderMark, plainEnds, nul, lineFeed, fileBlock, startImage, traceBlock, blockBytes, dataBytes, traceBytes}
@@ -67,41 +69,42 @@ lines-bytes b done = tt
 lines-bytes b (char {b = c} h r) = (value-byte c h, lines-bytes b r)
 lines-bytes {u} b (line {bs} r) = bytes-append u bs b (lines-bytes b r)
 
-value-bytes : {t u : List ℕ} {s : Str} → Bytes u → Good t u s → Bytes (s .value)
+value-bytes : {t u : List ℕ} {s : Str} → Bytes u → GoodString Strict t u s → Bytes (s .value)
 value-bytes {t} {u} {s} b g = go (same (s .key) note) refl
   where
     go : (w : Bool) → same (s .key) note ≡ w → Bytes (s .value)
     go true e = lines-bytes b (g .lines (same-eq (s .key) note e))
     go false e = all-bytes valueChar value-byte (s .value) (g .values (same-not (s .key) note e))
 
-text-bytes : {t u : List ℕ} {s : Str} → Bytes u → Good t u s → Bytes (textOf s)
+text-bytes : {t u : List ℕ} {s : Str} → Bytes u → GoodString Strict t u s → Bytes (textOf s)
 text-bytes {t} {u} {s} b g =
     bytes-append (s .key) (s .gap ++ s .value) (all-bytes keyChar key-byte (s .key) (g .keys))
     (bytes-append (s .gap) (s .value) (all-bytes blank blank-byte (s .gap) (g .blanks)) (value-bytes b g))
 
-written-bytes : (high : Bool) (t u prev : List ℕ) (ss : List Str) (rest : List ℕ) → Bytes t → Bytes u → Bytes rest → Rising t u prev ss
-    → Bytes (written high t ss rest)
-unfolding written
-written-bytes high t u prev [] rest bt bu br g = bytes-append (bytesOf 2 high 0) rest (bytesOf-bytes 2 high 0) br
-written-bytes high t u prev (s ∷ ss) rest bt bu br g =
-    bytes-append (bytesOf 2 high (sizeOf t s)) (textOf s ++ (t ++ written high t ss rest)) (bytesOf-bytes 2 high (sizeOf t s))
-    (bytes-append (textOf s) (t ++ written high t ss rest) (text-bytes bu (g .0))
-    (bytes-append t (written high t ss rest) bt (written-bytes high t u (s .key) ss rest bt bu br (g .2))))
+texts-bytes : (high : Bool) (t u prev : List ℕ) (ss : List Str) (end : List ℕ) → Bytes t → Bytes u → Bytes end → Rising Strict t u prev ss
+    → Bytes (texts high t ss end)
+unfolding texts
+texts-bytes high t u prev [] end bt bu br g = br
+texts-bytes high t u prev (s ∷ ss) end bt bu br g =
+    bytes-append (bytesOf 2 high (sizeOf t s)) (textOf s ++ (t ++ texts high t ss end)) (bytesOf-bytes 2 high (sizeOf t s))
+    (bytes-append (textOf s) (t ++ texts high t ss end) (text-bytes bu (g .0))
+    (bytes-append t (texts high t ss end) bt (texts-bytes high t u (s .key) ss end bt bu br (g .2))))
 
 zeros-bytes : (n : ℕ) → Bytes (replicate n 0)
 zeros-bytes zero = tt
 zeros-bytes (suc n) = (omega arith, zeros-bytes n)
 
 -- an area is written from good strings, and filled up by zeros
-spells-rising : {high : Bool} {t u : List ℕ} {ss : List Str} {l : List ℕ} → Spells high t u ss l → Rising t u [] ss
+spells-rising : {high : Bool} {t u : List ℕ} {ss : List Str} {l : List ℕ} → Spells Strict high t u ss l → Rising Strict t u [] ss
 spells-rising empty = tt
-spells-rising (full rest g) = g
+spells-rising (full end g) = g
 
 area-bytes : (high : Bool) (t u s : List ℕ) (n : ℕ) → Terminators t u → measuredOf t u s ≡ Size n → Bytes (areaOf high t u s)
 unfolding areaOf
 area-bytes high t u s n e m =
-    written-bytes high t u [] (stringsOf u s) (padding (textSize t (stringsOf u s))) (all-bytes control control-byte t (e .t-chars))
-    (all-bytes control control-byte u (e .u-chars)) (zeros-bytes (round4 (textSize t (stringsOf u s)) - textSize t (stringsOf u s)))
+    let z : ℕ = textSize t (sheetStrings u s) in
+    texts-bytes high t u [] (sheetStrings u s) (markedEnd high (padding z)) (all-bytes control control-byte t (e .t-chars))
+    (all-bytes control control-byte u (e .u-chars)) (bytes-append (bytesOf 2 high 0) (padding z) (bytesOf-bytes 2 high 0) (zeros-bytes (round4 z - z)))
     (spells-rising (area-spells high t u s n (terminators-end t u e) m))
 
 -- ---- samples
@@ -171,7 +174,7 @@ samples-bytes code high (patterns row) = bits-bytes code high row
 trace-block-bytes : (high : Bool) (b d s code : ℕ) → code ≤ 5 → Bytes (traceBlock high b d s code)
 unfolding traceBlock
 trace-block-bytes high b d s code h =
-    bytes-append (bytesOf 2 high 17442) _ (bytesOf-bytes 2 high 17442)
+    bytes-append (bytesOf 2 high traceMark) _ (bytesOf-bytes 2 high traceMark)
     (bytes-append (bytesOf 2 high b) _ (bytesOf-bytes 2 high b)
     (bytes-append (bytesOf 4 high d) _ (bytesOf-bytes 4 high d)
     (bytes-append (bytesOf 4 high s) (code ∷ replicate 19 0) (bytesOf-bytes 4 high s) (omega arith, zeros-bytes 19))))

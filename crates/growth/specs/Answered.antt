@@ -7,11 +7,13 @@ use mathlib.Core.List.{List}
 use Prim.Native.Nat.{ℕ, _≤_, _<_}
 use lib.IntN.{ℤ}
 use lib.ListN.{length, take}
+use Rattle.head.specs.declared.Purpose.the-variants.{Read}
+use Rattle.text.specs.declared.Manner.the-variants.{Strict}
 use Rattle.refusal.specs.declared.Verdict.the-variants.{Accepted}
 use Rattle.refusal.specs.Rows.{pick}
 use Rattle.strings.specs.declared.Place.{Place}
 use Rattle.strings.specs.Spelled.{Str, nthStr, valueOfKey, hasKey}
-use Rattle.decimal.specs.Number.{numberOf}
+use Rattle.decimal.specs.Number.{numberIn}
 use Rattle.double.specs.Double.{doubleOf}
 use Rattle.double.specs.Location.{locationOf}
 use Rattle.image.specs.Image.{checkOf}
@@ -23,24 +25,24 @@ use Rattle.reader.specs.Listed.{Lists, IsString, listed-count, listed-nth, list
 
 -- the answers on part z of the file in the first n bytes of xs
 pub record AnswersBy (xs : List ℕ) (n : ℕ) (z : ℤ) (ss : List Str) : Type 0 where
-  pub many : countAnswer xs n z ≡ count.Is (length ss)
-  pub nth : (i : ℕ) → i < length ss → (s : Place) × (nthAnswer xs n z i ≡ string.There s) × IsString (take n xs) s (nthStr ss i)
-  pub past : (i : ℕ) → length ss ≤ i → nthAnswer xs n z i ≡ string.Absent
-  pub keyword : (key : List ℕ) → keywordAnswer xs n z key ≡ pick (hasKey ss key) Yes No
-  pub value : (key : List ℕ) → valueAnswer xs n z key ≡ valueOfKey ss key
-  pub number : (key : List ℕ) → numberAnswer xs n z key ≡ numberOf (valueOfKey ss key)
-  pub double : (key : List ℕ) → doubleAnswer xs n z key ≡ doubleOf (valueOfKey ss key)
-  pub location : (key : List ℕ) → locationAnswer xs n z key ≡ locationOf (valueOfKey ss key)
+  pub many : countAnswer Strict xs n z ≡ count.Is (length ss)
+  pub nth : (i : ℕ) → i < length ss → (s : Place) × (nthAnswer Strict xs n z i ≡ string.There s) × IsString (take n xs) s (nthStr ss i)
+  pub past : (i : ℕ) → length ss ≤ i → nthAnswer Strict xs n z i ≡ string.Absent
+  pub keyword : (key : List ℕ) → keywordAnswer Strict xs n z key ≡ pick (hasKey Strict ss key) Yes No
+  pub value : (key : List ℕ) → valueAnswer Strict xs n z key ≡ valueOfKey Strict ss key
+  pub number : (key : List ℕ) → numberAnswer Strict xs n z key ≡ numberIn (valueOfKey Strict ss key)
+  pub double : (key : List ℕ) → doubleAnswer Strict xs n z key ≡ doubleOf (valueOfKey Strict ss key)
+  pub location : (key : List ℕ) → locationAnswer Strict xs n z key ≡ locationOf (valueOfKey Strict ss key)
 
-pub answered : (xs : List ℕ) (n : ℕ) (z : ℤ) (ss : List Str) → checkOf false xs n ≡ Accepted → Lists (take n xs) z ss → AnswersBy xs n z ss
+pub answered : (xs : List ℕ) (n : ℕ) (z : ℤ) (ss : List Str) → checkOf Strict Read xs n ≡ Accepted → Lists Strict (take n xs) z ss → AnswersBy xs n z ss
 answered xs n z ss ok l =
     record {
-      many = listed-count xs n z ss ok l;
-      nth = listed-nth xs n z ss ok l;
-      past = listed-past xs n z ss ok l;
-      keyword = listed-keyword xs n z ss ok l;
-      value = listed-value xs n z ss ok l;
-      number = listed-number xs n z ss ok l;
-      double = listed-double xs n z ss ok l;
-      location = listed-location xs n z ss ok l;
+      many = listed-count Strict xs n z ss ok l;
+      nth = listed-nth Strict xs n z ss ok l;
+      past = listed-past Strict xs n z ss ok l;
+      keyword = listed-keyword Strict xs n z ss ok l;
+      value = listed-value Strict xs n z ss ok l;
+      number = listed-number Strict xs n z ss ok l;
+      double = listed-double Strict xs n z ss ok l;
+      location = listed-location Strict xs n z ss ok l;
     }

@@ -9,6 +9,8 @@ use native.Mathlib.Omega.{arith}
 use lib.ListN.{length, getD}
 use lib.Dec.{eqb}
 use borrow.Author.Tests.{eqb-true}
+use Rattle.head.specs.declared.Purpose.{Purpose}
+use Rattle.text.specs.declared.Manner.the-variants.{Strict}
 use Rattle.word.specs.Tests.{both}
 use Rattle.word.specs.Part.{length-part}
 use Rattle.text.specs.Runs.{all}
@@ -46,16 +48,16 @@ apart-among (c ∷ t) u h b m =
     go true e i l r = rw (eqb-true c b e) at l
     go false e i l r = r i
 
-pub keeps-terminators : {grow : Bool} {f : List ℕ} → Keeps grow f → Terminators (stringEnd f) (lineEnd f)
-keeps-terminators {grow} {f} h =
-    let t = terminator-size f 8 (omega (arith, h .extent .0)) (h .string-end) in
-    let u = terminator-size f 11 (omega (arith, h .extent .0)) (h .line-end) in
+pub keeps-terminators : {purpose : Purpose} {f : List ℕ} → Keeps Strict purpose f → Terminators (stringEnd f) (lineEnd f)
+keeps-terminators {purpose} {f} h =
+    let t = terminator-size f 8 (omega (arith, h .file .extent .0)) (h .file .string-end) in
+    let u = terminator-size f 11 (omega (arith, h .file .extent .0)) (h .file .line-end) in
     record {
       t-low = t .0;
       t-high = t .1;
       u-low = u .0;
       u-high = u .1;
-      t-chars = h .string-end .characters;
-      u-chars = h .line-end .characters;
-      apart = apart-among (stringEnd f) (lineEnd f) (h .ends-apart);
+      t-chars = h .file .string-end .characters;
+      u-chars = h .file .line-end .characters;
+      apart = apart-among (stringEnd f) (lineEnd f) (h .file .ends-apart);
     }

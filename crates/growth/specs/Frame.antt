@@ -9,6 +9,7 @@ use Prim.Native.Nat.{ℕ, zero, suc, _+_, _*_, _≤_, _<_}
 use native.Mathlib.Omega.{arith}
 use lib.ListN.{length, getD, take, drop, set}
 use lib.Seq.{length-take-le, getD-take, getD-drop}
+use Rattle.head.specs.declared.Purpose.the-variants.{Grow}
 use Rattle.word.specs.Part.{part}
 use Rattle.word.specs.Bytes.{Bytes, bytes-take}
 use Rattle.word.specs.Put.{put, length-put, drop-put-after, take-put-before, part-put, part-put-before, part-put-after}
@@ -127,7 +128,7 @@ pub record Lies (xs : List ℕ) (n : ℕ) (x : Trace) (end : ℕ) : Type 0 where
 
 pub lies : {xs : List ℕ} {n : ℕ} {x : Trace} {end : ℕ} → Added xs n x end → Lies xs n x end
 lies {xs} {n} {x} {end} h =
-    let p = placed true xs n (h .accepted) in
+    let p = placed Grow xs n (h .accepted) in
     let l : length (take n xs) ≡ n = length-take-le n xs (p .0 .2) in
     let r : 32 + roomOf (take n xs) ≤ length (take n xs) = p .1 .fits in
     let s : 4 * countOf (take n xs) + 4 ≤ roomOf (take n xs) = h .slot in

@@ -9,6 +9,8 @@ use Prim.Native.Nat.{ℕ, _+_, _-_, _*_, _≤_}
 use native.Mathlib.Omega.{arith}
 use lib.ListN.{length, take, drop, replicate, length-replicate}
 use lib.Seq.{length-take-le, drop-at}
+use Rattle.head.specs.declared.Purpose.the-variants.{Grow}
+use Rattle.text.specs.declared.Manner.the-variants.{Strict}
 use Rattle.word.specs.Part.{part, part-take, part-part, part-drop, part-among}
 use Rattle.word.specs.Bytes.{Bytes}
 use Rattle.word.specs.Round.{round4, round4-up}
@@ -27,7 +29,7 @@ use Rattle.growth.specs.Frame.{lies, length-grown, grown-front, grown-mi
 
 pub record Grows (f g : List ℕ) (x : Trace) : Type 0 where
   -- the old image is one that an addition takes, has a slot, and the trace is one that fits it
-  pub old : Keeps true f
+  pub old : Keeps Strict Grow f
   pub slot : 4 * countOf f + 4 ≤ roomOf f
   pub sized : measuredOf (stringEnd f) (lineEnd f) (x .sheet) ≡ Size (areaSize (stringEnd f) (lineEnd f) (x .sheet))
   pub kind : fitting (x .code) (x .samples) ≡ true
@@ -82,7 +84,7 @@ grown-grows {xs} {n} {x} {end} by h =
     let lg : length (take end y) ≡ end = length-take-le end y fits in
     let bytes : part n end y ≡ replicate (round4 n - n) 0 ++ tb = grown-new h ∙ new-split f n x in
     record {
-      old = accepted-keeps true xs n by (h .accepted) .1;
+      old = accepted-keeps Strict Grow xs n by (h .accepted) .1;
       slot = h .slot;
       sized = h .sized;
       kind = h .kind;

@@ -9,6 +9,9 @@ use Prim.Native.Nat.{ℕ, zero, suc, _+_, _-_, _*_, _≤_, _<_}
 use native.Mathlib.Omega.{arith}
 use lib.ListN.{length, getD}
 use lib.Dec.{eqb}
+use Rattle.head.specs.declared.Purpose.the-variants.{Grow}
+use Rattle.head.specs.declared.Purpose.{Purpose}
+use Rattle.text.specs.declared.Manner.the-variants.{Strict}
 use Rattle.word.specs.Part.{part, getD-part}
 use Rattle.word.specs.Round.{round4}
 use Rattle.word.specs.Word.{valueOf, wordAt}
@@ -36,11 +39,11 @@ pub short-terminator : {f : List ℕ} {at : ℕ} → KeepsTerminator f at → (1
 short-terminator k = ⊎-elim (λ e. (omega arith, omega arith)) (λ e. (omega arith, omega arith)) (k .size)
 
 -- every trace stands behind the pointer room
-pub behind-room : (grow : Bool) (f : List ℕ) → Keeps grow f → (k : ℕ) → k < countOf f → 32 + roomOf f ≤ traceAt f k
+pub behind-room : (purpose : Purpose) (f : List ℕ) → Keeps Strict purpose f → (k : ℕ) → k < countOf f → 32 + roomOf f ≤ traceAt f k
 unfolding endBefore endAt
-behind-room grow f h zero l = h .traces 0 l .behind
-behind-room grow f h (suc k) l =
-    let i = behind-room grow f h k (omega arith) in
+behind-room purpose f h zero l = h .traces 0 l .behind
+behind-room purpose f h (suc k) l =
+    let i = behind-room purpose f h k (omega arith) in
     let b : endAt (highFirst f) f (traceAt f k) ≤ traceAt f (suc k) = h .traces (suc k) l .behind in
     omega arith
 
@@ -84,10 +87,10 @@ module _ {f g : List ℕ} {x : Trace} (w : Grows f g x) where
       ∙ w .middle (at + 1) (at + 1 + getD f at 0) (omega arith) (omega arith)
 
   pub string-end-kept : stringEnd g ≡ stringEnd f
-  string-end-kept = terminator-kept 8 (omega arith) (omega arith) (short-terminator (w .old .string-end) .1)
+  string-end-kept = terminator-kept 8 (omega arith) (omega arith) (short-terminator (w .old .file .string-end) .1)
 
   pub line-end-kept : lineEnd g ≡ lineEnd f
-  line-end-kept = terminator-kept 11 (omega arith) (omega arith) (short-terminator (w .old .line-end) .1)
+  line-end-kept = terminator-kept 11 (omega arith) (omega arith) (short-terminator (w .old .file .line-end) .1)
 
   -- ---- the pointers
 
@@ -137,7 +140,7 @@ trace-kept {f} {g} w k l =
     let e : traceAt g k ≡ p = trace-at-kept w k l in
     let h : highFirst g ≡ o = high-kept w in
     let t = w .old .traces k l in
-    let low : 32 + roomOf f ≤ p = behind-room true f (w .old) k l in
+    let low : 32 + roomOf f ≤ p = behind-room Grow f (w .old) k l in
     let least : 32 ≤ blockSize o f p = t .least in
     let inside : dataAt o f p + dataSize o f p ≤ length f = t .inside in
     let mark : wordAt 2 o g p ≡ wordAt 2 o f p = word-kept w 2 o p low (omega arith) in

@@ -11,7 +11,7 @@ use Rattle.word.specs.Part.{part}
 use Rattle.word.specs.Round.{round4}
 use Rattle.sheet.specs.Area.{areaOf, areaSize}
 use Rattle.head.specs.Head.{highFirst, countOf, stringEnd, lineEnd}
-use Rattle.block.specs.Block.{markAt, blockSize, dataSize, sampleCount, formatCode, dataAt, endAt}
+use Rattle.block.specs.Block.{traceMark, markAt, blockSize, dataSize, sampleCount, formatCode, dataAt, endAt}
 use Rattle.image.specs.Keeps.{traceAt}
 use Rattle.layout.specs.Layout.{Trace, count, samplesData, blockBytes, dataBytes, traceSize, traceBytes}
 use Rattle.layout.specs.LayoutLaws.{Stands, stands}
@@ -22,7 +22,7 @@ use Rattle.growth.specs.Kept.{high-kept, trace-at-new}
 
 pub record HasNew (f g : List ℕ) (x : Trace) : Type 0 where
   pub at : traceAt g (countOf f) ≡ round4 (length f)
-  pub mark : markAt (highFirst g) g (traceAt g (countOf f)) ≡ 17442
+  pub mark : markAt (highFirst g) g (traceAt g (countOf f)) ≡ traceMark
   pub block : blockSize (highFirst g) g (traceAt g (countOf f)) ≡ blockBytes (stringEnd f) (lineEnd f) x
   pub size : dataSize (highFirst g) g (traceAt g (countOf f)) ≡ dataBytes x
   pub count : sampleCount (highFirst g) g (traceAt g (countOf f)) ≡ Rattle.layout.specs.Layout.count (x .samples)

@@ -7,6 +7,7 @@ use Prim.Native.Nat.{ℕ}
 use native.Mathlib.Omega.{arith}
 use lib.ListN.{length, take}
 use lib.Seq.{length-take-le}
+use Rattle.head.specs.declared.Purpose.the-variants.{Read}
 use Rattle.word.specs.Bytes.{Bytes}
 use Rattle.word.specs.Round.{round4}
 use Rattle.sheet.specs.Area.{areaSize}
@@ -38,4 +39,4 @@ last-standing {f} {g} {x} w =
 pub reads-last : {xs : List ℕ} {n : ℕ} {x : Trace} {end : ℕ} → Bytes xs → Added xs n x end → ReadsAs (grown xs n x) end (countOf (take n xs)) (round4 n) x
 reads-last {xs} {n} {x} {end} by h =
     let l : length (take n xs) ≡ n = length-take-le n xs (lies h .in-buffer) in
-    reads-as (grown-accepted false by h) (rw l at (last-standing (grown-grows by h)))
+    reads-as (grown-accepted Read by h) (rw l at (last-standing (grown-grows by h)))

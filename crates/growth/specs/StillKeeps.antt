@@ -10,13 +10,17 @@ use native.Mathlib.Omega.{arith}
 use lib.ListN.{length, take, replicate}
 use lib.Dec.{eqb}
 use borrow.Author.Tests.{ne-eqb}
+use Rattle.head.specs.declared.Purpose.{Purpose}
+use Rattle.head.specs.declared.Purpose.the-variants.{Read, Grow}
+use Rattle.text.specs.declared.Manner.the-variants.{Strict}
+use Rattle.word.specs.Tests.{never}
 use Rattle.word.specs.Part.{part, length-part, part-none, part-split}
 use Rattle.word.specs.Bytes.{Bytes}
 use Rattle.word.specs.Round.{round4, round4-whole, round4-up}
 use Rattle.word.specs.Word.{bytesOf}
 use Rattle.refusal.specs.Rows.{pick}
 use Rattle.refusal.specs.declared.Verdict.the-variants.{Accepted}
-use Rattle.strings.specs.Spelled.{Str, textOf, sizeOf, written, Spells, Spells.empty, Spells.full}
+use Rattle.strings.specs.Spelled.{Str, textOf, sizeOf, texts, markedEnd, Spells, Spells.empty, Ends.mark, Ends.none, Spells.full}
 use Rattle.sheet.specs.Area as area
 use Rattle.sheet.specs.Area.{areaSize}
 use Rattle.area.specs.Spelling.{area-bounds, area-spells}
@@ -36,19 +40,21 @@ use Rattle.growth.specs.NewTrace.{has-new}
 
 -- ---- more bytes behind an area that spells strings are ignored, as "what follows in the area is ignored"
 
-written-more : (high : Bool) (t : List ℕ) (ss : List Str) (rest zs : List ℕ) → written high t ss rest ++ zs ≡ written high t ss (rest ++ zs)
-unfolding written
-written-more high t [] rest zs = append-assoc (bytesOf 2 high 0) rest zs
-written-more high t (s ∷ ss) rest zs =
-    append-assoc (bytesOf 2 high (sizeOf t s)) (textOf s ++ (t ++ written high t ss rest)) zs
+texts-more : (high : Bool) (t : List ℕ) (ss : List Str) (end zs : List ℕ) → texts high t ss end ++ zs ≡ texts high t ss (end ++ zs)
+unfolding texts
+texts-more high t [] end zs = refl
+texts-more high t (s ∷ ss) end zs =
+    append-assoc (bytesOf 2 high (sizeOf t s)) (textOf s ++ (t ++ texts high t ss end)) zs
     ∙ ap (λ (r : List ℕ). bytesOf 2 high (sizeOf t s) ++ r)
-    (append-assoc (textOf s) (t ++ written high t ss rest) zs
+    (append-assoc (textOf s) (t ++ texts high t ss end) zs
     ∙ ap (λ (r : List ℕ). textOf s ++ r)
-    (append-assoc t (written high t ss rest) zs ∙ ap (λ (r : List ℕ). t ++ r) (written-more high t ss rest zs)))
+    (append-assoc t (texts high t ss end) zs ∙ ap (λ (r : List ℕ). t ++ r) (texts-more high t ss end zs)))
 
-pub spells-more : {high : Bool} {t u : List ℕ} {ss : List Str} {l : List ℕ} (zs : List ℕ) → Spells high t u ss l → 0 < length l → Spells high t u ss (l ++ zs)
+pub spells-more : {high : Bool} {t u : List ℕ} {ss : List Str} {l : List ℕ} (zs : List ℕ) → Spells Strict high t u ss l → 0 < length l → Spells Strict high t u ss (l ++ zs)
 spells-more zs empty h = absurd (omega arith)
-spells-more {high} {t} zs (full {ss} rest r) h = rw (written-more high t ss rest zs) (full (rest ++ zs) r)
+spells-more {high} {t} zs (full {ss} (mark rest) r) h =
+    rw (texts-more high t ss (markedEnd high rest) zs, append-assoc (bytesOf 2 high 0) rest zs) (full (mark (rest ++ zs)) r)
+spells-more zs (full (none e) r) h = absurd (never e)
 
 -- ---- the file's strings: with N=0 they ran to the old end, and now run to the new trace, over the gap's zeros
 
@@ -59,22 +65,22 @@ module _ {f g : List ℕ} {x : Trace} (w : Grows f g x) where
       let some : eqb (countOf g) 0 ≡ false = ne-eqb (countOf g) 0 (λ (e : countOf g ≡ 0). omega arith) in
       rw some
 
-  none-before : {ss : List Str} → countOf f ≡ 0 → Spells (highFirst f) (stringEnd f) (lineEnd f) ss (part (32 + roomOf f) (length f) f)
-      → Spells (highFirst f) (stringEnd f) (lineEnd f) ss (part (32 + roomOf f) (traceAt g 0) g)
+  none-before : {ss : List Str} → countOf f ≡ 0 → Spells Strict (highFirst f) (stringEnd f) (lineEnd f) ss (part (32 + roomOf f) (length f) f)
+      → Spells Strict (highFirst f) (stringEnd f) (lineEnd f) ss (part (32 + roomOf f) (traceAt g 0) g)
   none-before {ss} e s =
       let at : traceAt g 0 ≡ round4 (length f) = rw e at (trace-at-new w) in
-      let whole : roomOf f % 4 ≡ 0 = w .old .room .1 in
-      let fits : 32 + roomOf f ≤ length f = w .old .room .2 in
+      let whole : roomOf f % 4 ≡ 0 = w .old .file .room .1 in
+      let fits : 32 + roomOf f ≤ length f = w .old .file .room .2 in
       rw at (elim (decLe (length f) (32 + roomOf f)) [ yes q ↦ tight q whole fits | no q ↦ loose (lt-of-not-le q) ])
     where
       tight : length f ≤ 32 + roomOf f → roomOf f % 4 ≡ 0 → 32 + roomOf f ≤ length f
-          → Spells (highFirst f) (stringEnd f) (lineEnd f) ss (part (32 + roomOf f) (round4 (length f)) g)
+          → Spells Strict (highFirst f) (stringEnd f) (lineEnd f) ss (part (32 + roomOf f) (round4 (length f)) g)
       tight q m l =
           let a : part (32 + roomOf f) (length f) f ≡ [] = part-none (32 + roomOf f) (length f) f q in
           let b : part (32 + roomOf f) (round4 (length f)) g ≡ [] = part-none (32 + roomOf f) (round4 (length f)) g (omega arith) in
           rw b (rw a at s)
 
-      loose : 32 + roomOf f < length f → Spells (highFirst f) (stringEnd f) (lineEnd f) ss (part (32 + roomOf f) (round4 (length f)) g)
+      loose : 32 + roomOf f < length f → Spells Strict (highFirst f) (stringEnd f) (lineEnd f) ss (part (32 + roomOf f) (round4 (length f)) g)
       loose q =
           let zs : List ℕ = replicate (round4 (length f) - length f) 0 in
           let split : part (32 + roomOf f) (round4 (length f)) g ≡ part (32 + roomOf f) (length f) f ++ zs =
@@ -83,33 +89,33 @@ module _ {f g : List ℕ} {x : Trace} (w : Grows f g x) where
           let long = length-part (32 + roomOf f) (length f) f (omega arith) in
           rw split (spells-more zs s (omega arith))
 
-  some-before : {ss : List Str} → 0 < countOf f → Spells (highFirst f) (stringEnd f) (lineEnd f) ss (part (32 + roomOf f) (traceAt f 0) f)
-      → Spells (highFirst f) (stringEnd f) (lineEnd f) ss (part (32 + roomOf f) (traceAt g 0) g)
+  some-before : {ss : List Str} → 0 < countOf f → Spells Strict (highFirst f) (stringEnd f) (lineEnd f) ss (part (32 + roomOf f) (traceAt f 0) f)
+      → Spells Strict (highFirst f) (stringEnd f) (lineEnd f) ss (part (32 + roomOf f) (traceAt g 0) g)
   some-before {ss} l s =
       let k = w .old .traces 0 l in
       let fits : dataAt (highFirst f) f (traceAt f 0) + dataSize (highFirst f) f (traceAt f 0) ≤ length f = k .inside in
       rw (trace-at-kept w 0 l, part-kept w (32 + roomOf f) (traceAt f 0) (omega arith) (omega arith)) s
 
-  file-strings-kept : {ss : List Str} → Spells (highFirst f) (stringEnd f) (lineEnd f) ss (part (32 + roomOf f) (stringsEnd f) f)
-      → Spells (highFirst f) (stringEnd f) (lineEnd f) ss (part (32 + roomOf f) (traceAt g 0) g)
+  file-strings-kept : {ss : List Str} → Spells Strict (highFirst f) (stringEnd f) (lineEnd f) ss (part (32 + roomOf f) (stringsEnd f) f)
+      → Spells Strict (highFirst f) (stringEnd f) (lineEnd f) ss (part (32 + roomOf f) (traceAt g 0) g)
   file-strings-kept {ss} s = go (countOf f) refl s
     where
-      go : (c : ℕ) → countOf f ≡ c → Spells (highFirst f) (stringEnd f) (lineEnd f) ss (part (32 + roomOf f) (pick (eqb c 0) (length f) (traceAt f 0)) f)
-          → Spells (highFirst f) (stringEnd f) (lineEnd f) ss (part (32 + roomOf f) (traceAt g 0) g)
+      go : (c : ℕ) → countOf f ≡ c → Spells Strict (highFirst f) (stringEnd f) (lineEnd f) ss (part (32 + roomOf f) (pick (eqb c 0) (length f) (traceAt f 0)) f)
+          → Spells Strict (highFirst f) (stringEnd f) (lineEnd f) ss (part (32 + roomOf f) (traceAt g 0) g)
       go zero e s = none-before e s
       go (suc c) e s = some-before (omega arith) (rw (ne-eqb (suc c) 0 (omega arith)) at s)
 
   -- so each list that the file's strings spelled, they spell
-  pub file-spelled-kept : {ss : List Str} → Spells (highFirst f) (stringEnd f) (lineEnd f) ss (part (32 + roomOf f) (stringsEnd f) f)
-      → Spells (highFirst g) (stringEnd g) (lineEnd g) ss (part (32 + roomOf g) (stringsEnd g) g)
+  pub file-spelled-kept : {ss : List Str} → Spells Strict (highFirst f) (stringEnd f) (lineEnd f) ss (part (32 + roomOf f) (stringsEnd f) f)
+      → Spells Strict (highFirst g) (stringEnd g) (lineEnd g) ss (part (32 + roomOf g) (stringsEnd g) g)
   file-spelled-kept s =
       rw (strings-end-grown, room-kept w, high-kept w, string-end-kept w, line-end-kept w) (rw (high-kept w) at (file-strings-kept s))
 
   -- ---- the traces
 
   pub trace-spelled-kept : {ss : List Str} (k : ℕ) → k < countOf f
-      → Spells (highFirst f) (stringEnd f) (lineEnd f) ss (part (traceAt f k + 32) (dataAt (highFirst f) f (traceAt f k)) f)
-      → Spells (highFirst g) (stringEnd g) (lineEnd g) ss (part (traceAt g k + 32) (dataAt (highFirst g) g (traceAt g k)) g)
+      → Spells Strict (highFirst f) (stringEnd f) (lineEnd f) ss (part (traceAt f k + 32) (dataAt (highFirst f) f (traceAt f k)) f)
+      → Spells Strict (highFirst g) (stringEnd g) (lineEnd g) ss (part (traceAt g k + 32) (dataAt (highFirst g) g (traceAt g k)) g)
   trace-spelled-kept k l s = rw (trace-kept w k l .strings, high-kept w, string-end-kept w, line-end-kept w) s
 
   ends-kept : (k : ℕ) → k ≤ countOf f → endBefore g k ≡ endBefore f k
@@ -119,10 +125,10 @@ module _ {f g : List ℕ} {x : Trace} (w : Grows f g x) where
 
   ends-inside : (k : ℕ) → k ≤ countOf f → endBefore f k ≤ length f
   unfolding endBefore endAt
-  ends-inside zero l = w .old .room .2
+  ends-inside zero l = w .old .file .room .2
   ends-inside (suc k) l = w .old .traces k (omega arith) .inside
 
-  old-keeps : (k : ℕ) → k < countOf f → KeepsTrace g k
+  old-keeps : (k : ℕ) → k < countOf f → KeepsTrace Strict g k
   old-keeps k l =
       let t = w .old .traces k l in
       let s = trace-kept w k l in
@@ -133,7 +139,7 @@ module _ {f g : List ℕ} {x : Trace} (w : Grows f g x) where
         mark = s .mark ∙ t .mark;
         least = rw (s .block) (t .least);
         whole = rw (s .block) (t .whole);
-        samples-whole = rw (s .size) (t .samples-whole);
+        data-whole = rw (s .size) (t .data-whole);
         inside = rw (s .begins, s .size) (omega (arith, longer w));
         code = rw (s .code) (t .code);
         groups = rw (s .code, s .count) (t .groups);
@@ -142,7 +148,7 @@ module _ {f g : List ℕ} {x : Trace} (w : Grows f g x) where
       }
 
   -- the new one's area spells the strings that its sheet means
-  pub new-spelled : Spells (highFirst g) (stringEnd g) (lineEnd g) (area.stringsOf (lineEnd f) (x .sheet))
+  pub new-spelled : Spells Strict (highFirst g) (stringEnd g) (lineEnd g) (area.sheetStrings (lineEnd f) (x .sheet))
       (part (traceAt g (countOf f) + 32) (dataAt (highFirst g) g (traceAt g (countOf f))) g)
   new-spelled =
       let t : List ℕ = stringEnd f in
@@ -150,7 +156,7 @@ module _ {f g : List ℕ} {x : Trace} (w : Grows f g x) where
       rw (has-new w .strings, high-kept w, string-end-kept w, line-end-kept w)
       (area-spells (highFirst f) t u (x .sheet) (areaSize t u (x .sheet)) (kept-ends (w .old)) (w .sized))
 
-  new-keeps : KeepsTrace g (countOf f)
+  new-keeps : KeepsTrace Strict g (countOf f)
   new-keeps =
       let s = has-new w in
       let k = kinded (x .code) (x .samples) (w .kind) in
@@ -162,64 +168,69 @@ module _ {f g : List ℕ} {x : Trace} (w : Grows f g x) where
         mark = s .mark;
         least = rw (s .block) (omega arith);
         whole = rw (s .block) (omega (arith, b .1));
-        samples-whole = rw (s .size) (r .1);
+        data-whole = rw (s .size) (r .1);
         inside = rw (s .begins, s .size, w .size) (omega arith);
         code = rw (s .code) (k .least, k .most);
         groups = rw (s .code, s .count) (k .groups);
         samples = rw (s .code, s .count, s .size) (r .0);
-        strings = (area.stringsOf (lineEnd f) (x .sheet), new-spelled);
+        strings = (area.sheetStrings (lineEnd f) (x .sheet), new-spelled);
       }
 
-  each-keeps : (k : ℕ) → k < countOf f + 1 → KeepsTrace g k
+  each-keeps : (k : ℕ) → k < countOf f + 1 → KeepsTrace Strict g k
   each-keeps k l = elim (decLe (countOf f) k) [ yes q ↦ here q | no q ↦ old-keeps k (lt-of-not-le q) ]
     where
-      here : countOf f ≤ k → KeepsTrace g k
+      here : countOf f ≤ k → KeepsTrace Strict g k
       here q = let e : countOf f ≡ k = omega arith in rw e at new-keeps
 
   -- ---- the whole
 
-  pub grows-keeps : Keeps false g
+  pub grows-keeps : Keeps Strict Read g
   grows-keeps =
       let c : countOf g ≡ countOf f + 1 = count-grown w in
-      let o = w .old in
+      let o = w .old .file in
       let l = longer w in
       let s = o .strings in
       record {
-        extent = (omega (arith, o .extent .0), w .most);
-        first = rw (low-kept w, second-kept w) (o .first);
-        revision = revision-kept w ∙ o .revision;
-        room = rw (room-kept w) (o .room .0, o .room .1, omega (arith, o .room .2));
-        some = λ (e : countOf g ≡ 0). absurd (omega arith);
-        count = rw (c, room-kept w) (omega (arith, w .slot));
-        string-end =
-            record { size = rw (size-kept w 8 (omega arith) (omega arith)) (o .string-end .size); characters = rw (string-end-kept w) (o .string-end .characters) };
-        line-end = record { size = rw (size-kept w 11 (omega arith) (omega arith)) (o .line-end .size); characters = rw (line-end-kept w) (o .line-end .characters) };
-        ends-apart = rw (string-end-kept w, line-end-kept w) (o .ends-apart);
-        strings = (s .0, file-spelled-kept (s .1));
+        file = record {
+          extent = (omega (arith, o .extent .0), w .most);
+          first = rw (low-kept w, second-kept w) (o .first);
+          revision = revision-kept w ∙ o .revision;
+          room = rw (room-kept w) (o .room .0, o .room .1, omega (arith, o .room .2));
+          some = λ (e : countOf g ≡ 0). absurd (omega arith);
+          count = rw (c, room-kept w) (omega (arith, w .slot));
+          string-end =
+              record { size = rw (size-kept w 8 (omega arith) (omega arith)) (o .string-end .size); characters = rw (string-end-kept w) (o .string-end .characters) };
+          line-end = record { size = rw (size-kept w 11 (omega arith) (omega arith)) (o .line-end .size); characters = rw (line-end-kept w) (o .line-end .characters) };
+          ends-apart = rw (string-end-kept w, line-end-kept w) (o .ends-apart);
+          strings = (s .0, file-spelled-kept (s .1));
+        };
         traces = λ k m. each-keeps k (omega arith);
       }
 
 -- a file is also an image that an addition takes
-pub keeps-any : (grow : Bool) {f : List ℕ} → Keeps false f → Keeps grow f
-keeps-any grow h =
+pub keeps-any : (purpose : Purpose) {f : List ℕ} → Keeps Strict Read f → Keeps Strict purpose f
+keeps-any purpose h =
+    let o = h .file in
     record {
-      extent = h .extent;
-      first = h .first;
-      revision = h .revision;
-      room = h .room;
-      some = λ e. (let n : false ≡ true = h .some e in let z : _≡_ {A = ℕ} 0 1 = cc in absurd (omega arith));
-      count = h .count;
-      string-end = h .string-end;
-      line-end = h .line-end;
-      ends-apart = h .ends-apart;
-      strings = h .strings;
+      file = record {
+        extent = o .extent;
+        first = o .first;
+        revision = o .revision;
+        room = o .room;
+        some = λ e. (let n : Read ≡ Grow = o .some e in let z : _≡_ {A = ℕ} 0 1 = cc in absurd (omega arith));
+        count = o .count;
+        string-end = o .string-end;
+        line-end = o .line-end;
+        ends-apart = o .ends-apart;
+        strings = o .strings;
+      };
       traces = h .traces;
     }
 
-pub grown-kept : {xs : List ℕ} {n : ℕ} {x : Trace} {end : ℕ} → Bytes xs → Added xs n x end → Keeps false (take end (grown xs n x))
+pub grown-kept : {xs : List ℕ} {n : ℕ} {x : Trace} {end : ℕ} → Bytes xs → Added xs n x end → Keeps Strict Read (take end (grown xs n x))
 grown-kept by h = grows-keeps (grown-grows by h)
 
 -- so the reader accepts it, and the next addition
-pub grown-accepted : (grow : Bool) {xs : List ℕ} {n : ℕ} {x : Trace} {end : ℕ} → Bytes xs → Added xs n x end → checkOf grow (grown xs n x) end ≡ Accepted
-grown-accepted grow {xs} {n} {x} {end} by h =
-    keeps-accepted grow (grown xs n x) end (rw (length-grown h) (h .in-buffer)) (keeps-any grow (grown-kept by h))
+pub grown-accepted : (purpose : Purpose) {xs : List ℕ} {n : ℕ} {x : Trace} {end : ℕ} → Bytes xs → Added xs n x end → checkOf Strict purpose (grown xs n x) end ≡ Accepted
+grown-accepted purpose {xs} {n} {x} {end} by h =
+    keeps-accepted Strict purpose (grown xs n x) end (rw (length-grown h) (h .in-buffer)) (keeps-any purpose (grown-kept by h))

@@ -10,30 +10,32 @@ use lib.IntN.{ℤ, pos}
 use lib.Signed.{mag}
 use lib.ListN.{length, getD, take}
 use borrow.Author.Tests.{eqb-true}
+use Rattle.head.specs.declared.Purpose.the-variants.{Read}
+use Rattle.text.specs.declared.Manner.the-variants.{Strict}
 use Rattle.word.specs.Tests.{never}
 use Rattle.word.specs.Part.{part}
 use Rattle.refusal.specs.declared.Verdict.the-variants.{Accepted}
 use Rattle.strings.specs.Spelled.{Spells}
 use Rattle.encode.specs.declared.Fit.the-variants.{All}
 use Rattle.sample.specs.Needed.{byCode, width}
-use Rattle.sample.specs.Run.{run, run-map, run-of}
+use Rattle.sample.specs.Run.{valuesFrom, run-map, run-of}
 use Rattle.decode.specs.Sample.{sampleOf, patternOf, classOf, integersAsked, bitsAsked}
 use Rattle.encode.specs.Unfit.{unfitIntegers, unfitPatterns}
 use Rattle.encode.specs.Write.{integersData, bitsData}
 use Rattle.encode.specs.Back.{reach, fit-reach, integers-back, fit-32, bits-back}
 use Rattle.encode.specs.Cut.{cut, floats-back}
 use Rattle.sheet.specs.declared.Measured.the-variants.{Size}
-use Rattle.sheet.specs.Area.{stringsOf, measuredOf}
+use Rattle.sheet.specs.Area.{sheetStrings, measuredOf}
 use Rattle.text.specs.Note.{LineEnd}
 use Rattle.area.specs.Spelling.{area-spells}
 use Rattle.head.specs.Head.{highFirst, countOf, stringEnd, lineEnd}
 use Rattle.block.specs.Block.{dataAt, endAt, traceBlockOf}
 use Rattle.image.specs.Image.{checkOf}
 use Rattle.image.specs.Keeps.{traceAt}
-use Rattle.reader.specs.declared.TraceAnswer.the-variants as trace
+use Rattle.block.specs.declared.TraceAnswer.the-variants as trace
 use Rattle.reader.specs.Questions.{traceAnswer, dataOf, codeAt, countAt, ofIntegers, integersAnswer, bitsAnswer, samplesOf, patternsOf, classesOf, integersLeft, patternsLeft, classesLeft}
 use Rattle.reader.specs.Listed.{whose-one, trace-area}
-use Rattle.reader.specs.Answers.{integers-read, bits-read}
+use Rattle.reader.specs.Answers.{data-at, samples-at, patterns-at, classes-at, integers-read, bits-read}
 use Rattle.layout.specs.Layout.{Trace, Samples.integers, Samples.patterns, fitting, unfit, samplesData, blockBytes, dataBytes, traceSize}
 use Rattle.layout.specs.Layout as layout
 use Rattle.layout.specs.LayoutLaws.{Stands}
@@ -53,7 +55,7 @@ abbrev pub In64 : List ℕ → Type 0
 In64 row = (k : ℕ) → k < length row → getD row k 0 < 18446744073709551616
 
 integers-again : (code : ℕ) (high : Bool) (row : List ℤ) → integersAsked code (length row) ≡ true → unfitIntegers code row ≡ All → In32 row
-    → run (sampleOf code high (integersData code high row)) 0 (length row) ≡ readBack code row
+    → valuesFrom (sampleOf code high (integersData code high row)) 0 (length row) ≡ readBack code row
 unfolding readBack reach
 integers-again zero high row a h m = never a
 integers-again (suc zero) high row a h m = integers-back 1 high row (fit-reach row h)
@@ -65,7 +67,7 @@ integers-again (suc (suc (suc (suc (suc zero))))) high row a h m = never a
 integers-again (suc (suc (suc (suc (suc (suc code)))))) high row a h m = never a
 
 patterns-again : (code : ℕ) (high : Bool) (row : List ℕ) → bitsAsked code ≡ true → unfitPatterns code row ≡ All → In64 row
-    → run (patternOf code high (bitsData code high row)) 0 (length row) ≡ row
+    → valuesFrom (patternOf code high (bitsData code high row)) 0 (length row) ≡ row
 unfolding width
 patterns-again zero high row a h m = never a
 patterns-again (suc zero) high row a h m = never a
@@ -109,30 +111,27 @@ module _ {g : List ℕ} {k p : ℕ} {x : Trace} (s : Standing g k p x) where
   count-there : countAt g k ≡ layout.count (x .samples)
   count-there = rw (s .pointer) (s .stands .number)
 
-  spelled-there : Spells (highFirst g) (stringEnd g) (lineEnd g) (stringsOf (lineEnd g) (x .sheet)) (part (traceAt g k + 32) (dataAt (highFirst g) g (traceAt g k)) g)
+  spelled-there : Spells Strict (highFirst g) (stringEnd g) (lineEnd g) (sheetStrings (lineEnd g) (x .sheet)) (part (traceAt g k + 32) (dataAt (highFirst g) g (traceAt g k)) g)
   spelled-there =
       let t = s .stands in
       rw (s .pointer, t .block, t .area) (area-spells (highFirst g) (stringEnd g) (lineEnd g) (x .sheet) (s .size) (s .ends) (s .sized))
 
   data-there : dataOf g k ≡ samplesData (x .code) (highFirst g) (x .samples)
-  unfolding dataOf endAt
+  unfolding dataOf traceBlockOf
   data-there =
       let t = s .stands in
       let e : p + blockBytes (stringEnd g) (lineEnd g) x + dataBytes x ≡ p + traceSize (stringEnd g) (lineEnd g) x = omega arith in
       rw (s .pointer, t .block, t .bytes, e) (t .samples)
 
-  samples-there : samplesOf g k ≡ run (sampleOf (x .code) (highFirst g) (samplesData (x .code) (highFirst g) (x .samples))) 0 (layout.count (x .samples))
-  unfolding samplesOf
-  samples-there = rw (code-there, count-there, data-there)
+  samples-there : samplesOf g k ≡ valuesFrom (sampleOf (x .code) (highFirst g) (samplesData (x .code) (highFirst g) (x .samples))) 0 (layout.count (x .samples))
+  samples-there = rw (samples-at g k, code-there, count-there, data-there)
 
-  patterns-there : patternsOf g k ≡ run (patternOf (x .code) (highFirst g) (samplesData (x .code) (highFirst g) (x .samples))) 0 (layout.count (x .samples))
-  unfolding patternsOf
-  patterns-there = rw (code-there, count-there, data-there)
+  patterns-there : patternsOf g k ≡ valuesFrom (patternOf (x .code) (highFirst g) (samplesData (x .code) (highFirst g) (x .samples))) 0 (layout.count (x .samples))
+  patterns-there = rw (patterns-at g k, code-there, count-there, data-there)
 
   classes-there : classesOf g k ≡ map (classOf (x .code)) (patternsOf g k)
-  unfolding classesOf patternsOf
   classes-there =
-      rw (code-there, count-there, data-there)
+      rw (classes-at g k, patterns-at g k, code-there, count-there, data-there)
       (run-map (classOf (x .code)) (patternOf (x .code) (highFirst g) (samplesData (x .code) (highFirst g) (x .samples))) 0 (layout.count (x .samples)))
 
   integers-there : (row : List ℤ) → x .samples ≡ integers row → In32 row
@@ -158,35 +157,35 @@ module _ {g : List ℕ} {k p : ℕ} {x : Trace} (s : Standing g k p x) where
 -- ---- every question on trace k of the file in the first n bytes of xs is answered by what was given for it
 
 pub record ReadsAs (xs : List ℕ) (n k p : ℕ) (x : Trace) : Type 0 where
-  pub block : traceAnswer xs n (pos k)
+  pub block : traceAnswer Strict xs n (pos k)
       ≡ trace.Is
       (record { p = p; b = blockBytes (stringEnd (take n xs)) (lineEnd (take n xs)) x; d = dataBytes x; s = layout.count (x .samples); code = x .code })
-  pub strings : AnswersBy xs n (pos k) (stringsOf (lineEnd (take n xs)) (x .sheet))
+  pub strings : AnswersBy xs n (pos k) (sheetStrings (lineEnd (take n xs)) (x .sheet))
   -- rows of the given length are taken, and filled with what was given
   pub integers : (row old : List ℤ) → x .samples ≡ layout.integers row → In32 row → length old ≡ length row
-      → (integersAnswer xs n (pos k) (length old) ≡ Accepted) × (integersLeft xs n (pos k) old ≡ readBack (x .code) row)
+      → (integersAnswer Strict xs n (pos k) (length old) ≡ Accepted) × (integersLeft Strict xs n (pos k) old ≡ readBack (x .code) row)
   pub bits : (row old classes : List ℕ) → x .samples ≡ layout.patterns row → In64 row → length old ≡ length row → length classes ≡ length row
-      → (bitsAnswer xs n (pos k) (length old) (length classes) ≡ Accepted)
-      × (patternsLeft xs n (pos k) old classes ≡ row)
-      × (classesLeft xs n (pos k) old classes ≡ map (classOf (x .code)) row)
+      → (bitsAnswer Strict xs n (pos k) (length old) (length classes) ≡ Accepted)
+      × (patternsLeft Strict xs n (pos k) old classes ≡ row)
+      × (classesLeft Strict xs n (pos k) old classes ≡ map (classOf (x .code)) row)
 
-pub reads-as : {xs : List ℕ} {n k p : ℕ} {x : Trace} → checkOf false xs n ≡ Accepted → Standing (take n xs) k p x → ReadsAs xs n k p x
+pub reads-as : {xs : List ℕ} {n k p : ℕ} {x : Trace} → checkOf Strict Read xs n ≡ Accepted → Standing (take n xs) k p x → ReadsAs xs n k p x
 unfolding traceAnswer
 reads-as {xs} {n} {k} {p} {x} ok s =
     let g : List ℕ = take n xs in
     record {
       block = rw (ok, whose-one k (countOf g) (s .low), block-there s);
       strings =
-          answered xs n (pos k) (stringsOf (lineEnd g) (x .sheet)) ok
+          answered xs n (pos k) (sheetStrings (lineEnd g) (x .sheet)) ok
           (record { a = traceAt g k + 32; e = dataAt (highFirst g) g (traceAt g k); area = trace-area g k (s .low); spells = spelled-there s });
       integers =
           λ row old e m l.
           (let t = integers-there s row e m in
-          let r = integers-read xs n k ok (s .low) old (t .0) (l ∙ sym (t .1)) in
+          let r = integers-read Strict xs n k ok (s .low) old (t .0) (l ∙ sym (t .1)) in
           (r .0, r .1 ∙ t .2));
       bits =
           λ row old classes e m l c.
           (let t = bits-there s row e m in
-          let r = bits-read xs n k ok (s .low) old classes (t .0) (l ∙ sym (t .1)) (c ∙ sym (t .1)) in
+          let r = bits-read Strict xs n k ok (s .low) old classes (t .0) (l ∙ sym (t .1)) (c ∙ sym (t .1)) in
           (r .0, r .1 ∙ t .2, r .2 ∙ classes-there s ∙ ap (map (classOf (x .code))) (t .2)));
     }

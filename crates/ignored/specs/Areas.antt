@@ -8,6 +8,7 @@ use Prim.Native.Nat.{ℕ, zero, suc, _+_, _-_, _≤_, _<_}
 use native.Mathlib.Omega.{arith}
 use lib.ListN.{length, take, drop, length-take, length-drop}
 use lib.Seq.{take-all, take-take}
+use Rattle.text.specs.declared.Manner.the-variants.{Strict}
 use Rattle.word.specs.Part.{part, length-part, drop-take, part-drop, part-take, part-part, part-none}
 use Rattle.word.specs.Word.{wordAt}
 use Rattle.word.specs.WordLaws.{word-take}
@@ -34,7 +35,7 @@ readOf (Text o) left next = o + next o
 
 unfoldable pub usedFrom : ℕ → Bool → List ℕ → List ℕ → ℕ
 usedFrom zero high t l = length l
-usedFrom (suc m) high t l = readOf (frameOf high t l) (length l) (λ o. usedFrom m high t (drop o l))
+usedFrom (suc m) high t l = readOf (frameOf Strict high t l) (length l) (λ o. usedFrom m high t (drop o l))
 
 -- how many bytes of an area are read
 unfoldable pub usedOf : Bool → List ℕ → List ℕ → ℕ
@@ -44,7 +45,7 @@ usedOf high t l = usedFrom (length l) high t l
 
 -- a frame is told by the length that is left, the offset and the bytes before the offset's end
 frame-same : (high : Bool) (t l r : List ℕ) → length l ≡ length r → offset high l ≡ offset high r
-    → part (offset high l - length t) (offset high l) l ≡ part (offset high l - length t) (offset high l) r → frameOf high t l ≡ frameOf high t r
+    → part (offset high l - length t) (offset high l) l ≡ part (offset high l - length t) (offset high l) r → frameOf Strict high t l ≡ frameOf Strict high t r
 unfolding frameOf
 frame-same high t l r n o p = rw (n, p, o)
 
@@ -65,16 +66,16 @@ rest-same a m l r q =
     sym (cut l) ∙ ap (drop a) q ∙ cut r
 
 module _ (high : Bool) (t l r : List ℕ) (long : length l ≡ length r) where
-  end-same : frameOf high t l ≡ End → take 2 l ≡ take 2 r → frameOf high t r ≡ End
+  end-same : frameOf Strict high t l ≡ End → take 2 l ≡ take 2 r → frameOf Strict high t r ≡ End
   end-same f q =
       let o = offset-same high 2 l r (omega arith) q in
-      let z : offset high l ≡ 0 = end-told high t l f .1 in
+      let z : offset high l ≡ 0 = end-told Strict high t l f .1 in
       let a : ℕ = offset high l - length t in
       sym (frame-same high t l r long o (part-none a (offset high l) l (omega arith) ∙ sym (part-none a (offset high l) r (omega arith)))) ∙ f
 
-  text-same : (o : ℕ) → frameOf high t l ≡ Text o → take o l ≡ take o r → frameOf high t r ≡ Text o
+  text-same : (o : ℕ) → frameOf Strict high t l ≡ Text o → take o l ≡ take o r → frameOf Strict high t r ≡ Text o
   text-same o f q =
-      let i = in-frame high t l o f in
+      let i = in-frame Strict high t l o f in
       let e = offset-same high o l r (omega (arith, i .low)) q in
       sym (frame-same high t l r long e (part-same (offset high l - length t) (offset high l) o l r (omega (arith, i .told)) q)) ∙ f
 
@@ -92,41 +93,41 @@ all-same l r n q = sym (take-all (length l) l (omega arith)) ∙ q ∙ take-all 
 
 module _ (high : Bool) (t u : List ℕ) (p : Part) where
   step-same : (m : ℕ) (prev l r : List ℕ) (at : ℕ) → length l ≡ length r → take (usedFrom (suc m) high t l) l ≡ take (usedFrom (suc m) high t l) r
-      → stepOf high t u p prev l at ≡ stepOf high t u p prev r at
+      → stepOf Strict high t u p prev l at ≡ stepOf Strict high t u p prev r at
   unfolding usedFrom stepOf onFrame
-  step-same m prev l r at n q = go (frameOf high t l) refl q
+  step-same m prev l r at n q = go (frameOf Strict high t l) refl q
     where
-      go : (w : Frame) → frameOf high t l ≡ w
+      go : (w : Frame) → frameOf Strict high t l ≡ w
           → take (readOf w (length l) (λ o. usedFrom m high t (drop o l))) l ≡ take (readOf w (length l) (λ o. usedFrom m high t (drop o l))) r
-          → onFrame (frameOf high t l) t u prev l p at ≡ onFrame (frameOf high t r) t u prev r p at
+          → onFrame Strict (frameOf Strict high t l) t u prev l p at ≡ onFrame Strict (frameOf Strict high t r) t u prev r p at
       go End f q = rw (f, end-same high t l r n f q)
-      go (Broken b) f q = ap (λ (x : List ℕ). onFrame (frameOf high t x) t u prev x p at) (all-same l r n q)
+      go (Broken b) f q = ap (λ (x : List ℕ). onFrame Strict (frameOf Strict high t x) t u prev x p at) (all-same l r n q)
       go (Text o) f q =
           let g = front-same o (o + usedFrom m high t (drop o l)) l r (omega arith) q in
           rw (f, text-same high t l r n o f g, body-same high t l r n o g)
 
   -- what a step past a string leaves
   next-same : (m : ℕ) (prev l r : List ℕ) (at o k : ℕ) → length l ≡ length r → take (usedFrom (suc m) high t l) l ≡ take (usedFrom (suc m) high t l) r
-      → stepOf high t u p prev l at ≡ Next o k
+      → stepOf Strict high t u p prev l at ≡ Next o k
       → (take k (drop 2 l) ≡ take k (drop 2 r)) × (take (usedFrom m high t (drop o l)) (drop o l) ≡ take (usedFrom m high t (drop o l)) (drop o r))
   unfolding usedFrom
   next-same m prev l r at o k n q e =
-      let f = next-fits high t u p prev l at o k e .0 in
-      let b = next-bounds high t u p prev l at o k e .2 in
+      let f = next-fits Strict high t u p prev l at o k e .0 in
+      let b = next-bounds Strict high t u p prev l at o k e .2 in
       let w : take (o + usedFrom m high t (drop o l)) l ≡ take (o + usedFrom m high t (drop o l)) r = rw f at q in
       (rest-same 2 k l r (front-same (2 + k) (o + usedFrom m high t (drop o l)) l r (omega arith) w), rest-same o (usedFrom m high t (drop o l)) l r w)
 
   from-same : (m : ℕ) (prev l r : List ℕ) (at : ℕ) → length l ≡ length r → take (usedFrom m high t l) l ≡ take (usedFrom m high t l) r
-      → stringsFrom m high t u p prev l at ≡ stringsFrom m high t u p prev r at
+      → stringsFrom Strict m high t u p prev l at ≡ stringsFrom Strict m high t u p prev r at
   unfolding stringsFrom usedFrom
   from-same zero prev l r at n q = refl
-  from-same (suc m) prev l r at n q = go (stepOf high t u p prev l at) refl (from-same m)
+  from-same (suc m) prev l r at n q = go (stepOf Strict high t u p prev l at) refl (from-same m)
     where
-      go : (st : Step) → stepOf high t u p prev l at ≡ st
+      go : (st : Step) → stepOf Strict high t u p prev l at ≡ st
           → ((prev l r : List ℕ) (at : ℕ) → length l ≡ length r → take (usedFrom m high t l) l ≡ take (usedFrom m high t l) r
-          → stringsFrom m high t u p prev l at ≡ stringsFrom m high t u p prev r at)
-          → onStep (stepOf high t u p prev l at) (λ o k. stringsFrom m high t u p (take k (drop 2 l)) (drop o l) (at + o))
-          ≡ onStep (stepOf high t u p prev r at) (λ o k. stringsFrom m high t u p (take k (drop 2 r)) (drop o r) (at + o))
+          → stringsFrom Strict m high t u p prev l at ≡ stringsFrom Strict m high t u p prev r at)
+          → onStep (stepOf Strict high t u p prev l at) (λ o k. stringsFrom Strict m high t u p (take k (drop 2 l)) (drop o l) (at + o))
+          ≡ onStep (stepOf Strict high t u p prev r at) (λ o k. stringsFrom Strict m high t u p (take k (drop 2 r)) (drop o r) (at + o))
       go (Next o k) e again =
           let s = next-same m prev l r at o k n q e in
           rw (← step-same m prev l r at n q, e, s .0) (again (take k (drop 2 r)) (drop o l) (drop o r) (at + o) (drop-long o l r n) (s .1))
@@ -135,7 +136,7 @@ module _ (high : Bool) (t u : List ℕ) (p : Part) where
 
   -- the check of an area
   pub strings-same : (l r : List ℕ) (at : ℕ) → length l ≡ length r → take (usedOf high t l) l ≡ take (usedOf high t l) r
-      → stringsOf high t u p l at ≡ stringsOf high t u p r at
+      → stringsOf Strict high t u p l at ≡ stringsOf Strict high t u p r at
   unfolding stringsOf usedOf
   strings-same l r at n q = rw (from-same (length l) [] l r at n q, n)
 
@@ -143,19 +144,19 @@ module _ (high : Bool) (t u : List ℕ) (p : Part) where
 
 module _ (high : Bool) (t : List ℕ) where
   spots-same : (m : ℕ) (l r : List ℕ) (at : ℕ) → length l ≡ length r → take (usedFrom m high t l) l ≡ take (usedFrom m high t l) r
-      → placesFrom m high t l at ≡ placesFrom m high t r at
+      → placesFrom Strict m high t l at ≡ placesFrom Strict m high t r at
   unfolding placesFrom usedFrom onText
   spots-same zero l r at n q = refl
-  spots-same (suc m) l r at n q = go (frameOf high t l) refl q (spots-same m)
+  spots-same (suc m) l r at n q = go (frameOf Strict high t l) refl q (spots-same m)
     where
-      go : (w : Frame) → frameOf high t l ≡ w
+      go : (w : Frame) → frameOf Strict high t l ≡ w
           → take (readOf w (length l) (λ o. usedFrom m high t (drop o l))) l ≡ take (readOf w (length l) (λ o. usedFrom m high t (drop o l))) r
-          → ((l r : List ℕ) (at : ℕ) → length l ≡ length r → take (usedFrom m high t l) l ≡ take (usedFrom m high t l) r → placesFrom m high t l at ≡ placesFrom m high t r at)
-          → onText (frameOf high t l) [] (λ o. placeOf t o l at ∷ placesFrom m high t (drop o l) (at + o))
-          ≡ onText (frameOf high t r) [] (λ o. placeOf t o r at ∷ placesFrom m high t (drop o r) (at + o))
+          → ((l r : List ℕ) (at : ℕ) → length l ≡ length r → take (usedFrom m high t l) l ≡ take (usedFrom m high t l) r → placesFrom Strict m high t l at ≡ placesFrom Strict m high t r at)
+          → onText (frameOf Strict high t l) [] (λ o. placeOf t o l at ∷ placesFrom Strict m high t (drop o l) (at + o))
+          ≡ onText (frameOf Strict high t r) [] (λ o. placeOf t o r at ∷ placesFrom Strict m high t (drop o r) (at + o))
       go End f q again = rw (f, end-same high t l r n f q)
       go (Broken b) f q again =
-          ap (λ (x : List ℕ). onText (frameOf high t x) [] (λ o. placeOf t o x at ∷ placesFrom m high t (drop o x) (at + o))) (all-same l r n q)
+          ap (λ (x : List ℕ). onText (frameOf Strict high t x) [] (λ o. placeOf t o x at ∷ placesFrom Strict m high t (drop o x) (at + o))) (all-same l r n q)
       go (Text o) f q again =
           let g = front-same o (o + usedFrom m high t (drop o l)) l r (omega arith) q in
           let b = body-same high t l r n o g in
@@ -163,9 +164,9 @@ module _ (high : Bool) (t : List ℕ) where
 
   -- the same places of an area
   pub places-same : (l r : List ℕ) (at : ℕ) → length l ≡ length r → take (usedOf high t l) l ≡ take (usedOf high t l) r
-      → placesOf high t l at ≡ placesOf high t r at
+      → placesOf Strict high t l at ≡ placesOf Strict high t r at
   unfolding placesOf usedOf
-  places-same l r at n q = spots-same (length l) l r at n q ∙ ap (λ (m : ℕ). placesFrom m high t r at) n
+  places-same l r at n q = spots-same (length l) l r at n q ∙ ap (λ (m : ℕ). placesFrom Strict m high t r at) n
 
 -- f and g have the same keyword and the same value at each of these places
 abbrev pub SameAt : List ℕ → List ℕ → List Place → Type 0
@@ -178,39 +179,39 @@ piece-same f g at e o i j h k q =
     sym (part-part i j at e f (omega arith)) ∙ part-same i j o (part at e f) (part at e g) k q ∙ part-part i j at e g (omega arith)
 
 module _ (high : Bool) (t f g : List ℕ) where
-  place-same : (at e o : ℕ) → at ≤ e → e ≤ length f → frameOf high t (part at e f) ≡ Text o → take o (part at e f) ≡ take o (part at e g)
+  place-same : (at e o : ℕ) → at ≤ e → e ≤ length f → frameOf Strict high t (part at e f) ≡ Text o → take o (part at e f) ≡ take o (part at e g)
       → (keyIn f (placeOf t o (part at e f) at) ≡ keyIn g (placeOf t o (part at e f) at))
       × (valueIn f (placeOf t o (part at e f) at) ≡ valueIn g (placeOf t o (part at e f) at))
   place-same at e o low fits w q =
       let l : List ℕ = part at e f in
       let b : List ℕ = body t o l in
-      let s = place-fits high t l at o w in
+      let s = place-fits Strict high t l at o w in
       let n = length-part at e f fits in
       let k : at + 2 + keyLen b ≡ at + (2 + keyLen b) = omega arith in
       let v : at + 2 + keyLen b + gapLen (afterKey b) ≡ at + (2 + keyLen b + gapLen (afterKey b)) = omega arith in (
-        rw k (piece-same f g at e o 2 (2 + keyLen b) (omega (arith, s .within)) (omega (arith, s .value, s .end, s .last)) q),
+        rw k (piece-same f g at e o 2 (2 + keyLen b) (omega (arith, s .within)) (omega (arith, s .inside .1, s .inside .2, s .inside .3)) q),
         rw v (piece-same f g at e o (2 + keyLen b + gapLen (afterKey b)) (o - length t) (omega (arith, s .within)) (omega arith) q),
       )
 
   texts-from : (m at e : ℕ) → at ≤ e → e ≤ length f
       → take (usedFrom m high t (part at e f)) (part at e f) ≡ take (usedFrom m high t (part at e f)) (part at e g)
-      → SameAt f g (placesFrom m high t (part at e f) at)
+      → SameAt f g (placesFrom Strict m high t (part at e f) at)
   unfolding placesFrom usedFrom onText
   texts-from zero at e low fits q = tt
-  texts-from (suc m) at e low fits q = go (frameOf high t (part at e f)) refl q (texts-from m)
+  texts-from (suc m) at e low fits q = go (frameOf Strict high t (part at e f)) refl q (texts-from m)
     where
-      go : (w : Frame) → frameOf high t (part at e f) ≡ w
+      go : (w : Frame) → frameOf Strict high t (part at e f) ≡ w
           → take (readOf w (length (part at e f)) (λ o. usedFrom m high t (drop o (part at e f)))) (part at e f)
           ≡ take (readOf w (length (part at e f)) (λ o. usedFrom m high t (drop o (part at e f)))) (part at e g)
           → ((at e : ℕ) → at ≤ e → e ≤ length f
-          → take (usedFrom m high t (part at e f)) (part at e f) ≡ take (usedFrom m high t (part at e f)) (part at e g) → SameAt f g (placesFrom m high t (part at e f) at))
-          → SameAt f g (onText w [] (λ o. placeOf t o (part at e f) at ∷ placesFrom m high t (drop o (part at e f)) (at + o)))
+          → take (usedFrom m high t (part at e f)) (part at e f) ≡ take (usedFrom m high t (part at e f)) (part at e g) → SameAt f g (placesFrom Strict m high t (part at e f) at))
+          → SameAt f g (onText w [] (λ o. placeOf t o (part at e f) at ∷ placesFrom Strict m high t (drop o (part at e f)) (at + o)))
       go End w q again = tt
       go (Broken b) w q again = tt
       go (Text o) w q again =
           let l : List ℕ = part at e f in
           let r : List ℕ = part at e g in
-          let i = in-frame high t l o w in
+          let i = in-frame Strict high t l o w in
           let n = length-part at e f fits in
           let d : drop o l ≡ part (at + o) e f = part-drop o at e f in
           let d' : drop o r ≡ part (at + o) e g = part-drop o at e g in
@@ -222,22 +223,22 @@ module _ (high : Bool) (t f g : List ℕ) where
 
   -- an area that is alike up to its end mark has the same strings
   pub texts-same : (a e : ℕ) → a ≤ e → e ≤ length f → take (usedOf high t (part a e f)) (part a e f) ≡ take (usedOf high t (part a e f)) (part a e g)
-      → SameAt f g (placesOf high t (part a e f) a)
+      → SameAt f g (placesOf Strict high t (part a e f) a)
   unfolding placesOf usedOf
   texts-same a e low fits q = texts-from (length (part a e f)) a e low fits q
 
 -- so a keyword is found at the same place, with the same value
-pub find-same : (f g : List ℕ) (ps : List Place) (key : List ℕ) → SameAt f g ps → findOf f ps key ≡ findOf g ps key
+pub find-same : (f g : List ℕ) (ps : List Place) (key : List ℕ) → SameAt f g ps → findOf Strict f ps key ≡ findOf Strict g ps key
 unfolding findOf
 find-same f g [] key s = refl
 find-same f g (p ∷ ps) key s = rw (s .0 .0, find-same f g ps key (s .1))
 
-pub value-same : (f g : List ℕ) (ps : List Place) (key : List ℕ) → SameAt f g ps → valueFound f (findOf f ps key) ≡ valueFound g (findOf g ps key)
+pub value-same : (f g : List ℕ) (ps : List Place) (key : List ℕ) → SameAt f g ps → valueFound f (findOf Strict f ps key) ≡ valueFound g (findOf Strict g ps key)
 unfolding findOf valueFound
 value-same f g [] key s = refl
 value-same f g (p ∷ ps) key s = rw (s .0 .0) (go (same (keyIn g p) key) (value-same f g ps key (s .1)))
   where
-    go : (w : Bool) → valueFound f (findOf f ps key) ≡ valueFound g (findOf g ps key)
-        → valueFound f (pick w (Is p) (findOf f ps key)) ≡ valueFound g (pick w (Is p) (findOf g ps key))
+    go : (w : Bool) → valueFound f (findOf Strict f ps key) ≡ valueFound g (findOf Strict g ps key)
+        → valueFound f (pick w (Is p) (findOf Strict f ps key)) ≡ valueFound g (pick w (Is p) (findOf Strict g ps key))
     go true h = s .0 .1
     go false h = h

@@ -11,7 +11,7 @@ use lib.ListN.{take}
 use borrow.Author.Tests.{eq-eqb}
 use Rattle.word.specs.WordLaws.{word-take}
 use Rattle.sample.specs.Needed.{needed, width}
-use Rattle.sample.specs.Run.{run, run-same}
+use Rattle.sample.specs.Run.{valuesFrom, run-same}
 use Rattle.decode.specs.Sample.{sampleOf, patternOf, classOf}
 use Rattle.decode.specs.SampleLaws.{sample-needed}
 
@@ -38,7 +38,7 @@ pattern-told (suc (suc (suc (suc (suc zero))))) high block s i l = word-take 8 h
 pattern-told (suc (suc (suc (suc (suc (suc code)))))) high block s i l = word-take 0 high 0 block (0 * i) (omega arith)
 
 module _ (code : ℕ) (high : Bool) (block other : List ℕ) (s : ℕ) (same : take (needed code s) block ≡ take (needed code s) other) where
-  pub samples-same : (code ≡ 3 → s % 4 ≡ 0) → run (sampleOf code high block) 0 s ≡ run (sampleOf code high other) 0 s
+  pub samples-same : (code ≡ 3 → s % 4 ≡ 0) → valuesFrom (sampleOf code high block) 0 s ≡ valuesFrom (sampleOf code high other) 0 s
   samples-same g =
       run-same (sampleOf code high block) (sampleOf code high other) 0 s
       (λ i p l.
@@ -47,10 +47,10 @@ module _ (code : ℕ) (high : Bool) (block other : List ℕ) (s : ℕ) (same : t
   pattern-same : (i : ℕ) → i < s → patternOf code high block i ≡ patternOf code high other i
   pattern-same i l = sym (pattern-told code high block s i l) ∙ ap (λ (r : List ℕ). patternOf code high r i) same ∙ pattern-told code high other s i l
 
-  pub patterns-same : run (patternOf code high block) 0 s ≡ run (patternOf code high other) 0 s
+  pub patterns-same : valuesFrom (patternOf code high block) 0 s ≡ valuesFrom (patternOf code high other) 0 s
   patterns-same = run-same (patternOf code high block) (patternOf code high other) 0 s (λ i p l. pattern-same i (omega arith))
 
-  pub classes-same : run (λ i. classOf code (patternOf code high block i)) 0 s ≡ run (λ i. classOf code (patternOf code high other i)) 0 s
+  pub classes-same : valuesFrom (λ i. classOf code (patternOf code high block i)) 0 s ≡ valuesFrom (λ i. classOf code (patternOf code high other i)) 0 s
   classes-same =
       run-same (λ i. classOf code (patternOf code high block i)) (λ i. classOf code (patternOf code high other i)) 0 s
       (λ i p l. ap (classOf code) (pattern-same i (omega arith)))

@@ -9,11 +9,16 @@ use mathlib.Core.List.{List, [], _∷_}
 use Prim.Native.Nat.{ℕ, zero, suc, _+_, _-_, _*_, _≤_, _<_}
 use native.Mathlib.Omega.{arith, by-contra}
 use lib.ListN.{length, getD, take, drop, length-take, length-drop}
-use lib.Seq.{getD-take}
+use native.Mathlib.Nat.{lt-of-not-le}
+use native.Mathlib.Decide.{decLe}
+use lib.Seq.{getD-take, take-take, take-all}
 use lib.Dec.{eqb}
 use borrow.Author.Tests.{eq-eqb}
+use Rattle.head.specs.declared.Purpose.{Purpose}
+use Rattle.text.specs.declared.Manner.the-variants.{Strict}
+use Rattle.refusal.specs.Verdicts.{andThen}
 use Rattle.word.specs.Tests.{never}
-use Rattle.word.specs.Part.{part, getD-part}
+use Rattle.word.specs.Part.{part, getD-part, drop-take}
 use Rattle.word.specs.Word.{wordAt}
 use Rattle.word.specs.WordLaws.{word-take, word-part}
 use Rattle.refusal.specs.Rows.{first, pick}
@@ -22,8 +27,10 @@ use Rattle.refusal.specs.declared.Part.the-variants.{File, Trace}
 use Rattle.refusal.specs.declared.Verdict.{Verdict}
 use Rattle.sample.specs.Needed.{needed}
 use Rattle.head.specs.Head.{highFirst, revisionOf, roomOf, countOf, terminatorAt, stringEnd, lineEnd, goodTerminator, headOf}
-use Rattle.block.specs.Block.{pointerOf, markAt, blockSize, dataSize, sampleCount, formatCode, dataAt, endAt, pointerRow, blockOf}
-use Rattle.image.specs.Image.{areaOf, andThen, traceOf, tracesFrom, restOf, imageOf}
+use Rattle.block.specs.Block.{pointerOf, markAt, blockSize, dataSize, sampleCount, formatCode, dataAt, endAt, blockOf}
+use Rattle.image.specs.Image.{areaVerdict, traceOf, tracesFrom, filledChecks, restOf, imageOf}
+use Rattle.block.specs.BlockLaws.{headAt, own-mark, own-size, own-data, own-samples, own-code}
+use Rattle.refusal.specs.FirstRow.{firstOf}
 use Rattle.image.specs.Keeps.{traceAt, stringsEnd}
 use Rattle.ignored.specs.Areas.{usedOf, strings-same}
 
@@ -71,38 +78,84 @@ pub part-long : (a e : ℕ) (f g : List ℕ) → length f ≡ length g → lengt
 part-long a e f g n =
     length-take (e - a) (drop a f) ∙ ap (λ (k : ℕ). Prim.Native.Nat.min (e - a) k) (length-drop a f ∙ ap (λ (k : ℕ). k - a) n ∙ sym (length-drop a g)) ∙ sym (length-take (e - a) (drop a g))
 
--- ---- what the blocks say
+-- ---- what the file block says: f and g may be images, or no more than their first 32 bytes
 
-module _ {f g : List ℕ} (a : Alike f g) where
+pub record AlikeHead (f g : List ℕ) : Type 0 where
+  pub front : take fileFront f ≡ take fileFront g
+  pub string-end : stringEnd f ≡ stringEnd g
+  pub line-size : getD f 11 0 ≡ getD g 11 0
+  pub line-end : lineEnd f ≡ lineEnd g
+
+module _ {f g : List ℕ} (a : AlikeHead f g) where
   front-byte : (i : ℕ) → i < fileFront → getD f i 0 ≡ getD g i 0
   front-byte i h = sym (getD-take fileFront f i 0 h) ∙ ap (λ (l : List ℕ). getD l i 0) (a .front) ∙ getD-take fileFront g i 0 h
 
-  pub same-order : highFirst f ≡ highFirst g
+  head-order : highFirst f ≡ highFirst g
   unfolding highFirst
-  same-order = ap (λ (b : ℕ). eqb b 58) (front-byte 0 (omega arith))
+  head-order = ap (λ (b : ℕ). eqb b 58) (front-byte 0 (omega arith))
 
-  same-word : (at : ℕ) → at + 2 ≤ fileFront → wordAt 2 (highFirst f) f at ≡ wordAt 2 (highFirst g) g at
-  same-word at h = front-word 2 fileFront (highFirst f) f g at h (a .front) ∙ ap (λ (o : Bool). wordAt 2 o g at) same-order
+  head-word : (at : ℕ) → at + 2 ≤ fileFront → wordAt 2 (highFirst f) f at ≡ wordAt 2 (highFirst g) g at
+  head-word at h = front-word 2 fileFront (highFirst f) f g at h (a .front) ∙ ap (λ (o : Bool). wordAt 2 o g at) head-order
 
-  same-revision : revisionOf f ≡ revisionOf g
+  head-revision : revisionOf f ≡ revisionOf g
   unfolding revisionOf
-  same-revision = same-word 2 (omega arith)
+  head-revision = head-word 2 (omega arith)
+
+  head-room : roomOf f ≡ roomOf g
+  unfolding roomOf
+  head-room = head-word 4 (omega arith)
+
+  head-traces : countOf f ≡ countOf g
+  unfolding countOf
+  head-traces = head-word 6 (omega arith)
+
+  head-size : getD f 8 0 ≡ getD g 8 0
+  head-size = front-byte 8 (omega arith)
+
+  head-same : (purpose : Purpose) (end : ℕ) → headOf purpose f end ≡ headOf purpose g end
+  unfolding headOf goodTerminator
+  head-same purpose end =
+      rw (front-byte 0 (omega arith), front-byte 1 (omega arith), head-revision, head-room, head-traces, head-size, a .string-end, a .line-size, a .line-end)
+
+-- a front of a part is the part of a front
+take-swap : (i j : ℕ) (l : List ℕ) → take i (take j l) ≡ take j (take i l)
+take-swap i j l = elim (decLe i j) [ yes h ↦ less i j h | no h ↦ sym (less j i (omega (arith, lt-of-not-le h))) ]
+  where
+    less : (m n : ℕ) → m ≤ n → take m (take n l) ≡ take n (take m l)
+    less m n h = take-take m n l h ∙ sym (take-all n (take m l) (let k = length-take m l in omega arith))
+
+front-end : (f : List ℕ) (at : ℕ) → at < 32 → terminatorAt (take 32 f) at ≡ take (32 - (at + 1)) (terminatorAt f at)
+unfolding terminatorAt
+front-end f at h =
+    rw (getD-take 32 f at 0 h, drop-take (at + 1) 32 f) (take-swap (at + 1 + getD f at 0 - (at + 1)) (32 - (at + 1)) (drop (at + 1) f))
+
+front-alike : {f g : List ℕ} → AlikeHead f g → AlikeHead (take 32 f) (take 32 g)
+front-alike {f} {g} a =
+    record {
+      front = take-take fileFront 32 f (omega arith) ∙ a .front ∙ sym (take-take fileFront 32 g (omega arith));
+      string-end = front-end f 8 (omega arith) ∙ ap (take 23) (a .string-end) ∙ sym (front-end g 8 (omega arith));
+      line-size = getD-take 32 f 11 0 (omega arith) ∙ a .line-size ∙ sym (getD-take 32 g 11 0 (omega arith));
+      line-end = front-end f 11 (omega arith) ∙ ap (take 20) (a .line-end) ∙ sym (front-end g 11 (omega arith));
+    }
+
+module _ {f g : List ℕ} (a : Alike f g) where
+  of-head : AlikeHead f g
+  of-head = record { front = a .front; string-end = a .string-end; line-size = a .line-size; line-end = a .line-end }
+
+  pub same-order : highFirst f ≡ highFirst g
+  same-order = head-order of-head
 
   pub same-room : roomOf f ≡ roomOf g
-  unfolding roomOf
-  same-room = same-word 4 (omega arith)
+  same-room = head-room of-head
 
   pub same-traces : countOf f ≡ countOf g
-  unfolding countOf
-  same-traces = same-word 6 (omega arith)
+  same-traces = head-traces of-head
 
   pub same-size : getD f 8 0 ≡ getD g 8 0
-  same-size = front-byte 8 (omega arith)
+  same-size = head-size of-head
 
-  same-head : (grow : Bool) → headOf grow f ≡ headOf grow g
-  unfolding headOf goodTerminator
-  same-head grow =
-      rw (front-byte 0 (omega arith), front-byte 1 (omega arith), same-revision, same-room, same-traces, same-size, a .string-end, a .line-size, a .line-end, a .size)
+  same-head : (purpose : Purpose) → headOf purpose (take 32 f) (length f) ≡ headOf purpose (take 32 g) (length g)
+  same-head purpose = rw (a .size) (head-same (front-alike of-head) purpose (length g))
 
   -- ---- a trace
   module _ (k : ℕ) (low : k < countOf f) where
@@ -141,20 +194,28 @@ module _ {f g : List ℕ} (a : Alike f g) where
   -- ---- the check
 
   same-area : (u : List ℕ) (whose : Part) (b e : ℕ) → AlikeStrings f g b e
-      → areaOf (highFirst f) (stringEnd f) u f whose b e ≡ areaOf (highFirst f) (stringEnd f) u g whose b e
-  unfolding areaOf
+      → areaVerdict Strict (highFirst f) (stringEnd f) u f whose b e ≡ areaVerdict Strict (highFirst f) (stringEnd f) u g whose b e
+  unfolding areaVerdict
   same-area u whose b e q = strings-same (highFirst f) (stringEnd f) u whose (part b e f) (part b e g) b (part-long b e f g (a .size)) q
 
-  same-trace : (u : List ℕ) (k prev : ℕ) → k < countOf f → traceOf (highFirst f) (stringEnd f) u f k prev ≡ traceOf (highFirst f) (stringEnd f) u g k prev
-  unfolding traceOf pointerRow blockOf
+  same-rows : (k p : ℕ) → AlikeTrace f g p
+      → blockOf (highFirst f) (headAt f p) (length f) k p ≡ blockOf (highFirst f) (headAt g p) (length g) k p
+  unfolding blockOf
+  same-rows k p t =
+      let h : Bool = highFirst f in
+      rw (own-mark h f p, own-size h f p, own-data h f p, own-samples h f p, own-code h f p, own-mark h g p, own-size h g p, own-data h g p, own-samples h g p, own-code h g p)
+      (rw (same-mark t, same-block t, same-data t, same-count t, same-code t, a .size))
+
+  same-trace : (u : List ℕ) (k prev : ℕ) → k < countOf f
+      → traceOf Strict (highFirst f) (stringEnd f) u f k prev ≡ traceOf Strict (highFirst f) (stringEnd f) u g k prev
+  unfolding traceOf
   same-trace u k prev low =
       let t = a .traces k low in
-      let p = same-pointer k low in
-      rw (same-area u (Trace k) (pointerOf (highFirst f) f k + 32) (pointerOf (highFirst f) f k + blockSize (highFirst f) f (pointerOf (highFirst f) f k)) (t .strings))
-      (rw (same-mark t, same-block t, same-data t, same-count t, same-code t, p, a .size))
+      let q : ℕ = pointerOf (highFirst f) f k in
+      rw (same-rows k q t, same-area u (Trace k) (q + 32) (q + blockSize (highFirst f) f q) (t .strings), same-block t, a .size, same-pointer k low)
 
   same-walk : (u : List ℕ) (left k prev : ℕ) → k + left ≡ countOf f
-      → tracesFrom (highFirst f) (stringEnd f) u f left k prev ≡ tracesFrom (highFirst f) (stringEnd f) u g left k prev
+      → tracesFrom Strict (highFirst f) (stringEnd f) u f left k prev ≡ tracesFrom Strict (highFirst f) (stringEnd f) u g left k prev
   unfolding tracesFrom
   same-walk u zero k prev h = refl
   same-walk u (suc left) k prev h =
@@ -164,38 +225,31 @@ module _ {f g : List ℕ} (a : Alike f g) where
       same-end (a .traces k low) ∙ ap (endAt (highFirst f) g) p in
       rw (same-trace u k prev low, same-walk u left (k + 1) (endAt (highFirst f) f (pointerOf (highFirst f) f k)) (omega arith), e)
 
-  same-first : (prev : ℕ) → 0 < countOf f → pointerRow (highFirst f) f 0 prev ≡ pointerRow (highFirst f) g 0 prev
-  unfolding pointerRow
-  same-first prev low = rw (same-pointer 0 low, a .size)
-
-  same-rest : restOf (highFirst f) (stringEnd f) (lineEnd f) f (roomOf f) (countOf f) ≡ restOf (highFirst f) (stringEnd f) (lineEnd f) g (roomOf f) (countOf f)
+  same-rest : restOf Strict (highFirst f) (stringEnd f) (lineEnd f) f (roomOf f) (countOf f)
+      ≡ restOf Strict (highFirst f) (stringEnd f) (lineEnd f) g (roomOf f) (countOf f)
   unfolding restOf
   same-rest = go (eqb (countOf f) 0) refl (a .strings)
     where
       go : (w : Bool) → eqb (countOf f) 0 ≡ w → AlikeStrings f g (32 + roomOf f) (pick w (length f) (traceAt f 0))
-          → pick w (areaOf (highFirst f) (stringEnd f) (lineEnd f) f File (32 + roomOf f) (length f))
-          (andThen (pointerRow (highFirst f) f 0 (32 + roomOf f))
-          (andThen (areaOf (highFirst f) (stringEnd f) (lineEnd f) f File (32 + roomOf f) (pointerOf (highFirst f) f 0))
-          (tracesFrom (highFirst f) (stringEnd f) (lineEnd f) f (countOf f) 0 (32 + roomOf f))))
-          ≡ pick w (areaOf (highFirst f) (stringEnd f) (lineEnd f) g File (32 + roomOf f) (length g))
-          (andThen (pointerRow (highFirst f) g 0 (32 + roomOf f))
-          (andThen (areaOf (highFirst f) (stringEnd f) (lineEnd f) g File (32 + roomOf f) (pointerOf (highFirst f) g 0))
-          (tracesFrom (highFirst f) (stringEnd f) (lineEnd f) g (countOf f) 0 (32 + roomOf f))))
+          → pick w (areaVerdict Strict (highFirst f) (stringEnd f) (lineEnd f) f File (32 + roomOf f) (length f))
+          (firstOf (filledChecks Strict (highFirst f) (stringEnd f) (lineEnd f) f (roomOf f) (countOf f)))
+          ≡ pick w (areaVerdict Strict (highFirst f) (stringEnd f) (lineEnd f) g File (32 + roomOf f) (length g))
+          (firstOf (filledChecks Strict (highFirst f) (stringEnd f) (lineEnd f) g (roomOf f) (countOf f)))
       go true e q =
           same-area (lineEnd f) File (32 + roomOf f) (length f) q
-          ∙ ap (areaOf (highFirst f) (stringEnd f) (lineEnd f) g File (32 + roomOf f)) (a .size)
+          ∙ ap (areaVerdict Strict (highFirst f) (stringEnd f) (lineEnd f) g File (32 + roomOf f)) (a .size)
       go false e q =
           let some : (countOf f ≡ 0) → ⊥ = λ (z : countOf f ≡ 0). never (sym e ∙ eq-eqb (countOf f) 0 z) in
           let low : 0 < countOf f = by-contra 1 (countOf f) (λ m. some (omega arith)) in
           rw (
-            same-first (32 + roomOf f) low,
-            ← same-pointer 0 low,
             same-area (lineEnd f) File (32 + roomOf f) (pointerOf (highFirst f) f 0) q,
             same-walk (lineEnd f) (countOf f) 0 (32 + roomOf f) (omega arith),
+            same-pointer 0 low,
+            a .size,
           )
 
   -- Rules out a check that looks at a reserved byte, a free slot or a gap.
-  pub same-image : (grow : Bool) → imageOf grow f ≡ imageOf grow g
+  pub same-image : (purpose : Purpose) → imageOf Strict purpose f ≡ imageOf Strict purpose g
   unfolding imageOf
-  same-image grow =
-      rw (same-head grow, same-rest, same-order, a .string-end, a .line-end, same-room, same-traces)
+  same-image purpose =
+      rw (same-head purpose, same-rest, same-order, a .string-end, a .line-end, same-room, same-traces)

@@ -9,6 +9,10 @@ use lib.IntN.{ℤ, pos, negsuc}
 use lib.ListN.{length, take}
 use lib.Dec.{eqb}
 use borrow.Author.Tests.{le-ltb, ne-eqb}
+use Rattle.head.specs.declared.Purpose.{Purpose}
+use Rattle.head.specs.declared.Purpose.the-variants.{Read}
+use Rattle.text.specs.declared.Manner.the-variants.{Strict}
+use Rattle.refusal.specs.Verdicts.{asked}
 use Rattle.word.specs.Part.{part}
 use Rattle.refusal.specs.Rows.{first, pick}
 use Rattle.refusal.specs.declared.Refusal.{Refusal}
@@ -17,12 +21,12 @@ use Rattle.refusal.specs.declared.Verdict.the-variants.{Accepted, Refused}
 use Rattle.strings.specs.declared.Place.{Place}
 use Rattle.strings.specs.Strings.{placesOf, nthOf, findOf, valueFound}
 use Rattle.decimal.specs.declared.NumberAnswer.the-variants as number
-use Rattle.decimal.specs.Number.{numberOf}
+use Rattle.decimal.specs.Number.{numberIn}
 use Rattle.double.specs.declared.DoubleAnswer.the-variants as double
 use Rattle.double.specs.declared.LocationAnswer.the-variants as location
 use Rattle.double.specs.Double.{doubleOf}
 use Rattle.double.specs.Location.{locationOf}
-use Rattle.head.specs.Head.{highFirst, roomOf, countOf, stringEnd}
+use Rattle.head.specs.Head.{fileBlockOf, highFirst, roomOf, countOf, stringEnd}
 use Rattle.block.specs.Block.{sampleCount, formatCode, dataAt, endAt, traceBlockOf}
 use Rattle.image.specs.Image.{checkOf}
 use Rattle.image.specs.Keeps.{traceAt, stringsEnd}
@@ -32,10 +36,10 @@ use Rattle.reader.specs.declared.Area.{Area}
 use Rattle.reader.specs.declared.Area.the-variants.{Outside, From}
 use Rattle.reader.specs.declared.StringAnswer.{StringAnswer}
 use Rattle.reader.specs.declared.StringAnswer.the-variants as string
-use Rattle.reader.specs.declared.FileAnswer.the-variants as file
-use Rattle.reader.specs.declared.TraceAnswer.the-variants as trace
+use Rattle.head.specs.declared.FileAnswer.the-variants as file
+use Rattle.block.specs.declared.TraceAnswer.the-variants as trace
 use Rattle.reader.specs.declared.CountAnswer.the-variants as count
-use Rattle.reader.specs.Questions.{asked, noTrace, whoseOf, areaOf, areaAsked, onArea, onTrace, fileAnswer, traceAnswer, placesIn, countAnswer, there, nthAnswer, findAnswer, keywordAnswer, yesOrNo, valueThere, valueAnswer, onString, numberAnswer, doubleAnswer, locationAnswer, codeAt, countAt, dataOf, integersRows, bitsRows, integersAnswer, bitsAnswer, samplesOf, patternsOf, classesOf, integersLeft, patternsLeft, classesLeft, kept, traceNumber}
+use Rattle.reader.specs.Questions.{noTrace, whoseOf, areaNamed, areaAsked, onArea, onTrace, fileAnswer, traceAnswer, placesIn, countAnswer, there, nthAnswer, findAnswer, keywordAnswer, yesOrNo, valueThere, valueAnswer, onString, numberAnswer, doubleAnswer, locationAnswer, codeAt, countAt, dataOf, integersVerdict, bitsVerdict, integersAnswer, bitsAnswer, samplesIn, patternsIn, classesIn, samplesOf, patternsOf, classesOf, integersLeft, patternsLeft, classesLeft, kept, traceNumber}
 use Rattle.reader.specs.Reach.{checked, whose-trace, some-trace, area-fits, trace-blocked}
 use Rattle.reader.specs.Listed.{found-value}
 use Rattle.reader.specs.Answers.{integers-accepted, bits-accepted}
@@ -73,45 +77,45 @@ module _ {f g : List ℕ} (a : Alike f g) where
       go Nobody e = refl
 
   -- ---- strings
-  places-alike : (x e : ℕ) → AlikeStrings f g x e → placesIn f x e ≡ placesIn g x e
+  places-alike : (x e : ℕ) → AlikeStrings f g x e → placesIn Strict f x e ≡ placesIn Strict g x e
   unfolding placesIn
   places-alike x e s =
       places-same (highFirst f) (stringEnd f) (part x e f) (part x e g) x (part-long x e f g (a .size)) s
-      ∙ ap₂ (λ (o : Bool) (t : List ℕ). placesOf o t (part x e g) x) (same-order a) (a .string-end)
+      ∙ ap₂ (λ (o : Bool) (t : List ℕ). placesOf Strict o t (part x e g) x) (same-order a) (a .string-end)
 
-  texts-alike : (x e : ℕ) → x ≤ e → e ≤ length f → AlikeStrings f g x e → SameAt f g (placesIn f x e)
+  texts-alike : (x e : ℕ) → x ≤ e → e ≤ length f → AlikeStrings f g x e → SameAt f g (placesIn Strict f x e)
   unfolding placesIn
   texts-alike x e low fits s = texts-same (highFirst f) (stringEnd f) f g x e low fits s
 
-  find-alike : (x e : ℕ) (key : List ℕ) → x ≤ e → e ≤ length f → AlikeStrings f g x e → findOf f (placesIn f x e) key ≡ findOf g (placesIn g x e) key
+  find-alike : (x e : ℕ) (key : List ℕ) → x ≤ e → e ≤ length f → AlikeStrings f g x e → findOf Strict f (placesIn Strict f x e) key ≡ findOf Strict g (placesIn Strict g x e) key
   find-alike x e key low fits s =
-      find-same f g (placesIn f x e) key (texts-alike x e low fits s) ∙ ap (λ (ps : List Place). findOf g ps key) (places-alike x e s)
+      find-same f g (placesIn Strict f x e) key (texts-alike x e low fits s) ∙ ap (λ (ps : List Place). findOf Strict g ps key) (places-alike x e s)
 
   value-alike : (x e : ℕ) (key : List ℕ) → x ≤ e → e ≤ length f → AlikeStrings f g x e
-      → valueFound f (findOf f (placesIn f x e) key) ≡ valueFound g (findOf g (placesIn g x e) key)
+      → valueFound f (findOf Strict f (placesIn Strict f x e) key) ≡ valueFound g (findOf Strict g (placesIn Strict g x e) key)
   value-alike x e key low fits s =
-      value-same f g (placesIn f x e) key (texts-alike x e low fits s) ∙ ap (λ (ps : List Place). valueFound g (findOf g ps key)) (places-alike x e s)
+      value-same f g (placesIn Strict f x e) key (texts-alike x e low fits s) ∙ ap (λ (ps : List Place). valueFound g (findOf Strict g ps key)) (places-alike x e s)
 
   -- ---- in an accepted image the area of each part lies in it
-  module _ (ok : Rattle.image.specs.Image.imageOf false f ≡ Accepted) where
+  module _ (ok : Rattle.image.specs.Image.imageOf Strict Read f ≡ Accepted) where
     file-strings : AlikeStrings f g (32 + roomOf f) (traceAt f 0)
     file-strings =
-        let some = some-trace f ok in
+        let some = some-trace Strict f ok in
         let z : stringsEnd f ≡ traceAt f 0 = rw (ne-eqb (countOf f) 0 (omega arith)) in
         rw z at (a .strings)
 
     on-area : {A : Type 0} (none : A) (p q : ℕ → ℕ → A) → ((x e : ℕ) → x ≤ e → e ≤ length f → AlikeStrings f g x e → p x e ≡ q x e) → (z : ℤ)
         → onArea (areaAsked f z) none p ≡ onArea (areaAsked g z) none q
-    unfolding areaOf
+    unfolding areaNamed
     on-area none p q h z = rw (← same-traces a) (go (whoseOf z (countOf f)) refl)
       where
-        go : (w : Whose) → whoseOf z (countOf f) ≡ w → onArea (areaOf f w) none p ≡ onArea (areaOf g w) none q
+        go : (w : Whose) → whoseOf z (countOf f) ≡ w → onArea (areaNamed f w) none p ≡ onArea (areaNamed g w) none q
         go Whole e =
-            let b = area-fits f ok z (32 + roomOf f) (traceAt f 0) (rw e) in
-            h (32 + roomOf f) (traceAt f 0) (b .0) (b .1) file-strings ∙ ap₂ q (ap (λ (m : ℕ). 32 + m) (same-room a)) (at-same 0 (some-trace f ok))
+            let b = area-fits Strict f ok z (32 + roomOf f) (traceAt f 0) (rw e) in
+            h (32 + roomOf f) (traceAt f 0) (b .0) (b .1) file-strings ∙ ap₂ q (ap (λ (m : ℕ). 32 + m) (same-room a)) (at-same 0 (some-trace Strict f ok))
         go (One k) e =
             let low = whose-trace z (countOf f) k e .1 in
-            let b = area-fits f ok z (traceAt f k + 32) (dataAt (highFirst f) f (traceAt f k)) (rw e) in
+            let b = area-fits Strict f ok z (traceAt f k + 32) (dataAt (highFirst f) f (traceAt f k)) (rw e) in
             h (traceAt f k + 32) (dataAt (highFirst f) f (traceAt f k)) (b .0) (b .1) (a .traces k low .strings)
             ∙ ap₂ q (ap (λ (m : ℕ). m + 32) (at-same k low)) (begin-same k low)
         go Nobody e = refl
@@ -125,22 +129,22 @@ module _ {f g : List ℕ} (a : Alike f g) where
       block = part (dataAt (highFirst f) f (traceAt f k)) (endAt (highFirst f) f (traceAt f k)) g
 
       integers-alike : samplesOf f k ≡ samplesOf g k
-      unfolding samplesOf dataOf
+      unfolding samplesIn dataOf traceBlockOf endAt
       integers-alike =
-          samples-same (codeAt f k) (highFirst f) (dataOf f k) block (countAt f k) (a .traces k low .samples) (trace-blocked f ok k low .groups)
-          ∙ rw (code-same k low, count-same k low, begin-same k low, end-same k low, same-order a)
+          samples-same (codeAt f k) (highFirst f) (dataOf f k) block (countAt f k) (a .traces k low .samples) (trace-blocked Strict f ok k low .groups)
+          ∙ rw (code-same k low, count-same k low, end-same k low, begin-same k low, same-order a)
 
       patterns-alike : patternsOf f k ≡ patternsOf g k
-      unfolding patternsOf dataOf
+      unfolding patternsIn dataOf traceBlockOf endAt
       patterns-alike =
           patterns-same (codeAt f k) (highFirst f) (dataOf f k) block (countAt f k) (a .traces k low .samples)
-          ∙ rw (code-same k low, count-same k low, begin-same k low, end-same k low, same-order a)
+          ∙ rw (code-same k low, count-same k low, end-same k low, begin-same k low, same-order a)
 
       classes-alike : classesOf f k ≡ classesOf g k
-      unfolding classesOf dataOf
+      unfolding classesIn dataOf traceBlockOf endAt
       classes-alike =
           classes-same (codeAt f k) (highFirst f) (dataOf f k) block (countAt f k) (a .traces k low .samples)
-          ∙ rw (code-same k low, count-same k low, begin-same k low, end-same k low, same-order a)
+          ∙ rw (code-same k low, count-same k low, end-same k low, begin-same k low, same-order a)
 
 -- ---- the answers. Rules out a question that looks at a byte which document 01 says is ignored.
 
@@ -149,39 +153,39 @@ through-area h Outside none p = refl
 through-area h (From x e) none p = refl
 
 module _ (xs ys : List ℕ) (n : ℕ) (fx : n ≤ length xs) (fy : n ≤ length ys) (a : Alike (take n xs) (take n ys)) where
-  pub alike-check : (grow : Bool) → checkOf grow xs n ≡ checkOf grow ys n
+  pub alike-check : (purpose : Purpose) → checkOf Strict purpose xs n ≡ checkOf Strict purpose ys n
   unfolding checkOf
-  alike-check grow = rw (le-ltb (length xs) n fx, le-ltb (length ys) n fy, same-image a grow)
+  alike-check purpose = rw (le-ltb (length xs) n fx, le-ltb (length ys) n fy, same-image a purpose)
 
-  on-check : {A : Type 0} (bad : Refusal → A) (p q : A) → (Rattle.image.specs.Image.imageOf false (take n xs) ≡ Accepted → p ≡ q)
-      → asked bad (checkOf false xs n) p ≡ asked bad (checkOf false ys n) q
-  on-check bad p q h = rw (← alike-check false) (go (checkOf false xs n) refl)
+  on-check : {A : Type 0} (bad : Refusal → A) (p q : A) → (Rattle.image.specs.Image.imageOf Strict Read (take n xs) ≡ Accepted → p ≡ q)
+      → asked bad (checkOf Strict Read xs n) p ≡ asked bad (checkOf Strict Read ys n) q
+  on-check bad p q h = rw (← alike-check Read) (go (checkOf Strict Read xs n) refl)
     where
-      go : (v : Verdict) → checkOf false xs n ≡ v → asked bad v p ≡ asked bad v q
-      go Accepted e = h (checked xs n e .image)
+      go : (v : Verdict) → checkOf Strict Read xs n ≡ v → asked bad v p ≡ asked bad v q
+      go Accepted e = h (checked Strict xs n e .image)
       go (Refused r) e = refl
 
-  pub alike-file : fileAnswer xs n ≡ fileAnswer ys n
-  unfolding fileAnswer
+  pub alike-file : fileAnswer Strict xs n ≡ fileAnswer Strict ys n
+  unfolding fileAnswer fileBlockOf
   alike-file = on-check file.Refused _ _ (λ ok. rw (same-order a, same-room a, same-traces a, same-size a, a .line-size))
 
-  pub alike-trace : (z : ℤ) → traceAnswer xs n z ≡ traceAnswer ys n z
+  pub alike-trace : (z : ℤ) → traceAnswer Strict xs n z ≡ traceAnswer Strict ys n z
   unfolding traceAnswer
   alike-trace z = on-check trace.Refused _ _ (λ ok. on-trace a _ _ _ (λ k low. ap trace.Is (block-same a k low)) z)
 
-  pub alike-count : (z : ℤ) → countAnswer xs n z ≡ countAnswer ys n z
+  pub alike-count : (z : ℤ) → countAnswer Strict xs n z ≡ countAnswer Strict ys n z
   unfolding countAnswer
   alike-count z = on-check count.Refused _ _ (λ ok. on-area a ok _ _ _ (λ x e low fits s. ap (λ (ps : List Place). count.Is (length ps)) (places-alike a x e s)) z)
 
-  pub alike-nth : (z : ℤ) (i : ℕ) → nthAnswer xs n z i ≡ nthAnswer ys n z i
+  pub alike-nth : (z : ℤ) (i : ℕ) → nthAnswer Strict xs n z i ≡ nthAnswer Strict ys n z i
   unfolding nthAnswer
   alike-nth z i = on-check string.Refused _ _ (λ ok. on-area a ok _ _ _ (λ x e low fits s. ap (λ (ps : List Place). there (nthOf ps i)) (places-alike a x e s)) z)
 
-  pub alike-find : (z : ℤ) (key : List ℕ) → findAnswer xs n z key ≡ findAnswer ys n z key
+  pub alike-find : (z : ℤ) (key : List ℕ) → findAnswer Strict xs n z key ≡ findAnswer Strict ys n z key
   unfolding findAnswer
   alike-find z key = on-check string.Refused _ _ (λ ok. on-area a ok _ _ _ (λ x e low fits s. ap there (find-alike a x e key low fits s)) z)
 
-  pub alike-keyword : (z : ℤ) (key : List ℕ) → keywordAnswer xs n z key ≡ keywordAnswer ys n z key
+  pub alike-keyword : (z : ℤ) (key : List ℕ) → keywordAnswer Strict xs n z key ≡ keywordAnswer Strict ys n z key
   unfolding keywordAnswer
   alike-keyword z key = ap yesOrNo (alike-find z key)
 
@@ -189,38 +193,38 @@ module _ (xs ys : List ℕ) (n : ℕ) (fx : n ≤ length xs) (fy : n ≤ length 
   through-check h bad Accepted p = refl
   through-check h bad (Refused r) p = refl
 
-  pub alike-value : (z : ℤ) (key : List ℕ) → valueAnswer xs n z key ≡ valueAnswer ys n z key
+  pub alike-value : (z : ℤ) (key : List ℕ) → valueAnswer Strict xs n z key ≡ valueAnswer Strict ys n z key
   unfolding valueAnswer findAnswer
   alike-value z key =
       let f : List ℕ = take n xs in
       let g : List ℕ = take n ys in
-      through-check (valueThere f) string.Refused (checkOf false xs n) _
+      through-check (valueThere f) string.Refused (checkOf Strict Read xs n) _
       ∙ on-check (λ r. []) _ _
       (λ ok.
       through-area (valueThere f) (areaAsked f z) (string.Refused noTrace) _
       ∙ on-area a ok [] _ _
-      (λ x e low fits s. found-value f (findOf f (placesIn f x e) key) ∙ value-alike a x e key low fits s ∙ sym (found-value g (findOf g (placesIn g x e) key))) z
+      (λ x e low fits s. found-value f (findOf Strict f (placesIn Strict f x e) key) ∙ value-alike a x e key low fits s ∙ sym (found-value g (findOf Strict g (placesIn Strict g x e) key))) z
       ∙ sym (through-area (valueThere g) (areaAsked g z) (string.Refused noTrace) _))
-      ∙ sym (through-check (valueThere g) string.Refused (checkOf false ys n) _)
+      ∙ sym (through-check (valueThere g) string.Refused (checkOf Strict Read ys n) _)
 
-  pub alike-number : (z : ℤ) (key : List ℕ) → numberAnswer xs n z key ≡ numberAnswer ys n z key
+  pub alike-number : (z : ℤ) (key : List ℕ) → numberAnswer Strict xs n z key ≡ numberAnswer Strict ys n z key
   unfolding numberAnswer
   alike-number z key = rw (alike-find z key, alike-value z key)
 
-  pub alike-double : (z : ℤ) (key : List ℕ) → doubleAnswer xs n z key ≡ doubleAnswer ys n z key
+  pub alike-double : (z : ℤ) (key : List ℕ) → doubleAnswer Strict xs n z key ≡ doubleAnswer Strict ys n z key
   unfolding doubleAnswer
   alike-double z key = rw (alike-find z key, alike-value z key)
 
-  pub alike-location : (z : ℤ) (key : List ℕ) → locationAnswer xs n z key ≡ locationAnswer ys n z key
+  pub alike-location : (z : ℤ) (key : List ℕ) → locationAnswer Strict xs n z key ≡ locationAnswer Strict ys n z key
   unfolding locationAnswer
   alike-location z key = rw (alike-find z key, alike-value z key)
 
-  pub alike-integers : (z : ℤ) (s : ℕ) → integersAnswer xs n z s ≡ integersAnswer ys n z s
-  unfolding integersAnswer integersRows
+  pub alike-integers : (z : ℤ) (s : ℕ) → integersAnswer Strict xs n z s ≡ integersAnswer Strict ys n z s
+  unfolding integersAnswer integersVerdict traceBlockOf
   alike-integers z s = on-check Refused _ _ (λ ok. on-trace a _ _ _ (λ k low. rw (code-same a k low, count-same a k low)) z)
 
-  pub alike-bits : (z : ℤ) (s c : ℕ) → bitsAnswer xs n z s c ≡ bitsAnswer ys n z s c
-  unfolding bitsAnswer bitsRows
+  pub alike-bits : (z : ℤ) (s c : ℕ) → bitsAnswer Strict xs n z s c ≡ bitsAnswer Strict ys n z s c
+  unfolding bitsAnswer bitsVerdict traceBlockOf
   alike-bits z s c = on-check Refused _ _ (λ ok. on-trace a _ _ _ (λ k low. rw (code-same a k low, count-same a k low)) z)
 
   -- a lent row that was filled is filled with the same
@@ -228,20 +232,20 @@ module _ (xs ys : List ℕ) (n : ℕ) (fx : n ≤ length xs) (fy : n ≤ length 
   kept-same Accepted w p q old e h = rw (← e) (h refl)
   kept-same (Refused r) w p q old e h = rw (← e)
 
-  pub alike-integers-left : (z : ℤ) (row : List ℤ) → integersLeft xs n z row ≡ integersLeft ys n z row
+  pub alike-integers-left : (z : ℤ) (row : List ℤ) → integersLeft Strict xs n z row ≡ integersLeft Strict ys n z row
   unfolding integersLeft
   alike-integers-left z row =
       kept-same _ _ _ _ row (alike-integers z (length row))
-      (λ e. (let k = integers-accepted xs n z (length row) e .0 in rw (k .number) (integers-alike a (checked xs n (k .accepted) .image) (k .k) (k .low))))
+      (λ e. (let k = integers-accepted Strict xs n z (length row) e .0 in rw (k .number) (integers-alike a (checked Strict xs n (k .accepted) .image) (k .k) (k .low))))
 
-  pub alike-patterns-left : (z : ℤ) (row classes : List ℕ) → patternsLeft xs n z row classes ≡ patternsLeft ys n z row classes
+  pub alike-patterns-left : (z : ℤ) (row classes : List ℕ) → patternsLeft Strict xs n z row classes ≡ patternsLeft Strict ys n z row classes
   unfolding patternsLeft
   alike-patterns-left z row classes =
       kept-same _ _ _ _ row (alike-bits z (length row) (length classes))
-      (λ e. (let k = bits-accepted xs n z (length row) (length classes) e .0 in rw (k .number) (patterns-alike a (checked xs n (k .accepted) .image) (k .k) (k .low))))
+      (λ e. (let k = bits-accepted Strict xs n z (length row) (length classes) e .0 in rw (k .number) (patterns-alike a (checked Strict xs n (k .accepted) .image) (k .k) (k .low))))
 
-  pub alike-classes-left : (z : ℤ) (row classes : List ℕ) → classesLeft xs n z row classes ≡ classesLeft ys n z row classes
+  pub alike-classes-left : (z : ℤ) (row classes : List ℕ) → classesLeft Strict xs n z row classes ≡ classesLeft Strict ys n z row classes
   unfolding classesLeft
   alike-classes-left z row classes =
       kept-same _ _ _ _ classes (alike-bits z (length row) (length classes))
-      (λ e. (let k = bits-accepted xs n z (length row) (length classes) e .0 in rw (k .number) (classes-alike a (checked xs n (k .accepted) .image) (k .k) (k .low))))
+      (λ e. (let k = bits-accepted Strict xs n z (length row) (length classes) e .0 in rw (k .number) (classes-alike a (checked Strict xs n (k .accepted) .image) (k .k) (k .low))))

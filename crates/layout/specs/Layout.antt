@@ -6,6 +6,7 @@ use mathlib.Core.List.{List, [], _∷_, _++_}
 use Prim.Native.Nat.{ℕ, _+_, _*_}
 use lib.IntN.{ℤ}
 use lib.ListN.{length, replicate}
+use Rattle.block.specs.Block.{traceMark}
 use Rattle.word.specs.Word.{bytesOf}
 use Rattle.refusal.specs.Rows.{pick}
 use Rattle.encode.specs.declared.Fit.{Fit}
@@ -55,11 +56,11 @@ pub record Trace : Type 0 where
   pub code : ℕ
   pub samples : Samples
 
-abbrev pub ofIntegers : List ℕ → ℕ → List ℤ → Trace
-ofIntegers sheet code row = record { sheet = sheet; code = code; samples = integers row }
+abbrev pub integersTrace : List ℕ → ℕ → List ℤ → Trace
+integersTrace sheet code row = record { sheet = sheet; code = code; samples = integers row }
 
-abbrev pub ofPatterns : List ℕ → ℕ → List ℕ → Trace
-ofPatterns sheet code row = record { sheet = sheet; code = code; samples = patterns row }
+abbrev pub patternsTrace : List ℕ → ℕ → List ℕ → Trace
+patternsTrace sheet code row = record { sheet = sheet; code = code; samples = patterns row }
 
 unfoldable pub count : Samples → ℕ
 count (integers row) = length row
@@ -82,7 +83,7 @@ samplesData code high (patterns row) = bitsData code high row
 
 -- "4422h, block size B (2 bytes), data size D (4), sample count S (4), format code (1), reserved to byte 31"
 unfoldable pub traceBlock : Bool → ℕ → ℕ → ℕ → ℕ → List ℕ
-traceBlock high b d s code = bytesOf 2 high 17442 ++ (bytesOf 2 high b ++ (bytesOf 4 high d ++ (bytesOf 4 high s ++ (code ∷ replicate 19 0))))
+traceBlock high b d s code = bytesOf 2 high traceMark ++ (bytesOf 2 high b ++ (bytesOf 4 high d ++ (bytesOf 4 high s ++ (code ∷ replicate 19 0))))
 
 -- B: the block with its strings. D: "the needed bytes rounded up to 4"
 abbrev pub blockBytes : List ℕ → List ℕ → Trace → ℕ

@@ -21,7 +21,7 @@ use Rattle.sheet.specs.Area.{areaOf, areaSize, measuredOf}
 use Rattle.sheet.specs.Sizes.{length-area}
 use Rattle.area.specs.Spelling.{measured-size}
 use Rattle.head.specs.Head.{highFirst, revisionOf, roomOf, countOf, terminatorAt, stringEnd, lineEnd}
-use Rattle.block.specs.Block.{markAt, blockSize, dataSize, sampleCount, formatCode}
+use Rattle.block.specs.Block.{traceMark, markAt, blockSize, dataSize, sampleCount, formatCode}
 use Rattle.layout.specs.Layout.{orderMark, plainEnds, nul, lineFeed, fileBlock, startImage, startSize, Trace, Samples, integers, patterns, count, fitting, samplesData, traceBlock, blockBytes, dataBytes, traceSize, traceBytes}
 
 -- ---- a file block
@@ -197,37 +197,37 @@ byte-behind p q k at h = ap (λ (j : ℕ). getD (p ++ q) (j + at) 0) (sym h) ∙
 
 module _ (high : Bool) (b d s code : ℕ) (rest : List ℕ) where
   pieces : traceBlock high b d s code ++ rest
-      ≡ bytesOf 2 high 17442 ++ (bytesOf 2 high b ++ (bytesOf 4 high d ++ (bytesOf 4 high s ++ (code ∷ (replicate 19 0 ++ rest)))))
+      ≡ bytesOf 2 high traceMark ++ (bytesOf 2 high b ++ (bytesOf 4 high d ++ (bytesOf 4 high s ++ (code ∷ (replicate 19 0 ++ rest)))))
   unfolding traceBlock
   pieces = simp append-assoc
 
-  pub block-mark : wordAt 2 high (traceBlock high b d s code ++ rest) 0 ≡ 17442
+  pub block-mark : wordAt 2 high (traceBlock high b d s code ++ rest) 0 ≡ traceMark
   block-mark =
       ap (λ (r : List ℕ). wordAt 2 high r 0) pieces
-      ∙ word-among 2 high 17442 [] (bytesOf 2 high b ++ (bytesOf 4 high d ++ (bytesOf 4 high s ++ (code ∷ (replicate 19 0 ++ rest))))) 0 refl (omega arith)
+      ∙ word-among 2 high traceMark [] (bytesOf 2 high b ++ (bytesOf 4 high d ++ (bytesOf 4 high s ++ (code ∷ (replicate 19 0 ++ rest))))) 0 refl (omega arith)
 
   pub block-size : b < 65536 → wordAt 2 high (traceBlock high b d s code ++ rest) 2 ≡ b
   block-size h =
       ap (λ (r : List ℕ). wordAt 2 high r 2) pieces
-      ∙ word-among 2 high b (bytesOf 2 high 17442) (bytesOf 4 high d ++ (bytesOf 4 high s ++ (code ∷ (replicate 19 0 ++ rest)))) 2 (length-bytesOf 2 high 17442) h
+      ∙ word-among 2 high b (bytesOf 2 high traceMark) (bytesOf 4 high d ++ (bytesOf 4 high s ++ (code ∷ (replicate 19 0 ++ rest)))) 2 (length-bytesOf 2 high traceMark) h
 
   pub block-data : d < 4294967296 → wordAt 4 high (traceBlock high b d s code ++ rest) 4 ≡ d
   block-data h =
       ap (λ (r : List ℕ). wordAt 4 high r 4) pieces
-      ∙ word-behind 4 high (bytesOf 2 high 17442) (bytesOf 2 high b ++ (bytesOf 4 high d ++ (bytesOf 4 high s ++ (code ∷ (replicate 19 0 ++ rest))))) 2 2 (length-bytesOf 2 high 17442)
+      ∙ word-behind 4 high (bytesOf 2 high traceMark) (bytesOf 2 high b ++ (bytesOf 4 high d ++ (bytesOf 4 high s ++ (code ∷ (replicate 19 0 ++ rest))))) 2 2 (length-bytesOf 2 high traceMark)
       ∙ word-among 4 high d (bytesOf 2 high b) (bytesOf 4 high s ++ (code ∷ (replicate 19 0 ++ rest))) 2 (length-bytesOf 2 high b) h
 
   pub block-count : s < 4294967296 → wordAt 4 high (traceBlock high b d s code ++ rest) 8 ≡ s
   block-count h =
       ap (λ (r : List ℕ). wordAt 4 high r 8) pieces
-      ∙ word-behind 4 high (bytesOf 2 high 17442) (bytesOf 2 high b ++ (bytesOf 4 high d ++ (bytesOf 4 high s ++ (code ∷ (replicate 19 0 ++ rest))))) 2 6 (length-bytesOf 2 high 17442)
+      ∙ word-behind 4 high (bytesOf 2 high traceMark) (bytesOf 2 high b ++ (bytesOf 4 high d ++ (bytesOf 4 high s ++ (code ∷ (replicate 19 0 ++ rest))))) 2 6 (length-bytesOf 2 high traceMark)
       ∙ word-behind 4 high (bytesOf 2 high b) (bytesOf 4 high d ++ (bytesOf 4 high s ++ (code ∷ (replicate 19 0 ++ rest)))) 2 4 (length-bytesOf 2 high b)
       ∙ word-among 4 high s (bytesOf 4 high d) (code ∷ (replicate 19 0 ++ rest)) 4 (length-bytesOf 4 high d) h
 
   pub block-code : getD (traceBlock high b d s code ++ rest) 12 0 ≡ code
   block-code =
       ap (λ (r : List ℕ). getD r 12 0) pieces
-      ∙ byte-behind (bytesOf 2 high 17442) (bytesOf 2 high b ++ (bytesOf 4 high d ++ (bytesOf 4 high s ++ (code ∷ (replicate 19 0 ++ rest))))) 2 10 (length-bytesOf 2 high 17442)
+      ∙ byte-behind (bytesOf 2 high traceMark) (bytesOf 2 high b ++ (bytesOf 4 high d ++ (bytesOf 4 high s ++ (code ∷ (replicate 19 0 ++ rest))))) 2 10 (length-bytesOf 2 high traceMark)
       ∙ byte-behind (bytesOf 2 high b) (bytesOf 4 high d ++ (bytesOf 4 high s ++ (code ∷ (replicate 19 0 ++ rest)))) 2 8 (length-bytesOf 2 high b)
       ∙ byte-behind (bytesOf 4 high d) (bytesOf 4 high s ++ (code ∷ (replicate 19 0 ++ rest))) 4 4 (length-bytesOf 4 high d)
       ∙ byte-behind (bytesOf 4 high s) (code ∷ (replicate 19 0 ++ rest)) 4 0 (length-bytesOf 4 high s)
@@ -257,7 +257,7 @@ trace-data high t u x h =
 -- format code (1), reserved to byte 31, strings from byte 32 to B. Data occupies D bytes from p+B"
 
 pub record Stands (high : Bool) (t u f : List ℕ) (p : ℕ) (x : Trace) : Type 0 where
-  pub mark : markAt high f p ≡ 17442
+  pub mark : markAt high f p ≡ traceMark
   pub block : blockSize high f p ≡ blockBytes t u x
   pub bytes : dataSize high f p ≡ dataBytes x
   pub number : sampleCount high f p ≡ count (x .samples)

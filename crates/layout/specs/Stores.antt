@@ -8,6 +8,7 @@ use native.Mathlib.Omega.{arith}
 use lib.IntN.{ℤ}
 use lib.ListN.{length, replicate, length-append, length-replicate}
 use borrow.Author.Tests.{eqb-true}
+use Rattle.block.specs.Block.{traceMark}
 use Rattle.word.specs.Put.{put, put-append}
 use Rattle.word.specs.Word.{bytesOf}
 use Rattle.word.specs.WordLaws.{length-bytesOf}
@@ -20,7 +21,7 @@ use Rattle.sheet.specs.declared.Measured.the-variants as measured
 use Rattle.sheet.specs.Area.{areaOf, areaSize, measuredOf}
 use Rattle.sheet.specs.Sizes.{length-area}
 use Rattle.area.specs.Spelling.{measured-size}
-use Rattle.layout.specs.Layout.{orderMark, plainEnds, nul, lineFeed, fileBlock, startImage, Trace, Samples, integers, patterns, ofIntegers, ofPatterns, count, fitting, unfit, samplesData, traceBlock, dataBytes, traceBytes}
+use Rattle.layout.specs.Layout.{orderMark, plainEnds, nul, lineFeed, fileBlock, startImage, Trace, Samples, integers, patterns, integersTrace, patternsTrace, count, fitting, unfit, samplesData, traceBlock, dataBytes, traceBytes}
 use Rattle.layout.specs.LayoutLaws.{length-mark, length-fileBlock, length-traceBlock, room-most}
 
 -- ---- a start
@@ -60,13 +61,13 @@ start-put high slots sheet xs =
 -- ---- the bytes of a trace
 
 pub block-put : (high : Bool) (b d s code : ℕ) (xs : List ℕ)
-    → put (put (put (put (put (put xs 0 (bytesOf 2 high 17442)) 2 (bytesOf 2 high b)) 4 (bytesOf 4 high d)) 8 (bytesOf 4 high s)) 12 (code ∷ [])) 13 (replicate 19 0)
+    → put (put (put (put (put (put xs 0 (bytesOf 2 high traceMark)) 2 (bytesOf 2 high b)) 4 (bytesOf 4 high d)) 8 (bytesOf 4 high s)) 12 (code ∷ [])) 13 (replicate 19 0)
     ≡ put xs 0 (traceBlock high b d s code)
 unfolding traceBlock
 block-put high b d s code xs =
     sym (rw (
-      put-append (bytesOf 2 high 17442) (bytesOf 2 high b ++ (bytesOf 4 high d ++ (bytesOf 4 high s ++ (code ∷ replicate 19 0)))) xs 0,
-      length-bytesOf 2 high 17442,
+      put-append (bytesOf 2 high traceMark) (bytesOf 2 high b ++ (bytesOf 4 high d ++ (bytesOf 4 high s ++ (code ∷ replicate 19 0)))) xs 0,
+      length-bytesOf 2 high traceMark,
       put-append (bytesOf 2 high b) (bytesOf 4 high d ++ (bytesOf 4 high s ++ (code ∷ replicate 19 0))),
       length-bytesOf 2 high b,
       put-append (bytesOf 4 high d) (bytesOf 4 high s ++ (code ∷ replicate 19 0)),
@@ -150,12 +151,12 @@ module _ {t u sheet : List ℕ} {size code space : ℕ} where
 
 pub integers-put : (high : Bool) (t u : List ℕ) (size : ℕ) (sheet : List ℕ) (code : ℕ) (row : List ℤ) (xs : List ℕ) → measuredOf t u sheet ≡ measured.Size size
     → put (put xs 0 (traceBlock high (32 + size) (room code (length row)) (length row) code ++ areaOf high t u sheet)) (32 + size) (integersData code high row)
-    ≡ put xs 0 (traceBytes high t u (ofIntegers sheet code row))
+    ≡ put xs 0 (traceBytes high t u (integersTrace sheet code row))
 unfolding count samplesData
-integers-put high t u size sheet code row xs m = trace-put high t u size (ofIntegers sheet code row) xs m
+integers-put high t u size sheet code row xs m = trace-put high t u size (integersTrace sheet code row) xs m
 
 pub bits-put : (high : Bool) (t u : List ℕ) (size : ℕ) (sheet : List ℕ) (code : ℕ) (row xs : List ℕ) → measuredOf t u sheet ≡ measured.Size size
     → put (put xs 0 (traceBlock high (32 + size) (room code (length row)) (length row) code ++ areaOf high t u sheet)) (32 + size) (bitsData code high row)
-    ≡ put xs 0 (traceBytes high t u (ofPatterns sheet code row))
+    ≡ put xs 0 (traceBytes high t u (patternsTrace sheet code row))
 unfolding count samplesData
-bits-put high t u size sheet code row xs m = trace-put high t u size (ofPatterns sheet code row) xs m
+bits-put high t u size sheet code row xs m = trace-put high t u size (patternsTrace sheet code row) xs m

@@ -16,7 +16,7 @@ ghost use Rattle.encode.specs.Unfit.{unfitIntegers};
 ghost use Rattle.encode.specs.Write.{integersData, bitsData};
 ghost use Rattle.sheet.specs.Area.{areaOf, measuredOf};
 ghost use Rattle.area.specs.Writing.{Writable};
-ghost use Rattle.layout.specs.Layout.{orderMark, plainEnds, nul, lineFeed, fileBlock, startImage, traceBlock, traceBytes, integers, patterns, ofIntegers, ofPatterns};
+ghost use Rattle.layout.specs.Layout.{orderMark, plainEnds, nul, lineFeed, fileBlock, startImage, traceBlock, traceBytes, integers, patterns, integersTrace, patternsTrace};
 ghost use Rattle.layout.specs.Stores.{Ready};
 
 // Bytes 0 and 1.
@@ -159,7 +159,7 @@ pub fn trace_integers(
     row: &[i32],
 )
     requires { ⌜ Ready (now t) (now u) (now sheet) size code (integers (now row)) (length (now part)) ⌝ }
-    ensures { λ _. ⌜ now (part .exit) ≡ put (now (part .entry)) 0 (traceBytes high (now (t .entry)) (now (u .entry)) (ofIntegers (now (sheet .entry)) code (now (row .entry)))) ⌝ }
+    ensures { λ _. ⌜ now (part .exit) ≡ put (now (part .entry)) 0 (traceBytes high (now (t .entry)) (now (u .entry)) (integersTrace (now (sheet .entry)) code (now (row .entry)))) ⌝ }
 {
     let s = row.len() as u32;
     let d = sample::room(code, s) as u32;
@@ -178,7 +178,7 @@ pub fn trace_bits(
     row: &[u64],
 )
     requires { ⌜ Ready (now t) (now u) (now sheet) size code (patterns (now row)) (length (now part)) ⌝ }
-    ensures { λ _. ⌜ now (part .exit) ≡ put (now (part .entry)) 0 (traceBytes high (now (t .entry)) (now (u .entry)) (ofPatterns (now (sheet .entry)) code (now (row .entry)))) ⌝ }
+    ensures { λ _. ⌜ now (part .exit) ≡ put (now (part .entry)) 0 (traceBytes high (now (t .entry)) (now (u .entry)) (patternsTrace (now (sheet .entry)) code (now (row .entry)))) ⌝ }
 {
     let s = row.len() as u32;
     let d = sample::room(code, s) as u32;

@@ -5,6 +5,8 @@ use mathlib.Core.List.{List, [], _∷_, _++_}
 use Prim.Native.Nat.{ℕ, zero, suc, _+_, _*_, _≤_}
 use lib.ListN.{length}
 use lib.Dec.{ltb}
+use Rattle.head.specs.declared.Purpose.the-variants.{Read}
+use Rattle.text.specs.declared.Manner.the-variants.{Strict}
 use Rattle.word.specs.Part.{part}
 use Rattle.word.specs.Put.{put}
 use Rattle.refusal.specs.Rows.{pick}
@@ -41,7 +43,7 @@ stringsText p u (s ∷ ss) = linesText p (s .key) (valuesOf u (s .key) (s .value
 
 -- the strings of the bytes from a to e of the file f
 unfoldable pub stringsIn : List ℕ → ℕ → ℕ → List Str
-stringsIn f a e = strsIn f (placesOf (highFirst f) (stringEnd f) (part a e f) a)
+stringsIn f a e = strsIn f (placesOf Strict (highFirst f) (stringEnd f) (part a e f) a)
 
 -- "each trace's T line with its strings"
 unfoldable pub traceText : List ℕ → ℕ → List ℕ
@@ -66,7 +68,7 @@ checkedText (Refused r) f = refusalLine r
 
 -- "19 the listing program's input exceeds 65,536 bytes, place 0"; "19 comes before all others"
 unfoldable pub listingOf : List ℕ → List ℕ
-listingOf input = pick (ltb 65536 (length input)) (refusalLine (refusal InputSize File 0)) (checkedText (checkOf false input (length input)) input)
+listingOf input = pick (ltb 65536 (length input)) (refusalLine (refusal InputSize File 0)) (checkedText (checkOf Strict Read input (length input)) input)
 
 -- ---- the answer: how many bytes were stored, or that the row lent may be too short. 16 bytes for each of the input's and 64 more are enough
 abbrev pub roomFor : ℕ → ℕ

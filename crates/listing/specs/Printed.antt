@@ -4,12 +4,13 @@ use mathlib.Core.Path.{_≡_}
 use mathlib.Core.List.{List}
 use Prim.Native.Nat.{ℕ, _≤_}
 use lib.ListN.{length}
+use Rattle.text.specs.declared.Manner.the-variants.{Strict}
 use Rattle.word.specs.Part.{part}
 use Rattle.strings.specs.Spelled.{Str, Spells}
 use Rattle.strings.specs.Paper.{spelled-places}
 use Rattle.head.specs.Head.{highFirst, stringEnd, lineEnd}
 use Rattle.listing.specs.Listing.{stringsIn}
 
-pub printed : (f : List ℕ) (a e : ℕ) (ss : List Str) → a ≤ e → e ≤ length f → Spells (highFirst f) (stringEnd f) (lineEnd f) ss (part a e f) → stringsIn f a e ≡ ss
+pub printed : (f : List ℕ) (a e : ℕ) (ss : List Str) → a ≤ e → e ≤ length f → Spells Strict (highFirst f) (stringEnd f) (lineEnd f) ss (part a e f) → stringsIn f a e ≡ ss
 unfolding stringsIn
-printed f a e ss low fits s = spelled-places f (stringEnd f) (lineEnd f) (highFirst f) a e ss low fits s
+printed f a e ss low fits s = spelled-places Strict f (stringEnd f) (lineEnd f) (highFirst f) a e ss low fits s

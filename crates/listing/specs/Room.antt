@@ -9,6 +9,8 @@ use lib.ListN.{length, take, drop, length-append, length-drop, length-take}
 use lib.Seq.{length-take-le}
 use lib.Dec.{leb}
 use borrow.Author.Tests.{leb-false}
+use Rattle.head.specs.declared.Purpose.the-variants.{Read}
+use Rattle.text.specs.declared.Manner.the-variants.{Strict}
 use Rattle.word.specs.Part.{part}
 use Rattle.refusal.specs.Rows.{pick}
 use Rattle.refusal.specs.declared.Part.{Part}
@@ -90,27 +92,27 @@ part-few : (a e : ℕ) (f : List ℕ) → length (part a e f) ≤ e - a
 part-few a e f = simp length-take (omega arith)
 
 strings-few : (p : Part) (u f : List ℕ) (m : ℕ) (high : Bool) (t l : List ℕ) (at : ℕ) → Small p → 0 < length u
-    → length (stringsText p u (strsIn f (placesFrom m high t l at))) ≤ 16 * length l
+    → length (stringsText p u (strsIn f (placesFrom Strict m high t l at))) ≤ 16 * length l
 unfolding placesFrom onText stringsText
 strings-few p u f zero high t l at s h = omega arith
-strings-few p u f (suc m) high t l at s h = go (frameOf high t l) refl (λ o. strings-few p u f m high t (drop o l) (at + o) s h)
+strings-few p u f (suc m) high t l at s h = go (frameOf Strict high t l) refl (λ o. strings-few p u f m high t (drop o l) (at + o) s h)
   where
-    go : (w : Frame) → frameOf high t l ≡ w
-        → ((o : ℕ) → length (stringsText p u (strsIn f (placesFrom m high t (drop o l) (at + o)))) ≤ 16 * length (drop o l))
-        → length (stringsText p u (strsIn f (onText w [] (λ o. placeOf t o l at ∷ placesFrom m high t (drop o l) (at + o))))) ≤ 16 * length l
+    go : (w : Frame) → frameOf Strict high t l ≡ w
+        → ((o : ℕ) → length (stringsText p u (strsIn f (placesFrom Strict m high t (drop o l) (at + o)))) ≤ 16 * length (drop o l))
+        → length (stringsText p u (strsIn f (onText w [] (λ o. placeOf t o l at ∷ placesFrom Strict m high t (drop o l) (at + o))))) ≤ 16 * length l
     go End e i = omega arith
     go (Broken r) e i = omega arith
-    go (Text o) e i = let b = place-fits high t l at o e in one-more o (placeOf t o l at) b (i o)
+    go (Text o) e i = let b = place-fits Strict high t l at o e in one-more o (placeOf t o l at) b (i o)
       where
-        one-more : (o : ℕ) (q : Place) → Fits at l q o → length (stringsText p u (strsIn f (placesFrom m high t (drop o l) (at + o)))) ≤ 16 * length (drop o l)
-            → length (linesText p (keyIn f q) (valuesOf u (keyIn f q) (valueIn f q)) ++ stringsText p u (strsIn f (placesFrom m high t (drop o l) (at + o)))) ≤ 16 * length l
+        one-more : (o : ℕ) (q : Place) → Fits at l q o → length (stringsText p u (strsIn f (placesFrom Strict m high t (drop o l) (at + o)))) ≤ 16 * length (drop o l)
+            → length (linesText p (keyIn f q) (valuesOf u (keyIn f q) (valueIn f q)) ++ stringsText p u (strsIn f (placesFrom Strict m high t (drop o l) (at + o)))) ≤ 16 * length l
         one-more o q b i =
             let k = part-few (q .key) (q .gap) f in
             let v = part-few (q .value) (q .end) f in
             let x = string-few p u (keyIn f q) (valueIn f q) s h in
-            let a = length-append (linesText p (keyIn f q) (valuesOf u (keyIn f q) (valueIn f q))) (stringsText p u (strsIn f (placesFrom m high t (drop o l) (at + o)))) in
+            let a = length-append (linesText p (keyIn f q) (valuesOf u (keyIn f q) (valueIn f q))) (stringsText p u (strsIn f (placesFrom Strict m high t (drop o l) (at + o)))) in
             let d = length-drop o l in
-            let n : 2 + (length (keyIn f q) + length (valueIn f q)) ≤ o = omega (arith, b .key, b .gap, b .value, b .end, b .last) in
+            let n : 2 + (length (keyIn f q) + length (valueIn f q)) ≤ o = omega (arith, b .key, b .inside .0, b .inside .1, b .inside .2, b .inside .3) in
             omega (arith, b .within, n, x, a, d, i)
 
 area-few : (p : Part) (u f : List ℕ) (a e : ℕ) → Small p → 0 < length u → length (stringsText p u (stringsIn f a e)) ≤ 16 * (e - a)
@@ -133,14 +135,14 @@ trace-line-few : (k code s : ℕ) → k < 100000 → code < 10 → s < 100000 �
 trace-line-few k code s a b c =
     omega (arith, five k a, one code b, five s c, length-trace k code s, length-ended k 9, length-ended code 9, length-ended s 10)
 
-module _ (f : List ℕ) (ok : imageOf false f ≡ Accepted) (size : 32 ≤ length f) (most : length f ≤ 65536) where
+module _ (f : List ℕ) (ok : imageOf Strict Read f ≡ Accepted) (size : 32 ≤ length f) (most : length f ≤ 65536) where
   counts : (roomOf f < 100000) × (countOf f < 100000)
-  counts = let h = image-headed false f ok in (omega (arith, h .fits), omega (arith, h .fits, h .count))
+  counts = let h = image-headed Strict Read f ok in (omega (arith, h .fits), omega (arith, h .fits, h .count))
 
   trace-few : (k : ℕ) → k < countOf f → length (traceText f k) ≤ 16 * blockSize (highFirst f) f (traceAt f k)
   unfolding traceText
   trace-few k low =
-      let q = trace-blocked f ok k low in
+      let q = trace-blocked Strict f ok k low in
       let c = counts .1 in
       let n = needed-low (formatCode f (traceAt f k)) (sampleCount (highFirst f) f (traceAt f k)) (q .code .0) (q .code .1) in
       let x = trace-line-few k (formatCode f (traceAt f k)) (sampleCount (highFirst f) f (traceAt f k)) (omega arith) (omega (arith, q .code .1)) (omega (arith, n, q .samples, q .data-fits)) in
@@ -155,11 +157,11 @@ module _ (f : List ℕ) (ok : imageOf false f ≡ Accepted) (size : 32 ≤ lengt
   traces-few zero k x e l h = omega arith
   traces-few (suc left) k x e l h =
       let low : k < countOf f = omega arith in
-      let q = trace-blocked f ok k low in
+      let q = trace-blocked Strict f ok k low in
       let t = trace-few k low in
       let y = h (omega arith) in
       let n : endBefore f (k + 1) ≡ traceAt f k + blockSize (highFirst f) f (traceAt f k) + dataSize (highFirst f) f (traceAt f k) = before-next f k in
-      let i = traces-few left (k + 1) (endBefore f (k + 1)) (omega arith) (omega (arith, n, q .data-fits)) (λ (g : 0 < left). trace-pointed f ok (k + 1) (omega arith) .behind) in
+      let i = traces-few left (k + 1) (endBefore f (k + 1)) (omega arith) (omega (arith, n, q .data-fits)) (λ (g : 0 < left). trace-pointed Strict f ok (k + 1) (omega arith) .behind) in
       let a = length-append (traceText f k) (tracesText f left (k + 1)) in
       omega (arith, t, i, a, n, y, q .data-fits)
 
@@ -167,8 +169,8 @@ module _ (f : List ℕ) (ok : imageOf false f ≡ Accepted) (size : 32 ≤ lengt
   unfolding fileText endBefore
   file-few =
       let c = counts in
-      let some = some-trace f ok in
-      let p = trace-pointed f ok 0 some in
+      let some = some-trace Strict f ok in
+      let p = trace-pointed Strict f ok 0 some in
       let h = length-head (highFirst f) (countOf f) (roomOf f) in
       let o = length-order (highFirst f) in
       let n = five (countOf f) (c .1) in
@@ -182,4 +184,4 @@ module _ (f : List ℕ) (ok : imageOf false f ≡ Accepted) (size : 32 ≤ lengt
       omega (arith, h, o, n, m, en, em, s, t, a, b, p .behind, p .fits)
     where
       traces-front : length (tracesText f (countOf f) 0) ≤ 16 * (length f - traceAt f 0)
-      traces-front = traces-few (countOf f) 0 (traceAt f 0) (omega arith) (omega (arith, trace-pointed f ok 0 (some-trace f ok) .fits)) (λ (g : 0 < countOf f). omega arith)
+      traces-front = traces-few (countOf f) 0 (traceAt f 0) (omega arith) (omega (arith, trace-pointed Strict f ok 0 (some-trace Strict f ok) .fits)) (λ (g : 0 < countOf f). omega arith)

@@ -8,6 +8,8 @@ use native.Mathlib.Omega.{arith}
 use lib.ListN.{length, take}
 use lib.Seq.{take-all}
 use borrow.Author.Tests.{lt-ltb, le-ltb}
+use Rattle.head.specs.declared.Purpose.the-variants.{Read}
+use Rattle.text.specs.declared.Manner.the-variants.{Strict}
 use Rattle.word.specs.Part.{part}
 use Rattle.word.specs.Put.{put}
 use Rattle.refusal.specs.Table.{refusal}
@@ -32,9 +34,9 @@ use Rattle.lines.specs.Lines.{headLine, traceLine, refusalLine}
 use Rattle.listing.specs.Listing.{stringsText, stringsIn, traceText, tracesText, fileText, checkedText, listingOf, roomFor, listAnswer, Within, listLeft}
 use Rattle.lines.specs.Wrote.{Room, Wrote, room-front, room-back, joined, first-room, second-room, both-wrote}
 
-module _ (f : List ℕ) (ok : imageOf false f ≡ Accepted) (size : 32 ≤ length f) where
+module _ (f : List ℕ) (ok : imageOf Strict Read f ≡ Accepted) (size : 32 ≤ length f) where
   pub ends-good : (goodTerminator f 8 ≡ true) × (goodTerminator f 11 ≡ true)
-  ends-good = let h = image-headed false f ok in (h .strings, h .lines)
+  ends-good = let h = image-headed Strict Read f ok in (h .strings, h .lines)
 
   pub line-some : (u : List ℕ) → u ≡ lineEnd f → 0 < length u
   line-some u e =
@@ -46,17 +48,17 @@ module _ (f : List ℕ) (ok : imageOf false f ≡ Accepted) (size : 32 ≤ lengt
   -- ---- a trace
   module _ (k : ℕ) (low : k < countOf f) (high : Bool) (eh : high ≡ highFirst f) where
     pub trace-slot : (36 + 4 * k ≤ length f) × (pointerOf high f k + 32 ≤ length f)
-    trace-slot = rw eh (pointer-slot f ok k low, trace-pointed f ok k low .fits)
+    trace-slot = rw eh (pointer-slot Strict f ok k low, trace-pointed Strict f ok k low .fits)
 
     module _ (b : TraceBlock) (eb : b ≡ traceBlockOf high f k) where
       pub trace-area : (b .p + 32 ≤ b .p + b .b) × (b .p + b .b ≤ length f)
       unfolding traceBlockOf
-      trace-area = let q = trace-blocked f ok k low in rw (eb, eh) (omega (arith, q .least), q .fits)
+      trace-area = let q = trace-blocked Strict f ok k low in rw (eb, eh) (omega (arith, q .least), q .fits)
 
       pub trace-text : (t u : List ℕ) → t ≡ stringEnd f → u ≡ lineEnd f
           → traceText f k
           ≡ traceLine k (b .code) (b .s)
-          ++ stringsText (Trace k) u (strsIn f (placesOf high t (part (b .p + 32) (b .p + b .b) f) (b .p + 32)))
+          ++ stringsText (Trace k) u (strsIn f (placesOf Strict high t (part (b .p + 32) (b .p + b .b) f) (b .p + 32)))
       unfolding traceText traceBlockOf stringsIn
       trace-text t u et eu = rw (et, eu, eb, eh)
 
@@ -64,24 +66,24 @@ module _ (f : List ℕ) (ok : imageOf false f ≡ Accepted) (size : 32 ≤ lengt
         pub trace-first : Room out at (traceLine k (b .code) (b .s))
         trace-first =
             first-room out at (traceText f k) (traceLine k (b .code) (b .s))
-            (stringsText (Trace k) (lineEnd f) (strsIn f (placesOf high (stringEnd f) (part (b .p + 32) (b .p + b .b) f) (b .p + 32))))
+            (stringsText (Trace k) (lineEnd f) (strsIn f (placesOf Strict high (stringEnd f) (part (b .p + 32) (b .p + b .b) f) (b .p + 32))))
             (trace-text (stringEnd f) (lineEnd f) refl refl) room
 
         pub trace-second : (t u : List ℕ) → t ≡ stringEnd f → u ≡ lineEnd f → (r : ℕ) (ys : List ℕ) → Wrote out at (traceLine k (b .code) (b .s)) r ys
-            → Room ys r (stringsText (Trace k) u (strsIn f (placesOf high t (part (b .p + 32) (b .p + b .b) f) (b .p + 32))))
+            → Room ys r (stringsText (Trace k) u (strsIn f (placesOf Strict high t (part (b .p + 32) (b .p + b .b) f) (b .p + 32))))
         trace-second t u et eu r ys w =
             second-room out at (traceText f k) (traceLine k (b .code) (b .s))
-            (stringsText (Trace k) u (strsIn f (placesOf high t (part (b .p + 32) (b .p + b .b) f) (b .p + 32))))
+            (stringsText (Trace k) u (strsIn f (placesOf Strict high t (part (b .p + 32) (b .p + b .b) f) (b .p + 32))))
             (trace-text t u et eu) r ys room w
 
         pub trace-both : (t u : List ℕ) → t ≡ stringEnd f → u ≡ lineEnd f → (r : ℕ) (ys : List ℕ) (s : ℕ) (zs : List ℕ) → Wrote out at (traceLine k (b .code) (b .s)) r ys
-            → Wrote ys r (stringsText (Trace k) u (strsIn f (placesOf high t (part (b .p + 32) (b .p + b .b) f) (b .p + 32)))) s zs
+            → Wrote ys r (stringsText (Trace k) u (strsIn f (placesOf Strict high t (part (b .p + 32) (b .p + b .b) f) (b .p + 32)))) s zs
             → Wrote out at (traceText f k) s zs
         trace-both t u et eu r ys s zs w v = both-wrote out at (traceText f k) _ _ (trace-text t u et eu) r ys s zs w v
 
   -- ---- the file
   pub first-slot : 36 + 4 * 0 ≤ length f
-  first-slot = pointer-slot f ok 0 (some-trace f ok)
+  first-slot = pointer-slot Strict f ok 0 (some-trace Strict f ok)
 
   module _ (b : FileBlock) (eb : b ≡ fileBlockOf f) where
     pub count-told : b .n ≡ countOf f
@@ -90,17 +92,17 @@ module _ (f : List ℕ) (ok : imageOf false f ≡ Accepted) (size : 32 ≤ lengt
 
     pub room-told : (32 + b .m ≤ length f) × (4 * b .n ≤ b .m)
     unfolding fileBlockOf
-    room-told = let h = image-headed false f ok in rw eb (h .fits, omega (arith, h .count))
+    room-told = let h = image-headed Strict Read f ok in rw eb (h .fits, omega (arith, h .count))
 
     module _ (first : ℕ) (ef : first ≡ pointerOf (b .high) f 0) where
       pub file-area : (32 + b .m ≤ first) × (first ≤ length f)
       unfolding fileBlockOf endBefore
-      file-area = let q = trace-pointed f ok 0 (some-trace f ok) in rw (ef, eb) (q .behind, omega (arith, q .fits))
+      file-area = let q = trace-pointed Strict f ok 0 (some-trace Strict f ok) in rw (ef, eb) (q .behind, omega (arith, q .fits))
 
       pub file-text : (t u : List ℕ) → t ≡ stringEnd f → u ≡ lineEnd f
           → fileText f
           ≡ headLine (b .high) (b .n) (b .m)
-          ++ (stringsText File u (strsIn f (placesOf (b .high) t (part (32 + b .m) first f) (32 + b .m))) ++ tracesText f (b .n) 0)
+          ++ (stringsText File u (strsIn f (placesOf Strict (b .high) t (part (32 + b .m) first f) (32 + b .m))) ++ tracesText f (b .n) 0)
       unfolding fileText fileBlockOf stringsIn
       file-text t u et eu = rw (et, eu, ef, eb)
 
@@ -108,7 +110,7 @@ module _ (f : List ℕ) (ok : imageOf false f ≡ Accepted) (size : 32 ≤ lengt
       head = headLine (b .high) (b .n) (b .m)
 
       abbrev strings : List ℕ → List ℕ → List ℕ
-      strings t u = stringsText File u (strsIn f (placesOf (b .high) t (part (32 + b .m) first f) (32 + b .m)))
+      strings t u = stringsText File u (strsIn f (placesOf Strict (b .high) t (part (32 + b .m) first f) (32 + b .m)))
 
       module _ (out : List ℕ) (room : Room out 0 (fileText f)) where
         pub file-first : Room out 0 (headLine (b .high) (b .n) (b .m))
@@ -118,10 +120,10 @@ module _ (f : List ℕ) (ok : imageOf false f ≡ Accepted) (size : 32 ≤ lengt
           rest : Room ys r (strings t u ++ tracesText f (b .n) 0)
           rest = second-room out 0 (fileText f) head (strings t u ++ tracesText f (b .n) 0) (file-text t u et eu) r ys room w
 
-          pub file-second : Room ys r (stringsText File u (strsIn f (placesOf (b .high) t (part (32 + b .m) first f) (32 + b .m))))
+          pub file-second : Room ys r (stringsText File u (strsIn f (placesOf Strict (b .high) t (part (32 + b .m) first f) (32 + b .m))))
           file-second = room-front ys r (strings t u) (tracesText f (b .n) 0) rest
 
-          module _ (s : ℕ) (zs : List ℕ) (v : Wrote ys r (stringsText File u (strsIn f (placesOf (b .high) t (part (32 + b .m) first f) (32 + b .m)))) s zs) where
+          module _ (s : ℕ) (zs : List ℕ) (v : Wrote ys r (stringsText File u (strsIn f (placesOf Strict (b .high) t (part (32 + b .m) first f) (32 + b .m)))) s zs) where
             pub file-third : Room zs s (tracesText f (b .n) 0)
             file-third = room-back ys r (strings t u) (tracesText f (b .n) 0) s zs rest v
 
@@ -147,19 +149,19 @@ module _ (input out : List ℕ) where
     unfolding listingOf
     list-large h r new w f = told r new _ (rw (lt-ltb 65536 (length input) h)) w f
 
-    pub list-refused : length input ≤ 65536 → (x : Refusal) → checkOf false input (length input) ≡ Refused x → (r : ℕ) (new : List ℕ) → Wrote out 0 (refusalLine x) r new
+    pub list-refused : length input ≤ 65536 → (x : Refusal) → checkOf Strict Read input (length input) ≡ Refused x → (r : ℕ) (new : List ℕ) → Wrote out 0 (refusalLine x) r new
         → r ≤ length out → (To r ≡ listAnswer input (length out)) × (Within (To r) (length out) × (new ≡ listLeft input out))
     unfolding listingOf checkedText
     list-refused h x e r new w f = told r new _ (rw (le-ltb 65536 (length input) h, e)) w f
 
-    pub list-file : length input ≤ 65536 → checkOf false input (length input) ≡ Accepted → (r : ℕ) (new : List ℕ) → Wrote out 0 (fileText input) r new
+    pub list-file : length input ≤ 65536 → checkOf Strict Read input (length input) ≡ Accepted → (r : ℕ) (new : List ℕ) → Wrote out 0 (fileText input) r new
         → r ≤ length out → (To r ≡ listAnswer input (length out)) × (Within (To r) (length out) × (new ≡ listLeft input out))
     unfolding listingOf checkedText
     list-file h e r new w f = told r new _ (rw (le-ltb 65536 (length input) h, e)) w f
 
 -- an accepted input is its own image
-pub whole-image : (input : List ℕ) → checkOf false input (length input) ≡ Accepted → (imageOf false input ≡ Accepted) × (32 ≤ length input)
+pub whole-image : (input : List ℕ) → checkOf Strict Read input (length input) ≡ Accepted → (imageOf Strict Read input ≡ Accepted) × (32 ≤ length input)
 whole-image input e =
-    let c = checked input (length input) e in
+    let c = checked Strict input (length input) e in
     let t : take (length input) input ≡ input = take-all (length input) input (omega arith) in
     (rw t at (c .image), c .least)

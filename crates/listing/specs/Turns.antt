@@ -8,6 +8,7 @@ use native.Mathlib.Omega.{arith}
 use lib.ListN.{length, drop, length-drop}
 use lib.Seq.{drop-drop}
 use borrow.Author.Tests.{le-leb, lt-leb}
+use Rattle.text.specs.declared.Manner.the-variants.{Strict}
 use Rattle.word.specs.Part.{part, length-part}
 use Rattle.refusal.specs.declared.Part.{Part}
 use Rattle.strings.specs.declared.Frame.{Frame}
@@ -17,9 +18,8 @@ use Rattle.strings.specs.declared.Found.the-variants.{Nothing, Is}
 use Rattle.strings.specs.declared.Entry.the-variants.{Stop, At}
 use Rattle.text.specs.Runs.{same}
 use Rattle.text.specs.Note.{starts, lineLen, linesOf, line-ends, starts-fits}
-use Rattle.strings.specs.Strings.{frameOf, placeOf, onText, entryOf, placesFrom, placesOf, nthOf, keyIn, valueIn}
+use Rattle.strings.specs.Strings.{PlaceIn, frameOf, placeOf, onText, entryOf, placesFrom, placesOf, nthOf, keyIn, valueIn}
 use Rattle.strings.specs.Walks.{in-frame, place-next, place-stop, place-bounds}
-use Rattle.lookup.specs.Lists.{In}
 use Rattle.strings.specs.Spelled.{strsIn}
 use Rattle.lines.specs.Lines.{stringLine}
 use Rattle.listing.specs.Listing.{linesText, valuesOf, stringsText, traceText, tracesText}
@@ -81,65 +81,65 @@ values-plain u key v h = rw h
 
 -- ---- the strings of an area: the first of those that are left, and where the next begins
 abbrev pub textFrom : Part → List ℕ → List ℕ → Bool → List ℕ → ℕ → ℕ → ℕ → List ℕ
-textFrom p u f high t e at m = stringsText p u (strsIn f (placesFrom m high t (part at e f) at))
+textFrom p u f high t e at m = stringsText p u (strsIn f (placesFrom Strict m high t (part at e f) at))
 
 abbrev pub lineText : Part → List ℕ → List ℕ → Place → List ℕ
 lineText p u f s = linesText p (keyIn f s) (valuesOf u (keyIn f s) (valueIn f s))
 
 module _ (p : Part) (u f : List ℕ) (high : Bool) (t : List ℕ) (e at m : ℕ) (low : at < e) (fits : e ≤ length f) (enough : e - at ≤ m) where
-  first-of : (s : Place) → nthOf (placesOf high t (part at e f) at) 0 ≡ Is s
-      → (o : ℕ) × (entryOf high t (part at e f) at ≡ At s o) × (s .end + length t ≡ at + o)
+  first-of : (s : Place) → nthOf (placesOf Strict high t (part at e f) at) 0 ≡ Is s
+      → (o : ℕ) × (entryOf Strict high t (part at e f) at ≡ At s o) × (s .end + length t ≡ at + o)
   unfolding placesOf nthOf placesFrom entryOf onText
   first-of s h = sized (length (part at e f)) (length-part at e f fits) h
     where
-      go : (w : Frame) → frameOf high t (part at e f) ≡ w → (m : ℕ)
-          → nthOf (onText w [] (λ o. placeOf t o (part at e f) at ∷ placesFrom m high t (drop o (part at e f)) (at + o))) 0 ≡ Is s
+      go : (w : Frame) → frameOf Strict high t (part at e f) ≡ w → (m : ℕ)
+          → nthOf (onText w [] (λ o. placeOf t o (part at e f) at ∷ placesFrom Strict m high t (drop o (part at e f)) (at + o))) 0 ≡ Is s
           → (o : ℕ) × (onText w Stop (λ o. At (placeOf t o (part at e f) at) o) ≡ At s o) × (s .end + length t ≡ at + o)
       go End q m k = let y : _≡_ {A = ℕ} 0 1 = cc in absurd (omega arith)
       go (Broken r) q m k = let y : _≡_ {A = ℕ} 0 1 = cc in absurd (omega arith)
       go (Text o) q m k =
           let y : placeOf t o (part at e f) at ≡ s = cc in
-          let i = in-frame high t (part at e f) o q in
+          let i = in-frame Strict high t (part at e f) o q in
           let z : at + (o - length t) ≡ s .end = ap (λ (r : Place). r .end) y in
           (o, ap (λ (r : Place). At r o) y, omega (arith, i .low, z))
 
-      sized : (n : ℕ) → n ≡ e - at → nthOf (placesFrom n high t (part at e f) at) 0 ≡ Is s
-          → (o : ℕ) × (entryOf high t (part at e f) at ≡ At s o) × (s .end + length t ≡ at + o)
+      sized : (n : ℕ) → n ≡ e - at → nthOf (placesFrom Strict n high t (part at e f) at) 0 ≡ Is s
+          → (o : ℕ) × (entryOf Strict high t (part at e f) at ≡ At s o) × (s .end + length t ≡ at + o)
       sized zero q k = absurd (omega arith)
-      sized (suc n) q k = go (frameOf high t (part at e f)) refl n k
+      sized (suc n) q k = go (frameOf Strict high t (part at e f)) refl n k
 
-  pub string-in : (s : Place) → nthOf (placesOf high t (part at e f) at) 0 ≡ Is s
-      → In e s × (at < s .end + length t) × (s .end + length t ≤ e)
+  pub string-in : (s : Place) → nthOf (placesOf Strict high t (part at e f) at) 0 ≡ Is s
+      → PlaceIn e s × (at < s .end + length t) × (s .end + length t ≤ e)
   string-in s h =
       let w = first-of s h in
-      let b = place-bounds high t f e at m low fits enough s (w .0) (w .1) in
-      ((b .2, b .3, b .4, b .5), omega (arith, b .0, w .2), omega (arith, b .1, w .2))
+      let b = place-bounds Strict high t f e at m low fits enough s (w .0) (w .1) in
+      (b .2, omega (arith, b .0, w .2), omega (arith, b .1, w .2))
 
-  pub string-next : (s : Place) → nthOf (placesOf high t (part at e f) at) 0 ≡ Is s
+  pub string-next : (s : Place) → nthOf (placesOf Strict high t (part at e f) at) 0 ≡ Is s
       → textFrom p u f high t e at m ≡ lineText p u f s ++ textFrom p u f high t e (s .end + length t) (m - 1)
   unfolding stringsText
   string-next s h =
       let w = first-of s h in
-      ap (λ (ps : List Place). stringsText p u (strsIn f ps)) (place-next high t f e at m low fits enough s (w .0) (w .1)) ∙ rw (w .2)
+      ap (λ (ps : List Place). stringsText p u (strsIn f ps)) (place-next Strict high t f e at m low fits enough s (w .0) (w .1)) ∙ rw (w .2)
 
-  pub string-none : nthOf (placesOf high t (part at e f) at) 0 ≡ Nothing → textFrom p u f high t e at m ≡ []
+  pub string-none : nthOf (placesOf Strict high t (part at e f) at) 0 ≡ Nothing → textFrom p u f high t e at m ≡ []
   unfolding stringsText placesOf nthOf placesFrom entryOf onText
-  string-none h = ap (λ (ps : List Place). stringsText p u (strsIn f ps)) (sym (place-stop high t f e at m low fits enough (sized (length (part at e f)) (length-part at e f fits) h)))
+  string-none h = ap (λ (ps : List Place). stringsText p u (strsIn f ps)) (sym (place-stop Strict high t f e at m low fits enough (sized (length (part at e f)) (length-part at e f fits) h)))
     where
       go : (w : Frame) → (m : ℕ)
-          → nthOf (onText w [] (λ o. placeOf t o (part at e f) at ∷ placesFrom m high t (drop o (part at e f)) (at + o))) 0 ≡ Nothing
+          → nthOf (onText w [] (λ o. placeOf t o (part at e f) at ∷ placesFrom Strict m high t (drop o (part at e f)) (at + o))) 0 ≡ Nothing
           → onText w Stop (λ o. At (placeOf t o (part at e f) at) o) ≡ Stop
       go End m k = refl
       go (Broken r) m k = refl
       go (Text o) m k = let y : _≡_ {A = ℕ} 0 1 = cc in absurd (omega arith)
 
-      sized : (n : ℕ) → n ≡ e - at → nthOf (placesFrom n high t (part at e f) at) 0 ≡ Nothing → entryOf high t (part at e f) at ≡ Stop
+      sized : (n : ℕ) → n ≡ e - at → nthOf (placesFrom Strict n high t (part at e f) at) 0 ≡ Nothing → entryOf Strict high t (part at e f) at ≡ Stop
       sized zero q k = absurd (omega arith)
-      sized (suc n) q k = go (frameOf high t (part at e f)) n k
+      sized (suc n) q k = go (frameOf Strict high t (part at e f)) n k
 
 pub strings-over : (p : Part) (u f : List ℕ) (high : Bool) (t : List ℕ) (e at m : ℕ) → e ≤ at → textFrom p u f high t e at m ≡ []
 unfolding stringsText
-strings-over p u f high t e at m h = ap (λ (ps : List Place). stringsText p u (strsIn f ps)) (sym (Rattle.strings.specs.Walks.place-over high t f e at m h))
+strings-over p u f high t e at m h = ap (λ (ps : List Place). stringsText p u (strsIn f ps)) (sym (Rattle.strings.specs.Walks.place-over Strict high t f e at m h))
 
 -- ---- the traces
 pub trace-next : (f : List ℕ) (n k : ℕ) → k < n → tracesText f (n - k) k ≡ traceText f k ++ tracesText f (n - (k + 1)) (k + 1)

@@ -7,13 +7,13 @@ use Prim.Native.Nat.{ℕ, _+_, _-_, _≤_, _<_}
 use native.Mathlib.Nat.{le-of-eq, le-refl}
 use native.Mathlib.Omega.{arith}
 use lib.ListN.{length, drop, length-drop}
+use Rattle.text.specs.declared.Manner.the-variants.{Strict}
 use Rattle.word.specs.Part.{part, length-part, part-rest}
 use Rattle.refusal.specs.declared.Part.{Part}
 use Rattle.strings.specs.declared.Place.{Place}
 use Rattle.strings.specs.declared.Found.the-variants.{Nothing, Is}
 use Rattle.text.specs.Note.{lineLen, linesOf, lineLen-le}
-use Rattle.strings.specs.Strings.{placesOf, nthOf}
-use Rattle.lookup.specs.Lists.{In}
+use Rattle.strings.specs.Strings.{PlaceIn, placesOf, nthOf}
 use Rattle.strings.specs.Spelled.{strsIn}
 use Rattle.lines.specs.Lines.{label, stringLine}
 use Rattle.lines.specs.Sizes.{length-line}
@@ -80,26 +80,26 @@ module _ (out₀ : List ℕ) (at : ℕ) (p : Part) (f : List ℕ) (a e : ℕ) (h
   abbrev pub Stringing : ℕ → ℕ → List ℕ → Type 0
   Stringing s to out =
       (s ≤ e) × (length out ≡ length out₀)
-      × ((m : ℕ) × (e - s ≤ m) × Left out₀ at (stringsText p u (strsIn f (placesOf high t (part a e f) a))) to (textFrom p u f high t e s m) out)
+      × ((m : ℕ) × (e - s ≤ m) × Left out₀ at (stringsText p u (strsIn f (placesOf Strict high t (part a e f) a))) to (textFrom p u f high t e s m) out)
 
   pub stringing-start : a ≤ e → e ≤ length f → Stringing a at out₀
   unfolding placesOf
   stringing-start low fits = (low, refl, (length (part a e f), le-of-eq (sym (length-part a e f fits)), left-start out₀ at _))
 
   module _ (s to : ℕ) (out : List ℕ) (l : Stringing s to out) where
-    pub stringing-over : e ≤ s → Wrote out₀ at (stringsText p u (strsIn f (placesOf high t (part a e f) a))) to out
+    pub stringing-over : e ≤ s → Wrote out₀ at (stringsText p u (strsIn f (placesOf Strict high t (part a e f) a))) to out
     stringing-over h = left-over out₀ at _ to _ out (l .2 .2) (strings-over p u f high t e s (l .2 .0) h)
 
     module _ (low : s < e) (fits : e ≤ length f) where
-      pub stringing-none : nthOf (placesOf high t (part s e f) s) 0 ≡ Nothing
-          → Wrote out₀ at (stringsText p u (strsIn f (placesOf high t (part a e f) a))) to out
+      pub stringing-none : nthOf (placesOf Strict high t (part s e f) s) 0 ≡ Nothing
+          → Wrote out₀ at (stringsText p u (strsIn f (placesOf Strict high t (part a e f) a))) to out
       stringing-none h = left-over out₀ at _ to _ out (l .2 .2) (string-none p u f high t e s (l .2 .0) low fits (l .2 .1) h)
 
-      module _ (q : Place) (h : nthOf (placesOf high t (part s e f) s) 0 ≡ Is q) where
-        pub stringing-in : In e q × (s < q .end + length t) × (q .end + length t ≤ e)
+      module _ (q : Place) (h : nthOf (placesOf Strict high t (part s e f) s) 0 ≡ Is q) where
+        pub stringing-in : PlaceIn e q × (s < q .end + length t) × (q .end + length t ≤ e)
         stringing-in = string-in p u f high t e s (l .2 .0) low fits (l .2 .1) q h
 
-        pub stringing-room : Room out₀ at (stringsText p u (strsIn f (placesOf high t (part a e f) a))) → Room out to (lineText p u f q)
+        pub stringing-room : Room out₀ at (stringsText p u (strsIn f (placesOf Strict high t (part a e f) a))) → Room out to (lineText p u f q)
         stringing-room r = left-room out₀ at _ to _ out (l .2 .2) (lineText p u f q) _ (string-next p u f high t e s (l .2 .0) low fits (l .2 .1) q h) r
 
         pub stringing-turn : (r : ℕ) (new : List ℕ) → Wrote out to (lineText p u f q) r new → Stringing (q .end + length t) r new

@@ -2,17 +2,20 @@
 // Listing has the definitions; Room proves that 16 bytes for each of the input's and 64 more are enough, Printed that the strings are those that the file spells.
 // Stands on `lines`, `lookup`, `image` and what they stand on.
 // The rules in words: docs/FORMAT.md, "Worked values".
+use head::Purpose;
 use refusal::Part;
 use refusal::Refusal;
 use refusal::Rule;
 use refusal::Verdict;
 use strings::Found;
+use text::Manner;
 ghost use mathlib.Core.Path.{_≡_};
-ghost use mathlib.Core.Bool.{false};
 ghost use Prim.Native.Nat.{_≤_, _<_};
 ghost use lib.ListN.{length};
 ghost use Rattle.word.specs.Part as parts;
 ghost use Rattle.refusal.specs.declared.Verdict.the-variants.{Accepted};
+ghost use Rattle.text.specs.declared.Manner.the-variants.{Strict};
+ghost use Rattle.head.specs.declared.Purpose.the-variants.{Read};
 ghost use Rattle.text.specs.Note.{linesOf};
 ghost use Rattle.strings.specs.Strings.{placesOf};
 ghost use Rattle.strings.specs.Spelled.{strsIn};
@@ -66,13 +69,13 @@ fn put_strings(
     t: &[u8],
     u: &[u8],
 ) -> usize
-    requires { ⌜ (a ≤ e) × (e ≤ length (now f)) × (0 < length (now u)) × Room (now out) at (stringsText part (now u) (strsIn (now f) (placesOf high (now t) (parts.part a e (now f)) a))) ⌝ }
-    ensures { λ r. ⌜ Wrote (now (out .entry)) at (stringsText part (now (u .entry)) (strsIn (now (f .entry)) (placesOf high (now (t .entry)) (parts.part a e (now (f .entry))) a))) r (now (out .exit)) ⌝ }
+    requires { ⌜ (a ≤ e) × (e ≤ length (now f)) × (0 < length (now u)) × Room (now out) at (stringsText part (now u) (strsIn (now f) (placesOf Strict high (now t) (parts.part a e (now f)) a))) ⌝ }
+    ensures { λ r. ⌜ Wrote (now (out .entry)) at (stringsText part (now (u .entry)) (strsIn (now (f .entry)) (placesOf Strict high (now (t .entry)) (parts.part a e (now (f .entry))) a))) r (now (out .exit)) ⌝ }
 {
     let mut s = a;
     let mut to = at;
     while s < e {
-        let first = lookup::nth(f, s, e, high, t, 0);
+        let first = lookup::nth(f, s, e, high, t, 0, Manner::Strict);
         match first {
             Found::Nothing => {
                 return to;
@@ -92,7 +95,7 @@ fn put_strings(
 
 // A trace of an accepted file: its line and its strings.
 fn put_trace(out: &mut [u8], at: usize, f: &[u8], k: u16) -> usize
-    requires { ⌜ (imageOf false (now f) ≡ Accepted) × (32 ≤ length (now f)) × (k < countOf (now f)) × Room (now out) at (traceText (now f) k) ⌝ }
+    requires { ⌜ (imageOf Strict Read (now f) ≡ Accepted) × (32 ≤ length (now f)) × (k < countOf (now f)) × Room (now out) at (traceText (now f) k) ⌝ }
     ensures { λ r. ⌜ Wrote (now (out .entry)) at (traceText (now (f .entry)) k) r (now (out .exit)) ⌝ }
 {
     let high = head::is_high(f);
@@ -108,14 +111,14 @@ fn put_trace(out: &mut [u8], at: usize, f: &[u8], k: u16) -> usize
         from,
         to,
         high,
-        head::terminator(f, 8),
-        head::terminator(f, 11),
+        head::string_end(f),
+        head::line_end(f),
     )
 }
 
 // The traces of an accepted file.
 fn put_traces(out: &mut [u8], at: usize, f: &[u8], n: u16) -> usize
-    requires { ⌜ (imageOf false (now f) ≡ Accepted) × (32 ≤ length (now f)) × (n ≡ countOf (now f)) × Room (now out) at (tracesText (now f) n 0) ⌝ }
+    requires { ⌜ (imageOf Strict Read (now f) ≡ Accepted) × (32 ≤ length (now f)) × (n ≡ countOf (now f)) × Room (now out) at (tracesText (now f) n 0) ⌝ }
     ensures { λ r. ⌜ Wrote (now (out .entry)) at (tracesText (now (f .entry)) n 0) r (now (out .exit)) ⌝ }
 {
     let mut k: u16 = 0;
@@ -129,7 +132,7 @@ fn put_traces(out: &mut [u8], at: usize, f: &[u8], n: u16) -> usize
 
 // An accepted file.
 fn put_file(out: &mut [u8], f: &[u8]) -> usize
-    requires { ⌜ (imageOf false (now f) ≡ Accepted) × (32 ≤ length (now f)) × (length (now f) ≤ 65536) × Room (now out) 0 (fileText (now f)) ⌝ }
+    requires { ⌜ (imageOf Strict Read (now f) ≡ Accepted) × (32 ≤ length (now f)) × (length (now f) ≤ 65536) × Room (now out) 0 (fileText (now f)) ⌝ }
     ensures { λ r. ⌜ Wrote (now (out .entry)) 0 (fileText (now (f .entry))) r (now (out .exit)) ⌝ }
 {
     let b = head::file_block(f);
@@ -145,8 +148,8 @@ fn put_file(out: &mut [u8], f: &[u8]) -> usize
         start,
         first,
         high,
-        head::terminator(f, 8),
-        head::terminator(f, 11),
+        head::string_end(f),
+        head::line_end(f),
     );
     put_traces(out, d, f, b.n as u16)
 }
@@ -176,7 +179,7 @@ pub fn list(input: &[u8], out: &mut [u8]) -> Listed
             },
         ));
     }
-    let v = image::check(input, n, false);
+    let v = image::check(input, n, Purpose::Read, Manner::Strict);
     match v {
         Verdict::Refused(r) => Listed::To(lines::put_refusal(out, 0, r)),
         Verdict::Accepted => Listed::To(put_file(out, input)),

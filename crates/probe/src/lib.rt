@@ -4,7 +4,7 @@ ghost use mathlib.Core.Path.{_≡_};
 ghost use Prim.Native.Nat.{_/_, _%_, _+_, _*_};
 ghost use lib.Dec.{leb};
 ghost use lib.ListN.{length};
-ghost use Rattle.decimal.specs.Number.{numberOf};
+ghost use Rattle.decimal.specs.Number.{numberIn};
 ghost use Rattle.double.specs.Double.{doubleOf};
 ghost use Rattle.double.specs.Location.{locationOf};
 ghost use Rattle.sample.specs.Needed.{room};
@@ -122,7 +122,7 @@ fn location_told(answer: LocationAnswer) -> Location
 // The number that a text is.
 #[no_mangle]
 pub extern "C" fn probe_number(text: &[u8]) -> Number
-    ensures { λ r. ⌜ r ≡ numberTold (numberOf (now (text .entry))) ⌝ }
+    ensures { λ r. ⌜ r ≡ numberTold (numberIn (now (text .entry))) ⌝ }
 {
     number_told(decimal::number(text))
 }

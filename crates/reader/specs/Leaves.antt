@@ -1,26 +1,24 @@
 -- What the leaves of the questions answer, and that the questions are made of them.
 -- Assumes nothing.
 use mathlib.Core.Path.{_≡_, refl}
-use mathlib.Core.Bool.{Bool, false, not}
-use mathlib.Core.List.{List, [], _∷_}
+use mathlib.Core.Bool.{Bool, false}
+use mathlib.Core.List.{List}
 use Prim.Native.Nat.{ℕ, zero, suc, _+_, _-_, _≤_, _%_}
 use lib.IntN.{ℤ}
 use lib.ListN.{length, take}
-use lib.Dec.{eqb}
 use Rattle.word.specs.Part.{part}
 use Rattle.word.specs.Word.{wordAt}
-use Rattle.refusal.specs.declared.Rule.the-variants.{RowLength, CodeKind}
 use Rattle.refusal.specs.declared.Refusal.{Refusal}
 use Rattle.refusal.specs.declared.Verdict.{Verdict}
 use Rattle.refusal.specs.declared.Verdict.the-variants.{Accepted, Refused}
-use Rattle.refusal.specs.Rows.{first}
 use Rattle.strings.specs.declared.Found.{Found}
-use Rattle.strings.specs.Strings.{placesOf, nthOf, findOf}
+use Rattle.text.specs.declared.Manner.{Manner}
+use Rattle.strings.specs.Strings.{placesOf, PlaceIn, nthOf, findOf}
+use Rattle.head.specs.declared.Purpose.the-variants.{Read}
+use Rattle.refusal.specs.Verdicts.{asked}
 use Rattle.sample.specs.Needed.{needed}
-use Rattle.sample.specs.Run.{run}
-use Rattle.decode.specs.Sample.{sampleOf, patternOf, classOf}
 use Rattle.block.specs.declared.TraceBlock.{TraceBlock}
-use Rattle.head.specs.Head.{highFirst, roomOf, stringEnd, refused}
+use Rattle.head.specs.Head.{highFirst, roomOf, stringEnd}
 use Rattle.block.specs.Block.{pointerOf, blockSize}
 use Rattle.image.specs.Image.{checkOf}
 use Rattle.reader.specs.declared.Whose.the-variants.{Whole, One}
@@ -31,21 +29,21 @@ use Rattle.reader.specs.declared.Opened.the-variants as opened
 use Rattle.reader.specs.declared.StringAnswer.{StringAnswer}
 use Rattle.reader.specs.declared.StringAnswer.the-variants as string
 use Rattle.reader.specs.declared.CountAnswer.the-variants as count
-use Rattle.reader.specs.Questions.{asked, noTrace, areaOf, areaAsked, onArea, placesIn, there, countAnswer, nthAnswer, findAnswer, ofIntegers, ofBits}
+use Rattle.reader.specs.Questions.{noTrace, areaNamed, areaAsked, onArea, placesIn, there, countAnswer, nthAnswer, findAnswer, ofIntegers, ofBits}
 
 -- ---- the area of a part, as it is read
-pub area-whole : (f : List ℕ) (h : Bool) (m p : ℕ) → h ≡ highFirst f → m ≡ wordAt 2 h f 4 → p ≡ pointerOf h f 0 → From (32 + m) p ≡ areaOf f Whole
-unfolding areaOf roomOf
+pub area-whole : (f : List ℕ) (h : Bool) (m p : ℕ) → h ≡ highFirst f → m ≡ wordAt 2 h f 4 → p ≡ pointerOf h f 0 → From (32 + m) p ≡ areaNamed f Whole
+unfolding areaNamed roomOf
 area-whole f h m p e w v = rw (← e, ← w, ← v)
 
-pub area-one : (f : List ℕ) (h : Bool) (k p b : ℕ) → h ≡ highFirst f → p ≡ pointerOf h f k → b ≡ wordAt 2 h f (p + 2) → From (p + 32) (p + b) ≡ areaOf f (One k)
-unfolding areaOf blockSize
+pub area-one : (f : List ℕ) (h : Bool) (k p b : ℕ) → h ≡ highFirst f → p ≡ pointerOf h f k → b ≡ wordAt 2 h f (p + 2) → From (p + 32) (p + b) ≡ areaNamed f (One k)
+unfolding areaNamed blockSize
 area-one f h k p b e v w = rw (← e, ← v, ← w)
 
 -- ---- strings: the check and the area of a part in one answer
 
-unfoldable pub openedOf : List ℕ → ℕ → ℤ → Opened
-openedOf xs n z = asked opened.Bad (checkOf false xs n) (onArea (areaAsked (take n xs) z) (opened.Bad noTrace) opened.From)
+unfoldable pub openedOf : Manner → List ℕ → ℕ → ℤ → Opened
+openedOf how xs n z = asked opened.Bad (checkOf how Read xs n) (onArea (areaAsked (take n xs) z) (opened.Bad noTrace) opened.From)
 
 abbrev pub onOpened : {A : Type 0} → Opened → (Refusal → A) → (ℕ → ℕ → A) → A
 onOpened (opened.Bad r) bad some = bad r
@@ -57,49 +55,49 @@ opened-asked (Refused r) w bad some = refl
 opened-asked Accepted Outside bad some = refl
 opened-asked Accepted (From a e) bad some = refl
 
-module _ (xs : List ℕ) (n : ℕ) (z : ℤ) where
-  pub count-opened : onOpened (openedOf xs n z) count.Refused (λ a e. count.Is (length (placesIn (take n xs) a e))) ≡ countAnswer xs n z
+module _ (how : Manner) (xs : List ℕ) (n : ℕ) (z : ℤ) where
+  pub count-opened : onOpened (openedOf how xs n z) count.Refused (λ a e. count.Is (length (placesIn how (take n xs) a e))) ≡ countAnswer how xs n z
   unfolding openedOf countAnswer
-  count-opened = opened-asked (checkOf false xs n) (areaAsked (take n xs) z) _ _
+  count-opened = opened-asked (checkOf how Read xs n) (areaAsked (take n xs) z) _ _
 
-  pub nth-opened : (i : ℕ) → onOpened (openedOf xs n z) string.Refused (λ a e. there (nthOf (placesIn (take n xs) a e) i)) ≡ nthAnswer xs n z i
+  pub nth-opened : (i : ℕ) → onOpened (openedOf how xs n z) string.Refused (λ a e. there (nthOf (placesIn how (take n xs) a e) i)) ≡ nthAnswer how xs n z i
   unfolding openedOf nthAnswer
-  nth-opened i = opened-asked (checkOf false xs n) (areaAsked (take n xs) z) _ _
+  nth-opened i = opened-asked (checkOf how Read xs n) (areaAsked (take n xs) z) _ _
 
   pub find-opened : (key : List ℕ)
-      → onOpened (openedOf xs n z) string.Refused (λ a e. there (findOf (take n xs) (placesIn (take n xs) a e) key)) ≡ findAnswer xs n z key
+      → onOpened (openedOf how xs n z) string.Refused (λ a e. there (findOf how (take n xs) (placesIn how (take n xs) a e) key)) ≡ findAnswer how xs n z key
   unfolding openedOf findAnswer
-  find-opened key = opened-asked (checkOf false xs n) (areaAsked (take n xs) z) _ _
+  find-opened key = opened-asked (checkOf how Read xs n) (areaAsked (take n xs) z) _ _
 
 -- a law for each answer, with what the code has in hand
-placed : (f : List ℕ) (a e : ℕ) (h : Bool) (t : List ℕ) → h ≡ highFirst f → t ≡ stringEnd f → placesOf h t (part a e f) a ≡ placesIn f a e
+placed : (how : Manner) (f : List ℕ) (a e : ℕ) (h : Bool) (t : List ℕ) → h ≡ highFirst f → t ≡ stringEnd f → placesOf how h t (part a e f) a ≡ placesIn how f a e
 unfolding placesIn
-placed f a e h t p q = rw (p, q)
+placed how f a e h t p q = rw (p, q)
 
-module _ (xs : List ℕ) (n : ℕ) (z : ℤ) where
-  pub count-bad : (r : Refusal) → openedOf xs n z ≡ opened.Bad r → count.Refused r ≡ countAnswer xs n z
-  count-bad r o = rw (← count-opened xs n z, o)
+module _ (how : Manner) (xs : List ℕ) (n : ℕ) (z : ℤ) where
+  pub count-bad : (r : Refusal) → openedOf how xs n z ≡ opened.Bad r → count.Refused r ≡ countAnswer how xs n z
+  count-bad r o = rw (← count-opened how xs n z, o)
 
-  pub nth-bad : (i : ℕ) (r : Refusal) → openedOf xs n z ≡ opened.Bad r → string.Refused r ≡ nthAnswer xs n z i
-  nth-bad i r o = rw (← nth-opened xs n z i, o)
+  pub nth-bad : (i : ℕ) (r : Refusal) → openedOf how xs n z ≡ opened.Bad r → string.Refused r ≡ nthAnswer how xs n z i
+  nth-bad i r o = rw (← nth-opened how xs n z i, o)
 
-  pub find-bad : (key : List ℕ) (r : Refusal) → openedOf xs n z ≡ opened.Bad r → string.Refused r ≡ findAnswer xs n z key
-  find-bad key r o = rw (← find-opened xs n z key, o)
+  pub find-bad : (key : List ℕ) (r : Refusal) → openedOf how xs n z ≡ opened.Bad r → string.Refused r ≡ findAnswer how xs n z key
+  find-bad key r o = rw (← find-opened how xs n z key, o)
 
-  module _ (a e : ℕ) (h : Bool) (t : List ℕ) (o : openedOf xs n z ≡ opened.From a e) (p : h ≡ highFirst (take n xs)) (q : t ≡ stringEnd (take n xs)) where
-    pub count-told : (c : ℕ) → c ≡ length (placesOf h t (part a e (take n xs)) a) → count.Is c ≡ countAnswer xs n z
-    count-told c s = rw (← count-opened xs n z, o, s, placed (take n xs) a e h t p q)
+  module _ (a e : ℕ) (h : Bool) (t : List ℕ) (o : openedOf how xs n z ≡ opened.From a e) (p : h ≡ highFirst (take n xs)) (q : t ≡ stringEnd (take n xs)) where
+    pub count-told : (c : ℕ) → c ≡ length (placesOf how h t (part a e (take n xs)) a) → count.Is c ≡ countAnswer how xs n z
+    count-told c s = rw (← count-opened how xs n z, o, s, placed how (take n xs) a e h t p q)
 
-    pub nth-told : (i : ℕ) (s : Found) (r : StringAnswer) → s ≡ nthOf (placesOf h t (part a e (take n xs)) a) i → r ≡ there s → r ≡ nthAnswer xs n z i
-    nth-told i s r w v = rw (← nth-opened xs n z i, o, v, w, placed (take n xs) a e h t p q)
+    pub nth-told : (i : ℕ) (s : Found) (r : StringAnswer) → s ≡ nthOf (placesOf how h t (part a e (take n xs)) a) i → r ≡ there s → r ≡ nthAnswer how xs n z i
+    nth-told i s r w v = rw (← nth-opened how xs n z i, o, v, w, placed how (take n xs) a e h t p q)
 
-    pub find-told : (key : List ℕ) (s : Found) (r : StringAnswer) → s ≡ findOf (take n xs) (placesOf h t (part a e (take n xs)) a) key → r ≡ there s
-        → r ≡ findAnswer xs n z key
-    find-told key s r w v = rw (← find-opened xs n z key, o, v, w, placed (take n xs) a e h t p q)
+    pub find-told : (key : List ℕ) (s : Found) (r : StringAnswer) → s ≡ findOf how (take n xs) (placesOf how h t (part a e (take n xs)) a) key → r ≡ there s
+        → r ≡ findAnswer how xs n z key
+    find-told key s r w v = rw (← find-opened how xs n z key, o, v, w, placed how (take n xs) a e h t p q)
 
 -- a string that was found ends within so many bytes
 abbrev pub Within : ℕ → StringAnswer → Type 0
-Within n (string.There s) = (s .key ≤ s .gap) × (s .gap ≤ s .value) × (s .value ≤ s .end) × (s .end ≤ n)
+Within n (string.There s) = PlaceIn n s
 Within n string.Absent = Unit {0}
 Within n (string.Refused r) = Unit {0}
 
@@ -130,25 +128,3 @@ bits-none (suc (suc (suc zero))) a b = refl
 bits-none (suc (suc (suc (suc zero)))) a b = absurd (a refl)
 bits-none (suc (suc (suc (suc (suc zero))))) a b = absurd (b refl)
 bits-none (suc (suc (suc (suc (suc (suc k)))))) a b = refl
-
--- "Data occupies D bytes from p+B"
-abbrev pub dataTold : List ℕ → TraceBlock → List ℕ
-dataTold f t = part (t .p + t .b) (t .p + t .b + t .d) f
-
-unfoldable pub integersTold : TraceBlock → ℕ → Verdict
-integersTold t s = first ((not (ofIntegers (t .code)), refused CodeKind 0) ∷ (not (eqb s (t .s)), refused RowLength 0) ∷ []) Accepted
-
-unfoldable pub bitsTold : TraceBlock → ℕ → ℕ → Verdict
-bitsTold t s c =
-    first
-    ((not (ofBits (t .code)), refused CodeKind 0) ∷ (not (eqb s (t .s)), refused RowLength 0) ∷ (not (eqb c (t .s)), refused RowLength 0) ∷ [])
-    Accepted
-
-unfoldable pub samplesTold : List ℕ → TraceBlock → List ℤ
-samplesTold f t = run (sampleOf (t .code) (highFirst f) (dataTold f t)) 0 (t .s)
-
-unfoldable pub patternsTold : List ℕ → TraceBlock → List ℕ
-patternsTold f t = run (patternOf (t .code) (highFirst f) (dataTold f t)) 0 (t .s)
-
-unfoldable pub classesTold : List ℕ → TraceBlock → List ℕ
-classesTold f t = run (λ i. classOf (t .code) (patternOf (t .code) (highFirst f) (dataTold f t) i)) 0 (t .s)

@@ -11,7 +11,7 @@ use lib.Seq.{length-take-le}
 use lib.Dec.{ltb}
 use denote.Ref.{RefT}
 use borrow.Author.Tests.{ltb-true}
-use Rattle.refusal.specs.Verdicts.{refused-not}
+use Rattle.refusal.specs.Verdicts.{asked, refused-not}
 use Rattle.word.specs.Part.{part-take, PartOf}
 use Rattle.refusal.specs.Rows.{pick}
 use Rattle.refusal.specs.declared.Rule.the-variants.{Length}
@@ -21,8 +21,8 @@ use Rattle.refusal.specs.declared.Verdict.the-variants.{Accepted, Refused}
 use Rattle.strings.specs.declared.Place.{Place}
 use Rattle.strings.specs.declared.Found.{Found}
 use Rattle.strings.specs.declared.Found.the-variants.{Nothing, Is}
-use Rattle.strings.specs.Strings.{nthOf, findOf}
-use Rattle.lookup.specs.Lists.{In, AllIn, area-in, nth-in, find-in}
+use Rattle.strings.specs.Strings.{PlaceIn, nthOf, findOf}
+use Rattle.lookup.specs.Lists.{AllIn, area-in, nth-in, find-in}
 use Rattle.block.specs.declared.TraceBlock.{TraceBlock}
 use Rattle.head.specs.Head.{highFirst, roomOf, countOf, stringEnd, goodTerminator, refused}
 use Rattle.block.specs.Block.{dataAt, traceBlockOf}
@@ -37,25 +37,27 @@ use Rattle.reader.specs.declared.Area.{Area}
 use Rattle.reader.specs.declared.Area.the-variants.{Outside, From}
 use Rattle.reader.specs.declared.Opened.{Opened}
 use Rattle.reader.specs.declared.Opened.the-variants as opened
-use Rattle.reader.specs.declared.TraceAnswer.the-variants as trace
+use Rattle.block.specs.declared.TraceAnswer.the-variants as trace
 use Rattle.reader.specs.declared.StringAnswer.{StringAnswer}
 use Rattle.reader.specs.declared.StringAnswer.the-variants as string
-use Rattle.reader.specs.Questions.{asked, noTrace, whoseOf, areaOf, areaAsked, onArea, onTrace, placesIn, there, nthAnswer, findAnswer, traceAnswer, valueThere, valueAnswer, spanThere, spanAnswer, onString}
+use Rattle.text.specs.declared.Manner.{Manner}
+use Rattle.head.specs.declared.Purpose.the-variants.{Read}
+use Rattle.reader.specs.Questions.{noTrace, whoseOf, areaNamed, areaAsked, onArea, onTrace, placesIn, there, nthAnswer, findAnswer, traceAnswer, valueThere, valueAnswer, spanThere, spanAnswer, onString}
 use Rattle.reader.specs.Leaves.{openedOf, onOpened, nth-opened, find-opened, Within, Fits}
 
 -- ---- an accepted check
-pub record Checked (xs : List ℕ) (n : ℕ) : Type 0 where
-  pub image : imageOf false (take n xs) ≡ Accepted
+pub record Checked (how : Manner) (xs : List ℕ) (n : ℕ) : Type 0 where
+  pub image : imageOf how Read (take n xs) ≡ Accepted
   pub least : 32 ≤ n
   pub most : n ≤ 67108864
   pub fits : n ≤ length xs
   pub size : length (take n xs) ≡ n
 
-pub checked : (xs : List ℕ) (n : ℕ) → checkOf false xs n ≡ Accepted → Checked xs n
+pub checked : (how : Manner) (xs : List ℕ) (n : ℕ) → checkOf how Read xs n ≡ Accepted → Checked how xs n
 unfolding checkOf
-checked xs n e = go (badLength (length xs) n) refl e
+checked how xs n e = go (badLength (length xs) n) refl e
   where
-    go : (w : Bool) → badLength (length xs) n ≡ w → pick w (refused Length 0) (imageOf false (take n xs)) ≡ Accepted → Checked xs n
+    go : (w : Bool) → badLength (length xs) n ≡ w → pick w (refused Length 0) (imageOf how Read (take n xs)) ≡ Accepted → Checked how xs n
     go true q h = absurd (refused-not _ h)
     go false q h =
         let l = long-enough (length xs) n q in
@@ -75,22 +77,22 @@ whose-trace (negsuc (suc j)) n k h = let y : _≡_ {A = ℕ} 0 1 = cc in absurd 
 
 -- ---- an accepted image: each trace, and the area of each part, lies in it
 
-module _ (f : List ℕ) (ok : imageOf false f ≡ Accepted) where
+module _ (how : Manner) (f : List ℕ) (ok : imageOf how Read f ≡ Accepted) where
   pub some-trace : 0 < countOf f
   some-trace = go (countOf f) refl
     where
       go : (n : ℕ) → countOf f ≡ n → 0 < countOf f
-      go zero e = let s = image-headed false f ok .some e in let y : _≡_ {A = ℕ} 0 1 = cc in absurd (omega arith)
+      go zero e = let s = image-headed how Read f ok .some e in let y : _≡_ {A = ℕ} 0 1 = cc in absurd (omega arith)
       go (suc n) e = omega arith
 
   pub pointer-slot : (k : ℕ) → k < countOf f → 36 + 4 * k ≤ length f
-  pointer-slot k l = let h = image-headed false f ok in omega (arith, h .count, h .fits)
+  pointer-slot k l = let h = image-headed how Read f ok in omega (arith, h .count, h .fits)
 
-  pub trace-pointed : (k : ℕ) → k < countOf f → Pointed (highFirst f) f k (endBefore f k)
-  trace-pointed k l = traced-places f k (image-traced false f ok k l) .0
+  pub trace-pointed : (k : ℕ) → k < countOf f → Pointed (length f) (endBefore f k) (traceAt f k)
+  trace-pointed k l = traced-places how f k (image-traced how Read f ok k l) .0
 
   pub trace-blocked : (k : ℕ) → k < countOf f → Blocked (highFirst f) f (traceAt f k)
-  trace-blocked k l = traced-places f k (image-traced false f ok k l) .1
+  trace-blocked k l = traced-places how f k (image-traced how Read f ok k l) .1
 
   whole-fits : (32 + roomOf f ≤ traceAt f 0) × (traceAt f 0 ≤ length f)
   unfolding endBefore
@@ -100,10 +102,10 @@ module _ (f : List ℕ) (ok : imageOf false f ≡ Accepted) where
   one-fits k l = let b = trace-blocked k l in (omega (arith, b .least), b .fits)
 
   pub area-fits : (z : ℤ) (a e : ℕ) → areaAsked f z ≡ From a e → (a ≤ e) × (e ≤ length f)
-  unfolding areaOf
+  unfolding areaNamed
   area-fits z a e h = go (whoseOf z (countOf f)) refl h
     where
-      go : (w : Whose) → whoseOf z (countOf f) ≡ w → areaOf f w ≡ From a e → (a ≤ e) × (e ≤ length f)
+      go : (w : Whose) → whoseOf z (countOf f) ≡ w → areaNamed f w ≡ From a e → (a ≤ e) × (e ≤ length f)
       go Whole q h =
           let x : 32 + roomOf f ≡ a = cc in
           let y : traceAt f 0 ≡ e = cc in
@@ -117,79 +119,79 @@ module _ (f : List ℕ) (ok : imageOf false f ≡ Accepted) where
 
 -- ---- an area that was opened
 
-pub record Reached (xs : List ℕ) (n : ℕ) (z : ℤ) (a e : ℕ) : Type 0 where
-  pub accepted : checkOf false xs n ≡ Accepted
-  pub known : Checked xs n
+pub record Reached (how : Manner) (xs : List ℕ) (n : ℕ) (z : ℤ) (a e : ℕ) : Type 0 where
+  pub accepted : checkOf how Read xs n ≡ Accepted
+  pub known : Checked how xs n
   pub area : areaAsked (take n xs) z ≡ From a e
   pub low : a ≤ e
   pub end : e ≤ length (take n xs)
   pub good : goodTerminator (take n xs) 8 ≡ true
 
-pub reached : (xs : List ℕ) (n : ℕ) (z : ℤ) (a e : ℕ) → openedOf xs n z ≡ opened.From a e → Reached xs n z a e
+pub reached : (how : Manner) (xs : List ℕ) (n : ℕ) (z : ℤ) (a e : ℕ) → openedOf how xs n z ≡ opened.From a e → Reached how xs n z a e
 unfolding openedOf
-reached xs n z a e h = go (checkOf false xs n) refl (areaAsked (take n xs) z) refl h
+reached how xs n z a e h = go (checkOf how Read xs n) refl (areaAsked (take n xs) z) refl h
   where
-    go : (v : Verdict) → checkOf false xs n ≡ v → (w : Area) → areaAsked (take n xs) z ≡ w
-        → asked opened.Bad v (onArea w (opened.Bad noTrace) opened.From) ≡ opened.From a e → Reached xs n z a e
+    go : (v : Verdict) → checkOf how Read xs n ≡ v → (w : Area) → areaAsked (take n xs) z ≡ w
+        → asked opened.Bad v (onArea w (opened.Bad noTrace) opened.From) ≡ opened.From a e → Reached how xs n z a e
     go (Refused r) q w p k = let y : _≡_ {A = ℕ} 0 1 = cc in absurd (omega arith)
     go Accepted q Outside p k = let y : _≡_ {A = ℕ} 0 1 = cc in absurd (omega arith)
     go Accepted q (From b d) p k =
-        let c = checked xs n q in
+        let c = checked how xs n q in
         let s : b ≡ a = cc in
         let t : d ≡ e = cc in
-        let i = area-fits (take n xs) (c .image) z b d p in
+        let i = area-fits how (take n xs) (c .image) z b d p in
         record {
           accepted = q;
           known = c;
           area = rw (s, t) at p;
           low = omega (arith, i .0);
           end = omega (arith, i .1);
-          good = image-headed false (take n xs) (c .image) .strings;
+          good = image-headed how Read (take n xs) (c .image) .strings;
         }
 
 -- ---- a place that is found lies in the file
 
-places-in : (xs : List ℕ) (n : ℕ) (z : ℤ) (a e : ℕ) → Reached xs n z a e → AllIn e (placesIn (take n xs) a e)
+places-in : (how : Manner) (xs : List ℕ) (n : ℕ) (z : ℤ) (a e : ℕ) → Reached how xs n z a e → AllIn e (placesIn how (take n xs) a e)
 unfolding placesIn
-places-in xs n z a e r = area-in (highFirst (take n xs)) (stringEnd (take n xs)) (take n xs) a e (r .low) (r .end)
+places-in how xs n z a e r = area-in how (highFirst (take n xs)) (stringEnd (take n xs)) (take n xs) a e (r .low) (r .end)
 
-there-within : (e n : ℕ) (s : Found) → e ≤ n → ((p : Place) → s ≡ Is p → In e p) → Within n (there s)
+there-within : (e n : ℕ) (s : Found) → e ≤ n → ((p : Place) → s ≡ Is p → PlaceIn e p) → Within n (there s)
 there-within e n Nothing l h = tt
 there-within e n (Is p) l h = let i = h p refl in (i .0, i .1, i .2, omega (arith, i .3))
 
-module _ (xs : List ℕ) (n : ℕ) (z : ℤ) where
-  opened-within : (m : ℕ) (some : ℕ → ℕ → StringAnswer) → ((a e : ℕ) → Reached xs n z a e → Within m (some a e))
-      → Within m (onOpened (openedOf xs n z) string.Refused some)
-  opened-within m some h = go (openedOf xs n z) refl
+module _ (how : Manner) (xs : List ℕ) (n : ℕ) (z : ℤ) where
+  opened-within : (m : ℕ) (some : ℕ → ℕ → StringAnswer) → ((a e : ℕ) → Reached how xs n z a e → Within m (some a e))
+      → Within m (onOpened (openedOf how xs n z) string.Refused some)
+  opened-within m some h = go (openedOf how xs n z) refl
     where
-      go : (o : Opened) → openedOf xs n z ≡ o → Within m (onOpened o string.Refused some)
+      go : (o : Opened) → openedOf how xs n z ≡ o → Within m (onOpened o string.Refused some)
       go (opened.Bad r) q = tt
-      go (opened.From a e) q = h a e (reached xs n z a e q)
+      go (opened.From a e) q = h a e (reached how xs n z a e q)
 
-  nth-ends : (m : ℕ) → ((a e : ℕ) → Reached xs n z a e → e ≤ m) → (i : ℕ) → Within m (nthAnswer xs n z i)
+  nth-ends : (m : ℕ) → ((a e : ℕ) → Reached how xs n z a e → e ≤ m) → (i : ℕ) → Within m (nthAnswer how xs n z i)
   nth-ends m h i =
-      rw (← nth-opened xs n z i)
+      rw (← nth-opened how xs n z i)
       (opened-within m _
       (λ a e r.
-      there-within e m (nthOf (placesIn (take n xs) a e) i) (h a e r) (λ p q. nth-in e (placesIn (take n xs) a e) i p (places-in xs n z a e r) q)))
+      there-within e m (nthOf (placesIn how (take n xs) a e) i) (h a e r) (λ p q. nth-in e (placesIn how (take n xs) a e) i p (places-in how xs n z a e r) q)))
 
-  find-ends : (m : ℕ) → ((a e : ℕ) → Reached xs n z a e → e ≤ m) → (key : List ℕ) → Within m (findAnswer xs n z key)
+  find-ends : (m : ℕ) → ((a e : ℕ) → Reached how xs n z a e → e ≤ m) → (key : List ℕ) → Within m (findAnswer how xs n z key)
   find-ends m h key =
-      rw (← find-opened xs n z key)
+      rw (← find-opened how xs n z key)
       (opened-within m _
       (λ a e r.
-      there-within e m (findOf (take n xs) (placesIn (take n xs) a e) key) (h a e r)
-      (λ p q. find-in e (take n xs) (placesIn (take n xs) a e) key p (places-in xs n z a e r) q)))
+      there-within e m (findOf how (take n xs) (placesIn how (take n xs) a e) key) (h a e r)
+      (λ p q. find-in how e (take n xs) (placesIn how (take n xs) a e) key p (places-in how xs n z a e r) q)))
 
   -- key ≤ gap ≤ value ≤ end ≤ n
-  pub nth-within : (i : ℕ) → Within n (nthAnswer xs n z i)
+  pub nth-within : (i : ℕ) → Within n (nthAnswer how xs n z i)
   nth-within i = nth-ends n (λ a e r. omega (arith, r .end, r .known .size)) i
 
-  pub find-within : (key : List ℕ) → Within n (findAnswer xs n z key)
+  pub find-within : (key : List ℕ) → Within n (findAnswer how xs n z key)
   find-within key = find-ends n (λ a e r. omega (arith, r .end, r .known .size)) key
 
   -- and n is within the buffer
-  pub find-lent : (key : List ℕ) → Within (length xs) (findAnswer xs n z key)
+  pub find-lent : (key : List ℕ) → Within (length xs) (findAnswer how xs n z key)
   find-lent key = find-ends (length xs) (λ a e r. omega (arith, r .end, r .known .size, r .known .fits)) key
 
 -- a value within the first n bytes is the same part of the buffer
@@ -199,56 +201,56 @@ value-within xs n string.Absent h = refl
 value-within xs n (string.Refused r) h = refl
 
 -- so the value that is found is the answer
-pub value-told : (xs : List ℕ) (n : ℕ) (z : ℤ) (key : List ℕ) (s : StringAnswer) → s ≡ findAnswer xs n z key → valueThere xs s ≡ valueAnswer xs n z key
+pub value-told : (how : Manner) (xs : List ℕ) (n : ℕ) (z : ℤ) (key : List ℕ) (s : StringAnswer) → s ≡ findAnswer how xs n z key → valueThere xs s ≡ valueAnswer how xs n z key
 unfolding valueAnswer
-value-told xs n z key s e = ap (λ (r : StringAnswer). valueThere xs r) e ∙ value-within xs n (findAnswer xs n z key) (find-within xs n z key)
+value-told how xs n z key s e = ap (λ (r : StringAnswer). valueThere xs r) e ∙ value-within xs n (findAnswer how xs n z key) (find-within how xs n z key)
 
 -- where it stands is where the answer stands
-pub span-told : {b r : RefT (List ℕ)} (xs : List ℕ) (n : ℕ) (z : ℤ) (key : List ℕ) (s : StringAnswer) → s ≡ findAnswer xs n z key → PartOf b (spanThere s) r
-    → PartOf b (spanAnswer xs n z key) r
+pub span-told : (how : Manner) {b r : RefT (List ℕ)} (xs : List ℕ) (n : ℕ) (z : ℤ) (key : List ℕ) (s : StringAnswer) → s ≡ findAnswer how xs n z key → PartOf b (spanThere s) r
+    → PartOf b (spanAnswer how xs n z key) r
 unfolding spanAnswer
-span-told xs n z key s e h = rw e at h
+span-told how xs n z key s e h = rw e at h
 
 -- and what is made of it is the answer, unless the string was refused
-pub value-made : {A : Type 0} (bad : Refusal → A) (g : List ℕ → A) (xs : List ℕ) (n : ℕ) (z : ℤ) (key : List ℕ) (s : StringAnswer) (v : List ℕ)
-    → s ≡ findAnswer xs n z key → v ≡ valueThere xs s → ((a : A) → onString bad s a ≡ a)
-    → g v ≡ onString bad (findAnswer xs n z key) (g (valueAnswer xs n z key))
-value-made bad g xs n z key s v e w k =
-    ap g (w ∙ value-told xs n z key s e) ∙ sym (k (g (valueAnswer xs n z key))) ∙ ap (λ (r : StringAnswer). onString bad r (g (valueAnswer xs n z key))) e
+pub value-made : (how : Manner) {A : Type 0} (bad : Refusal → A) (g : List ℕ → A) (xs : List ℕ) (n : ℕ) (z : ℤ) (key : List ℕ) (s : StringAnswer) (v : List ℕ)
+    → s ≡ findAnswer how xs n z key → v ≡ valueThere xs s → ((a : A) → onString bad s a ≡ a)
+    → g v ≡ onString bad (findAnswer how xs n z key) (g (valueAnswer how xs n z key))
+value-made how bad g xs n z key s v e w k =
+    ap g (w ∙ value-told how xs n z key s e) ∙ sym (k (g (valueAnswer how xs n z key))) ∙ ap (λ (r : StringAnswer). onString bad r (g (valueAnswer how xs n z key))) e
 
-pub held : (n : ℕ) (s : StringAnswer) (p : Place) → s ≡ string.There p → Within n s → In n p
+pub held : (n : ℕ) (s : StringAnswer) (p : Place) → s ≡ string.There p → Within n s → PlaceIn n p
 held n s p e h = rw e at h
 
 -- ---- a trace that is answered
 
-pub record Told (xs : List ℕ) (n : ℕ) (z : ℤ) (t : TraceBlock) : Type 0 where
-  pub accepted : checkOf false xs n ≡ Accepted
-  pub known : Checked xs n
+pub record Told (how : Manner) (xs : List ℕ) (n : ℕ) (z : ℤ) (t : TraceBlock) : Type 0 where
+  pub accepted : checkOf how Read xs n ≡ Accepted
+  pub known : Checked how xs n
   pub k : ℕ
   pub number : z ≡ pos k
   pub whose : whoseOf z (countOf (take n xs)) ≡ One k
   pub low : k < countOf (take n xs)
   pub block : t ≡ traceBlockOf (highFirst (take n xs)) (take n xs) k
 
-pub told : (xs : List ℕ) (n : ℕ) (z : ℤ) (t : TraceBlock) → traceAnswer xs n z ≡ trace.Is t → Told xs n z t
+pub told : (how : Manner) (xs : List ℕ) (n : ℕ) (z : ℤ) (t : TraceBlock) → traceAnswer how xs n z ≡ trace.Is t → Told how xs n z t
 unfolding traceAnswer
-told xs n z t h = go (checkOf false xs n) refl (whoseOf z (countOf (take n xs))) refl h
+told how xs n z t h = go (checkOf how Read xs n) refl (whoseOf z (countOf (take n xs))) refl h
   where
-    go : (v : Verdict) → checkOf false xs n ≡ v → (w : Whose) → whoseOf z (countOf (take n xs)) ≡ w
+    go : (v : Verdict) → checkOf how Read xs n ≡ v → (w : Whose) → whoseOf z (countOf (take n xs)) ≡ w
         → asked trace.Refused v (onTrace w (trace.Refused noTrace) (λ k. trace.Is (traceBlockOf (highFirst (take n xs)) (take n xs) k))) ≡ trace.Is t
-        → Told xs n z t
+        → Told how xs n z t
     go (Refused r) q w p k = let y : _≡_ {A = ℕ} 0 1 = cc in absurd (omega arith)
     go Accepted q Whole p k = let y : _≡_ {A = ℕ} 0 1 = cc in absurd (omega arith)
     go Accepted q Nobody p k = let y : _≡_ {A = ℕ} 0 1 = cc in absurd (omega arith)
     go Accepted q (One j) p k =
         let s = whose-trace z (countOf (take n xs)) j p in
-        record { accepted = q; known = checked xs n q; k = j; number = s .0; whose = p; low = s .1; block = cc }
+        record { accepted = q; known = checked how xs n q; k = j; number = s .0; whose = p; low = s .1; block = cc }
 
-block-fits : (xs : List ℕ) (n k : ℕ) → Checked xs n → k < countOf (take n xs) → Fits (length (take n xs)) (traceBlockOf (highFirst (take n xs)) (take n xs) k)
+block-fits : (how : Manner) (xs : List ℕ) (n k : ℕ) → Checked how xs n → k < countOf (take n xs) → Fits (length (take n xs)) (traceBlockOf (highFirst (take n xs)) (take n xs) k)
 unfolding traceBlockOf
-block-fits xs n k c l =
-    let b = trace-blocked (take n xs) (c .image) k l in
+block-fits how xs n k c l =
+    let b = trace-blocked how (take n xs) (c .image) k l in
     record { inside = b .data-fits; most = omega (arith, c .most, c .size); groups = b .groups; samples = b .samples }
 
-pub told-fits : (xs : List ℕ) (n : ℕ) (z : ℤ) (t : TraceBlock) → Told xs n z t → Fits (length (take n xs)) t
-told-fits xs n z t h = rw (h .block) (block-fits xs n (h .k) (h .known) (h .low))
+pub told-fits : (how : Manner) (xs : List ℕ) (n : ℕ) (z : ℤ) (t : TraceBlock) → Told how xs n z t → Fits (length (take n xs)) t
+told-fits how xs n z t h = rw (h .block) (block-fits how xs n (h .k) (h .known) (h .low))

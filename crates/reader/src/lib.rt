@@ -1,23 +1,27 @@
 // The questions on a file: blocks, strings, keywords and numbers in values (document 01, rows 18, 20 to 23). Questions has the definitions, those of
-// samples too; Listed, Answers, First, Same and Reach are the second view. Every question checks the whole file first; its answer is one of the image,
-// the first `n` bytes of the lent buffer. A part is -1 for the file, else the trace. Stands on `image`, `lookup`, `double` and what they stand on.
+// samples too; Listed, Answers and Reach are the second view. Every question checks the whole file first; its answer is one of the image, the first `n`
+// bytes of the lent buffer. A part is -1 for the file, else the trace; `how` is the manner of reading. Stands on `image`, `lookup`, `double` and what
+// they stand on.
 // The rules in words: docs/FORMAT.md, "Strings".
-use block::TraceBlock;
+use block::TraceAnswer;
 use decimal::NumberAnswer;
 use double::DoubleAnswer;
 use double::LocationAnswer;
+use head::FileAnswer;
+use head::Purpose;
 use refusal::Part;
 use refusal::Refusal;
 use refusal::Rule;
 use refusal::Verdict;
 use strings::Found;
 use strings::Place;
+use text::Manner;
 ghost use mathlib.Core.Path.{_≡_};
-ghost use mathlib.Core.Bool.{false};
 ghost use Prim.Native.Nat.{_≤_};
 ghost use lib.ListN.{length};
 ghost use Rattle.word.specs.Part.{PartOf};
 ghost use Rattle.refusal.specs.declared.Verdict.the-variants.{Accepted};
+ghost use Rattle.head.specs.declared.Purpose.the-variants.{Read};
 ghost use Rattle.head.specs.Head.{countOf};
 ghost use Rattle.image.specs.Image.{imageOf};
 ghost use Rattle.reader.specs.Questions.{noTrace, areaAsked, fileAnswer, traceAnswer, countAnswer, nthAnswer, findAnswer, keywordAnswer, valueThere, valueAnswer, spanThere, spanAnswer, numberAnswer, doubleAnswer, locationAnswer, whoseOf};
@@ -34,25 +38,6 @@ pub enum Whose {
 pub enum Area {
     Outside,
     From(usize, usize),
-}
-
-// The byte order, M, N, and the lengths of the string terminator (its characters stand from byte 9 on) and of the line terminator (from 12 on).
-pub struct FileFacts {
-    pub high: bool,
-    pub m: usize,
-    pub n: usize,
-    pub strings: usize,
-    pub lines: usize,
-}
-
-pub enum FileAnswer {
-    Is(FileFacts),
-    Refused(Refusal),
-}
-
-pub enum TraceAnswer {
-    Is(TraceBlock),
-    Refused(Refusal),
 }
 
 pub enum CountAnswer {
@@ -113,8 +98,8 @@ fn no_trace() -> Refusal
 }
 
 // Where the strings of a part of an accepted image stand.
-fn area_of(f: &[u8], part: i32) -> Area
-    requires { ⌜ (32 ≤ length (now f)) × (imageOf false (now f) ≡ Accepted) ⌝ }
+fn area_of(f: &[u8], part: i32, how: Manner) -> Area
+    requires { ⌜ (32 ≤ length (now f)) × (imageOf how Read (now f) ≡ Accepted) ⌝ }
     ensures { λ r. ⌜ r ≡ areaAsked (now (f .entry)) part ⌝ }
 {
     let high = head::is_high(f);
@@ -135,14 +120,14 @@ enum Opened {
     Bad(Refusal),
 }
 
-fn open_area(buffer: &[u8], n: usize, part: i32) -> Opened
-    ensures { λ r. ⌜ r ≡ openedOf (now (buffer .entry)) n part ⌝ }
+fn open_area(buffer: &[u8], n: usize, part: i32, how: Manner) -> Opened
+    ensures { λ r. ⌜ r ≡ openedOf how (now (buffer .entry)) n part ⌝ }
 {
-    let v = image::check(buffer, n, false);
+    let v = image::check(buffer, n, Purpose::Read, how);
     if let Verdict::Refused(r) = v {
         return Opened::Bad(r);
     }
-    let w = area_of(&buffer[..n], part);
+    let w = area_of(&buffer[..n], part, how);
     match w {
         Area::Outside => Opened::Bad(no_trace()),
         Area::From(a, e) => Opened::From(a, e),
@@ -152,32 +137,21 @@ fn open_area(buffer: &[u8], n: usize, part: i32) -> Opened
 // ---- blocks
 
 // The file block.
-pub fn file_block(buffer: &[u8], n: usize) -> FileAnswer
-    ensures { λ r. ⌜ r ≡ fileAnswer (now (buffer .entry)) n ⌝ }
+pub fn file_block(buffer: &[u8], n: usize, how: Manner) -> FileAnswer
+    ensures { λ r. ⌜ r ≡ fileAnswer how (now (buffer .entry)) n ⌝ }
 {
-    let v = image::check(buffer, n, false);
+    let v = image::check(buffer, n, Purpose::Read, how); // a file has a trace
     if let Verdict::Refused(r) = v {
         return FileAnswer::Refused(r);
     }
-    let f = &buffer[..n];
-    let b = head::file_block(f);
-    let high = b.high;
-    let m = b.m;
-    let count = b.n;
-    FileAnswer::Is(FileFacts {
-        high,
-        m,
-        n: count,
-        strings: word::wide(f[8]),
-        lines: word::wide(f[11]),
-    })
+    FileAnswer::Is(head::file_block(&buffer[..n]))
 }
 
 // The trace block of a trace; -1, the file, is none.
-pub fn trace_block(buffer: &[u8], n: usize, trace: i32) -> TraceAnswer
-    ensures { λ r. ⌜ r ≡ traceAnswer (now (buffer .entry)) n trace ⌝ }
+pub fn trace_block(buffer: &[u8], n: usize, trace: i32, how: Manner) -> TraceAnswer
+    ensures { λ r. ⌜ r ≡ traceAnswer how (now (buffer .entry)) n trace ⌝ }
 {
-    let v = image::check(buffer, n, false);
+    let v = image::check(buffer, n, Purpose::Read, how);
     if let Verdict::Refused(r) = v {
         return TraceAnswer::Refused(r);
     }
@@ -193,15 +167,15 @@ pub fn trace_block(buffer: &[u8], n: usize, trace: i32) -> TraceAnswer
 // ---- strings
 
 // How many strings a part has.
-pub fn string_count(buffer: &[u8], n: usize, part: i32) -> CountAnswer
-    ensures { λ r. ⌜ r ≡ countAnswer (now (buffer .entry)) n part ⌝ }
+pub fn string_count(buffer: &[u8], n: usize, part: i32, how: Manner) -> CountAnswer
+    ensures { λ r. ⌜ r ≡ countAnswer how (now (buffer .entry)) n part ⌝ }
 {
-    let o = open_area(buffer, n, part);
+    let o = open_area(buffer, n, part, how);
     match o {
         Opened::Bad(r) => CountAnswer::Refused(r),
         Opened::From(a, e) => {
             let f = &buffer[..n];
-            CountAnswer::Is(lookup::count(f, a, e, head::is_high(f), head::terminator(f, 8)))
+            CountAnswer::Is(lookup::count(f, a, e, head::is_high(f), head::string_end(f), how))
         }
     }
 }
@@ -217,38 +191,38 @@ fn there(s: Found) -> StringAnswer
 }
 
 // The i-th string of a part, counted from 0; past the last there is none.
-pub fn string(buffer: &[u8], n: usize, part: i32, i: usize) -> StringAnswer
-    ensures { λ r. ⌜ r ≡ nthAnswer (now (buffer .entry)) n part i ⌝ }
+pub fn string(buffer: &[u8], n: usize, part: i32, i: usize, how: Manner) -> StringAnswer
+    ensures { λ r. ⌜ r ≡ nthAnswer how (now (buffer .entry)) n part i ⌝ }
 {
-    let o = open_area(buffer, n, part);
+    let o = open_area(buffer, n, part, how);
     match o {
         Opened::Bad(r) => StringAnswer::Refused(r),
         Opened::From(a, e) => {
             let f = &buffer[..n];
-            there(lookup::nth(f, a, e, head::is_high(f), head::terminator(f, 8), i))
+            there(lookup::nth(f, a, e, head::is_high(f), head::string_end(f), i, how))
         }
     }
 }
 
 // The string with a keyword. Any bytes may be asked for.
-pub fn find(buffer: &[u8], n: usize, part: i32, key: &[u8]) -> StringAnswer
-    ensures { λ r. ⌜ r ≡ findAnswer (now (buffer .entry)) n part (now (key .entry)) ⌝ }
+pub fn find(buffer: &[u8], n: usize, part: i32, key: &[u8], how: Manner) -> StringAnswer
+    ensures { λ r. ⌜ r ≡ findAnswer how (now (buffer .entry)) n part (now (key .entry)) ⌝ }
 {
-    let o = open_area(buffer, n, part);
+    let o = open_area(buffer, n, part, how);
     match o {
         Opened::Bad(r) => StringAnswer::Refused(r),
         Opened::From(a, e) => {
             let f = &buffer[..n];
-            there(lookup::find(f, a, e, head::is_high(f), head::terminator(f, 8), key))
+            there(lookup::find(f, a, e, head::is_high(f), head::string_end(f), key, how))
         }
     }
 }
 
 // "A keyword question is two calls: one answers yes, no or the refusal".
-pub fn keyword(buffer: &[u8], n: usize, part: i32, key: &[u8]) -> KeywordAnswer
-    ensures { λ r. ⌜ r ≡ keywordAnswer (now (buffer .entry)) n part (now (key .entry)) ⌝ }
+pub fn keyword(buffer: &[u8], n: usize, part: i32, key: &[u8], how: Manner) -> KeywordAnswer
+    ensures { λ r. ⌜ r ≡ keywordAnswer how (now (buffer .entry)) n part (now (key .entry)) ⌝ }
 {
-    let s = find(buffer, n, part, key);
+    let s = find(buffer, n, part, key, how);
     match s {
         StringAnswer::There(_) => KeywordAnswer::Yes,
         StringAnswer::Absent => KeywordAnswer::No,
@@ -280,39 +254,39 @@ fn value_at<'a>(buffer: &'a [u8], s: StringAnswer) -> &'a [u8]
 }
 
 // "the other answers the value as the caller's own bytes, not a copy, and for a no or a refusal the empty part".
-pub fn value<'a>(buffer: &'a [u8], n: usize, part: i32, key: &[u8]) -> &'a [u8]
-    ensures { λ r. ⌜ now r ≡ valueAnswer (now (buffer .entry)) n part (now (key .entry)) ⌝ }
-    ensures own { λ r. ⌜ PartOf (buffer .entry) (spanAnswer (now (buffer .entry)) n part (now (key .entry))) r ⌝ }
+pub fn value<'a>(buffer: &'a [u8], n: usize, part: i32, key: &[u8], how: Manner) -> &'a [u8]
+    ensures { λ r. ⌜ now r ≡ valueAnswer how (now (buffer .entry)) n part (now (key .entry)) ⌝ }
+    ensures own { λ r. ⌜ PartOf (buffer .entry) (spanAnswer how (now (buffer .entry)) n part (now (key .entry))) r ⌝ }
 {
-    value_at(buffer, find(buffer, n, part, key))
+    value_at(buffer, find(buffer, n, part, key, how))
 }
 
 // ---- numbers in values; an absent keyword has the empty value, which is no number and no location
 
-pub fn number(buffer: &[u8], n: usize, part: i32, key: &[u8]) -> NumberAnswer
-    ensures { λ r. ⌜ r ≡ numberAnswer (now (buffer .entry)) n part (now (key .entry)) ⌝ }
+pub fn number(buffer: &[u8], n: usize, part: i32, key: &[u8], how: Manner) -> NumberAnswer
+    ensures { λ r. ⌜ r ≡ numberAnswer how (now (buffer .entry)) n part (now (key .entry)) ⌝ }
 {
-    let s = find(buffer, n, part, key);
+    let s = find(buffer, n, part, key, how);
     if let StringAnswer::Refused(r) = s {
         return NumberAnswer::Refused(r);
     }
     decimal::number(value_at(buffer, s))
 }
 
-pub fn double(buffer: &[u8], n: usize, part: i32, key: &[u8]) -> DoubleAnswer
-    ensures { λ r. ⌜ r ≡ doubleAnswer (now (buffer .entry)) n part (now (key .entry)) ⌝ }
+pub fn double(buffer: &[u8], n: usize, part: i32, key: &[u8], how: Manner) -> DoubleAnswer
+    ensures { λ r. ⌜ r ≡ doubleAnswer how (now (buffer .entry)) n part (now (key .entry)) ⌝ }
 {
-    let s = find(buffer, n, part, key);
+    let s = find(buffer, n, part, key, how);
     if let StringAnswer::Refused(r) = s {
         return DoubleAnswer::Refused(r);
     }
     double::double(value_at(buffer, s))
 }
 
-pub fn location(buffer: &[u8], n: usize, part: i32, key: &[u8]) -> LocationAnswer
-    ensures { λ r. ⌜ r ≡ locationAnswer (now (buffer .entry)) n part (now (key .entry)) ⌝ }
+pub fn location(buffer: &[u8], n: usize, part: i32, key: &[u8], how: Manner) -> LocationAnswer
+    ensures { λ r. ⌜ r ≡ locationAnswer how (now (buffer .entry)) n part (now (key .entry)) ⌝ }
 {
-    let s = find(buffer, n, part, key);
+    let s = find(buffer, n, part, key, how);
     if let StringAnswer::Refused(r) = s {
         return LocationAnswer::Refused(r);
     }

@@ -1,5 +1,5 @@
 // The face for other languages: thin functions on numbers and byte slices, each with a whole promise and no `requires`. include/seg2.h declares them.
-// The answers are those of `image`, `reader`, `traces`, `start` and `writer`, as `face` hands them over.
+// The answers are those of `image`, `reader`, `samples`, `start` and `writer`, as `face` hands them over. Strings are read in the strict manner.
 // The rules in words: docs/FORMAT.md, "Refusal numbers, in order of checking".
 use face::Seg2Count;
 use face::Seg2Double;
@@ -12,105 +12,108 @@ use face::Seg2String;
 use face::Seg2Trace;
 use face::Seg2Value;
 use face::Seg2Verdict;
+use head::Purpose;
+use text::Manner;
 ghost use mathlib.Core.Path.{_≡_};
-ghost use mathlib.Core.Bool.{false};
 ghost use lib.ListN.{length};
+ghost use Rattle.text.specs.declared.Manner.the-variants.{Strict};
+ghost use Rattle.head.specs.declared.Purpose.the-variants.{Read};
 ghost use Rattle.image.specs.Image.{checkOf};
 ghost use Rattle.reader.specs.Questions.{fileAnswer, traceAnswer, countAnswer, nthAnswer, findAnswer, keywordAnswer, numberAnswer, doubleAnswer, locationAnswer, integersAnswer, integersLeft, bitsAnswer, patternsLeft, classesLeft};
-ghost use Rattle.layout.specs.Layout.{ofIntegers, ofPatterns};
+ghost use Rattle.layout.specs.Layout.{integersTrace, patternsTrace};
 ghost use Rattle.start.specs.Start.{startAnswer, startLeft};
 ghost use Rattle.writer.specs.Answers.{addAnswer, addLeft};
-ghost use Rattle.face.specs.Face.{verdictOf, fileOf, traceOf, countOf, stringOf, keywordOf, valueOf, decimalOf, doubleOf, locationOf, lengthOf};
+ghost use Rattle.face.specs.Face.{asVerdict, asFile, asTrace, asCount, asString, asKeyword, asValue, asNumber, asDouble, asLocation, asLength};
 
 // ---- questions
 
 // Whether the first `n` bytes of the buffer are a file that keeps the rules; if not, the first row of the table that it meets.
 #[no_mangle]
 pub extern "C" fn seg2_check(buffer: &[u8], n: usize) -> Seg2Verdict
-    ensures { λ r. ⌜ r ≡ verdictOf (checkOf false (now (buffer .entry)) n) ⌝ }
+    ensures { λ r. ⌜ r ≡ asVerdict (checkOf Strict Read (now (buffer .entry)) n) ⌝ }
 {
-    face::told(image::check(buffer, n, false))
+    face::told(image::check(buffer, n, Purpose::Read, Manner::Strict))
 }
 
 // The file block.
 #[no_mangle]
 pub extern "C" fn seg2_file_block(buffer: &[u8], n: usize) -> Seg2File
-    ensures { λ r. ⌜ r ≡ fileOf (fileAnswer (now (buffer .entry)) n) ⌝ }
+    ensures { λ r. ⌜ r ≡ asFile (fileAnswer Strict (now (buffer .entry)) n) ⌝ }
 {
-    face::file_told(reader::file_block(buffer, n))
+    face::file_told(reader::file_block(buffer, n, Manner::Strict))
 }
 
 // A trace's block.
 #[no_mangle]
 pub extern "C" fn seg2_trace_block(buffer: &[u8], n: usize, trace: i32) -> Seg2Trace
-    ensures { λ r. ⌜ r ≡ traceOf (traceAnswer (now (buffer .entry)) n trace) ⌝ }
+    ensures { λ r. ⌜ r ≡ asTrace (traceAnswer Strict (now (buffer .entry)) n trace) ⌝ }
 {
-    face::trace_told(reader::trace_block(buffer, n, trace))
+    face::trace_told(reader::trace_block(buffer, n, trace, Manner::Strict))
 }
 
 // How many strings the file (part -1) or a trace has.
 #[no_mangle]
 pub extern "C" fn seg2_string_count(buffer: &[u8], n: usize, part: i32) -> Seg2Count
-    ensures { λ r. ⌜ r ≡ countOf (countAnswer (now (buffer .entry)) n part) ⌝ }
+    ensures { λ r. ⌜ r ≡ asCount (countAnswer Strict (now (buffer .entry)) n part) ⌝ }
 {
-    face::count_told(reader::string_count(buffer, n, part))
+    face::count_told(reader::string_count(buffer, n, part, Manner::Strict))
 }
 
 // The string with an index, counted from 0.
 #[no_mangle]
 pub extern "C" fn seg2_string(buffer: &[u8], n: usize, part: i32, index: usize) -> Seg2String
-    ensures { λ r. ⌜ r ≡ stringOf (nthAnswer (now (buffer .entry)) n part index) ⌝ }
+    ensures { λ r. ⌜ r ≡ asString (nthAnswer Strict (now (buffer .entry)) n part index) ⌝ }
 {
-    face::string_told(reader::string(buffer, n, part, index))
+    face::string_told(reader::string(buffer, n, part, index, Manner::Strict))
 }
 
 // Whether a keyword is there: one of the two calls of a keyword question.
 #[no_mangle]
 pub extern "C" fn seg2_keyword(buffer: &[u8], n: usize, part: i32, key: &[u8]) -> Seg2Keyword
-    ensures { λ r. ⌜ r ≡ keywordOf (keywordAnswer (now (buffer .entry)) n part (now (key .entry))) ⌝ }
+    ensures { λ r. ⌜ r ≡ asKeyword (keywordAnswer Strict (now (buffer .entry)) n part (now (key .entry))) ⌝ }
 {
-    face::keyword_told(reader::keyword(buffer, n, part, key))
+    face::keyword_told(reader::keyword(buffer, n, part, key, Manner::Strict))
 }
 
 // A keyword's value: the other one.
 #[no_mangle]
 pub extern "C" fn seg2_value(buffer: &[u8], n: usize, part: i32, key: &[u8]) -> Seg2Value
-    ensures { λ r. ⌜ r ≡ valueOf (findAnswer (now (buffer .entry)) n part (now (key .entry))) ⌝ }
+    ensures { λ r. ⌜ r ≡ asValue (findAnswer Strict (now (buffer .entry)) n part (now (key .entry))) ⌝ }
 {
-    face::value_told(reader::find(buffer, n, part, key))
+    face::value_told(reader::find(buffer, n, part, key, Manner::Strict))
 }
 
 // The number that a keyword's value is.
 #[no_mangle]
 pub extern "C" fn seg2_number(buffer: &[u8], n: usize, part: i32, key: &[u8]) -> Seg2Number
-    ensures { λ r. ⌜ r ≡ decimalOf (numberAnswer (now (buffer .entry)) n part (now (key .entry))) ⌝ }
+    ensures { λ r. ⌜ r ≡ asNumber (numberAnswer Strict (now (buffer .entry)) n part (now (key .entry))) ⌝ }
 {
-    face::number_told(reader::number(buffer, n, part, key))
+    face::number_told(reader::number(buffer, n, part, key, Manner::Strict))
 }
 
 // The double that a keyword's value is.
 #[no_mangle]
 pub extern "C" fn seg2_double(buffer: &[u8], n: usize, part: i32, key: &[u8]) -> Seg2Double
-    ensures { λ r. ⌜ r ≡ doubleOf (doubleAnswer (now (buffer .entry)) n part (now (key .entry))) ⌝ }
+    ensures { λ r. ⌜ r ≡ asDouble (doubleAnswer Strict (now (buffer .entry)) n part (now (key .entry))) ⌝ }
 {
-    face::double_told(reader::double(buffer, n, part, key))
+    face::double_told(reader::double(buffer, n, part, key, Manner::Strict))
 }
 
 // The location that a keyword's value is.
 #[no_mangle]
 pub extern "C" fn seg2_location(buffer: &[u8], n: usize, part: i32, key: &[u8]) -> Seg2Location
-    ensures { λ r. ⌜ r ≡ locationOf (locationAnswer (now (buffer .entry)) n part (now (key .entry))) ⌝ }
+    ensures { λ r. ⌜ r ≡ asLocation (locationAnswer Strict (now (buffer .entry)) n part (now (key .entry))) ⌝ }
 {
-    face::location_told(reader::location(buffer, n, part, key))
+    face::location_told(reader::location(buffer, n, part, key, Manner::Strict))
 }
 
 // The samples of a trace of code 1 to 3, into a row of as many.
 #[no_mangle]
 pub extern "C" fn seg2_integers(buffer: &[u8], n: usize, trace: i32, row: &mut [i32]) -> Seg2Verdict
-    ensures answer { λ r. ⌜ r ≡ verdictOf (integersAnswer (now (buffer .entry)) n trace (length (now (row .entry)))) ⌝ }
-    ensures row { λ _. ⌜ now (row .exit) ≡ integersLeft (now (buffer .entry)) n trace (now (row .entry)) ⌝ }
+    ensures answer { λ r. ⌜ r ≡ asVerdict (integersAnswer Strict (now (buffer .entry)) n trace (length (now (row .entry)))) ⌝ }
+    ensures row { λ _. ⌜ now (row .exit) ≡ integersLeft Strict (now (buffer .entry)) n trace (now (row .entry)) ⌝ }
 {
-    face::told(traces::integers(buffer, n, trace, row))
+    face::told(samples::integers(buffer, n, trace, row, Manner::Strict))
 }
 
 // The bit patterns and the classes of the samples of a trace of code 4 or 5, into two rows of as many.
@@ -122,11 +125,11 @@ pub extern "C" fn seg2_bits(
     row: &mut [u64],
     classes: &mut [u8],
 ) -> Seg2Verdict
-    ensures answer { λ r. ⌜ r ≡ verdictOf (bitsAnswer (now (buffer .entry)) n trace (length (now (row .entry))) (length (now (classes .entry)))) ⌝ }
-    ensures row { λ _. ⌜ now (row .exit) ≡ patternsLeft (now (buffer .entry)) n trace (now (row .entry)) (now (classes .entry)) ⌝ }
-    ensures classes { λ _. ⌜ now (classes .exit) ≡ classesLeft (now (buffer .entry)) n trace (now (row .entry)) (now (classes .entry)) ⌝ }
+    ensures answer { λ r. ⌜ r ≡ asVerdict (bitsAnswer Strict (now (buffer .entry)) n trace (length (now (row .entry))) (length (now (classes .entry)))) ⌝ }
+    ensures row { λ _. ⌜ now (row .exit) ≡ patternsLeft Strict (now (buffer .entry)) n trace (now (row .entry)) (now (classes .entry)) ⌝ }
+    ensures classes { λ _. ⌜ now (classes .exit) ≡ classesLeft Strict (now (buffer .entry)) n trace (now (row .entry)) (now (classes .entry)) ⌝ }
 {
-    face::told(traces::bits(buffer, n, trace, row, classes))
+    face::told(samples::bits(buffer, n, trace, row, classes, Manner::Strict))
 }
 
 // ---- writing
@@ -134,7 +137,7 @@ pub extern "C" fn seg2_bits(
 // A new file without traces: the byte order (0 low first, 1 high first), the pointer slots, the file's sheet.
 #[no_mangle]
 pub extern "C" fn seg2_start(buffer: &mut [u8], order: u32, slots: u32, sheet: &[u8]) -> Seg2Length
-    ensures answer { λ r. ⌜ r ≡ lengthOf (startAnswer (now (buffer .entry)) order slots (now (sheet .entry))) ⌝ }
+    ensures answer { λ r. ⌜ r ≡ asLength (startAnswer (now (buffer .entry)) order slots (now (sheet .entry))) ⌝ }
     ensures left { λ _. ⌜ now (buffer .exit) ≡ startLeft (now (buffer .entry)) order slots (now (sheet .entry)) ⌝ }
 {
     face::length_told(start::start(buffer, order as usize, slots as usize, sheet))
@@ -149,8 +152,8 @@ pub extern "C" fn seg2_add_integers(
     code: u32,
     row: &[i32],
 ) -> Seg2Length
-    ensures answer { λ r. ⌜ r ≡ lengthOf (addAnswer (now (buffer .entry)) n (ofIntegers (now (sheet .entry)) code (now (row .entry)))) ⌝ }
-    ensures left { λ _. ⌜ now (buffer .exit) ≡ addLeft (now (buffer .entry)) n (ofIntegers (now (sheet .entry)) code (now (row .entry))) ⌝ }
+    ensures answer { λ r. ⌜ r ≡ asLength (addAnswer (now (buffer .entry)) n (integersTrace (now (sheet .entry)) code (now (row .entry)))) ⌝ }
+    ensures left { λ _. ⌜ now (buffer .exit) ≡ addLeft (now (buffer .entry)) n (integersTrace (now (sheet .entry)) code (now (row .entry))) ⌝ }
 {
     face::length_told(writer::add_integers(buffer, n, sheet, code, row))
 }
@@ -164,8 +167,8 @@ pub extern "C" fn seg2_add_bits(
     code: u32,
     row: &[u64],
 ) -> Seg2Length
-    ensures answer { λ r. ⌜ r ≡ lengthOf (addAnswer (now (buffer .entry)) n (ofPatterns (now (sheet .entry)) code (now (row .entry)))) ⌝ }
-    ensures left { λ _. ⌜ now (buffer .exit) ≡ addLeft (now (buffer .entry)) n (ofPatterns (now (sheet .entry)) code (now (row .entry))) ⌝ }
+    ensures answer { λ r. ⌜ r ≡ asLength (addAnswer (now (buffer .entry)) n (patternsTrace (now (sheet .entry)) code (now (row .entry)))) ⌝ }
+    ensures left { λ _. ⌜ now (buffer .exit) ≡ addLeft (now (buffer .entry)) n (patternsTrace (now (sheet .entry)) code (now (row .entry))) ⌝ }
 {
     face::length_told(writer::add_bits(buffer, n, sheet, code, row))
 }

@@ -1,14 +1,17 @@
 // The worked values of document 01 and the examples of the paper (document 001), run against the proved functions. Each group writes one line, and
 // the stored output is what they have to write. Stands on the leaves (`image`, `strings`, `lookup`, `decode`, `encode`, `decimal`, `double`) and, for
-// what is written and read back, on `start`, `writer` and `traces`.
+// what is written and read back, on `start`, `writer` and `samples`.
 // The rules in words: docs/FORMAT.md, "Worked values".
 use decimal::NumberAnswer;
 use double::DoubleAnswer;
 use double::LocationAnswer;
 use encode::Fit;
+use head::Purpose;
 use refusal::Part;
 use refusal::Verdict;
 use start::Written;
+use strings::Found;
+use text::Manner;
 
 // ---- comparisons
 
@@ -104,27 +107,53 @@ fn unfit(value: i32) -> bool {
 
 // Strings with the string terminator 00 and the line terminator 0A 0D, low byte first.
 fn accepted(area: &[u8]) -> bool {
-    let v = strings::check(area, 0, area.len(), false, b"\x00", b"\x0a\x0d", Part::File);
+    let v = strings::check(
+        area,
+        0,
+        area.len(),
+        false,
+        b"\x00",
+        b"\x0a\x0d",
+        Part::File,
+        Manner::Strict,
+    );
     match v {
         Verdict::Accepted => true,
         Verdict::Refused(_) => false,
     }
 }
 
+// Whether the area has a text from one place to another.
+fn part_is(area: &[u8], from: usize, to: usize, text: &[u8]) -> bool {
+    if to < from {
+        return false;
+    }
+    if area.len() < to {
+        return false;
+    }
+    check::same(&area[from..to], text)
+}
+
+fn place_is(area: &[u8], found: Found, key: &[u8], value: &[u8]) -> bool {
+    match found {
+        Found::Nothing => false,
+        Found::Is(p) => part_is(area, p.key, p.gap, key) & part_is(area, p.value, p.end, value),
+    }
+}
+
 fn string_is(area: &[u8], i: usize, key: &[u8], value: &[u8]) -> bool {
-    let k = lookup::nth_key(area, 0, area.len(), false, b"\x00", i);
-    let v = lookup::nth_value(area, 0, area.len(), false, b"\x00", i);
-    let w = lookup::value(area, 0, area.len(), false, b"\x00", key);
-    check::same(k, key) & (check::same(v, value) & check::same(w, value))
+    let nth = lookup::nth(area, 0, area.len(), false, b"\x00", i, Manner::Strict);
+    let first = lookup::find(area, 0, area.len(), false, b"\x00", key, Manner::Strict);
+    place_is(area, nth, key, value) & place_is(area, first, key, value)
 }
 
 fn strings_are(area: &[u8], count: usize) -> bool {
-    accepted(area) & (lookup::count(area, 0, area.len(), false, b"\x00") == count)
+    accepted(area) & (lookup::count(area, 0, area.len(), false, b"\x00", Manner::Strict) == count)
 }
 
 // The number that a file is refused by, or 0.
 fn refused_by(file: &[u8]) -> u32 {
-    let v = image::check(file, file.len(), false);
+    let v = image::check(file, file.len(), Purpose::Read, Manner::Strict);
     match v {
         Verdict::Accepted => 0,
         Verdict::Refused(r) => {
@@ -337,7 +366,7 @@ fn groups_written() -> bool {
         b"\x12\x0f\xa8\x61\xff\xbf\xff\x7f\x00\x00\x00\x00",
     );
     let mut back = [0i32; 4];
-    let v = traces::integers(&file, 112, 0, &mut back);
+    let v = samples::integers(&file, 112, 0, &mut back, Manner::Strict);
     let read = match v {
         Verdict::Accepted => (back[0] == 100000)
             & ((back[1] == -32768) & ((back[2] == 1073709056) & (back[3] == 0))),

@@ -10,12 +10,6 @@ abbrev pub Bytes : List ℕ → Type 0
 Bytes [] = Unit {0}
 Bytes (b ∷ bs) = (b < 256) × Bytes bs
 
--- the same said of every place: what a slice's own bound says
-pub bytes-each : (xs : List ℕ) → Bytes xs → (i : ℕ) → getD xs i 0 < 256
-bytes-each [] h i = omega arith
-bytes-each (x ∷ xs) h zero = h .0
-bytes-each (x ∷ xs) h (suc i) = bytes-each xs (h .1) i
-
 pub each-bytes : (xs : List ℕ) → ((i : ℕ) → getD xs i 0 < 256) → Bytes xs
 each-bytes [] h = tt
 each-bytes (x ∷ xs) h = (h 0, each-bytes xs (λ i. h (suc i)))

@@ -1,7 +1,7 @@
 -- What adding a trace answers, and what is left in the lent buffer (document 01, "What we write" and rows 24 to 30). xs is the buffer, n the length
 -- given beside it, f the image: the first n bytes.
 -- Assumes nothing.
-use mathlib.Core.Bool.{Bool, true, not}
+use mathlib.Core.Bool.{Bool, not}
 use mathlib.Core.List.{List}
 use Prim.Native.Nat.{ℕ, _+_, _*_}
 use lib.ListN.{length, take}
@@ -12,6 +12,9 @@ use Rattle.refusal.specs.declared.Verdict.{Verdict}
 use Rattle.refusal.specs.declared.Verdict.the-variants as verdict
 use Rattle.refusal.specs.Table.{refusal}
 use Rattle.refusal.specs.Rows.{pick}
+use Rattle.refusal.specs.Verdicts.{asked}
+use Rattle.text.specs.declared.Manner.the-variants.{Strict}
+use Rattle.head.specs.declared.Purpose.the-variants.{Grow}
 use Rattle.encode.specs.declared.Fit.{Fit}
 use Rattle.encode.specs.declared.Fit.the-variants.{All, At}
 use Rattle.sheet.specs.declared.Measured.{Measured}
@@ -27,18 +30,14 @@ use Rattle.append.specs.Grown.{newLength, grown}
 
 -- ---- adding: "1 to 17, then 24 no free slot (place 0), 25 bad sheet line, 26 sheet order, 27 area too large (0)"
 
-abbrev pub onVerdict : Verdict → Measured → Measured
-onVerdict verdict.Accepted m = m
-onVerdict (verdict.Refused r) m = measured.Refused r
-
 abbrev pub noSlot : ℕ → ℕ → Bool
 noSlot m n = ltb m (4 * n + 4)
 
 -- the size of the area, or the first of these rows
-unfoldable pub openedOf : List ℕ → ℕ → List ℕ → Measured
-openedOf xs n sheet =
+unfoldable pub areaAnswer : List ℕ → ℕ → List ℕ → Measured
+areaAnswer xs n sheet =
     let f = take n xs in
-    onVerdict (checkOf true xs n)
+    asked measured.Refused (checkOf Strict Grow xs n)
     (pick (noSlot (roomOf f) (countOf f)) (measured.Refused (refusal NoSlot File 0)) (measuredOf (stringEnd f) (lineEnd f) sheet))
 
 -- "28 code not of this entry's kind, or count not a multiple of 4 under code 3 (0), 29 sample outside code 1's range, of magnitude 2^30 or more under
@@ -47,16 +46,12 @@ abbrev pub onFit : Fit → Verdict
 onFit All = verdict.Accepted
 onFit (At i) = verdict.Refused (refusal SampleRange File i)
 
-unfoldable pub samplesOf : ℕ → Samples → Verdict
-samplesOf code s = pick (not (fitting code s)) (verdict.Refused (refusal EntryCode File 0)) (onFit (unfit code s))
-
-abbrev pub onSamples : Verdict → Written → Written
-onSamples verdict.Accepted more = more
-onSamples (verdict.Refused r) more = Refused r
+unfoldable pub samplesVerdict : ℕ → Samples → Verdict
+samplesVerdict code s = pick (not (fitting code s)) (verdict.Refused (refusal EntryCode File 0)) (onFit (unfit code s))
 
 unfoldable pub addAnswer : List ℕ → ℕ → Trace → Written
 addAnswer xs n x =
-    onMeasured (openedOf xs n (x .sheet)) (onSamples (samplesOf (x .code) (x .samples)) (within (length xs) (newLength (take n xs) n x)))
+    onMeasured (areaAnswer xs n (x .sheet)) (asked Refused (samplesVerdict (x .code) (x .samples)) (within (length xs) (newLength (take n xs) n x)))
 
 unfoldable pub addLeft : List ℕ → ℕ → Trace → List ℕ
 addLeft xs n x = onWritten (addAnswer xs n x) (grown xs n x) xs

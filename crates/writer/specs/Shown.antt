@@ -8,7 +8,8 @@ use Prim.Native.Nat.{ℕ, _+_, _*_, _≤_, _<_}
 use native.Mathlib.Omega.{arith}
 use lib.ListN.{length, take}
 use borrow.Author.Tests.{le-ltb, ltb-false, not-false}
-use Rattle.refusal.specs.Verdicts.{refused-not}
+use Rattle.head.specs.declared.Purpose.{Purpose}
+use Rattle.refusal.specs.Verdicts.{asked, refused-not}
 use Rattle.word.specs.Bytes.{Bytes}
 use Rattle.word.specs.WordLaws.{word-small}
 use Rattle.refusal.specs.declared.Refusal.{Refusal}
@@ -25,6 +26,8 @@ use Rattle.sheet.specs.declared.Measured.the-variants as measured
 use Rattle.sheet.specs.Area.{areaSize, measuredOf}
 use Rattle.head.specs.Head.{highFirst, roomOf, countOf, stringEnd, lineEnd, refused}
 use Rattle.head.specs.HeadLaws.{Headed}
+use Rattle.text.specs.declared.Manner.the-variants.{Strict}
+use Rattle.head.specs.declared.Purpose.the-variants.{Grow}
 use Rattle.image.specs.Image.{imageOf, badLength, checkOf}
 use Rattle.image.specs.ImageLaws.{long-enough}
 use Rattle.image.specs.Accepted.{image-headed}
@@ -33,7 +36,7 @@ use Rattle.start.specs.declared.Written.the-variants.{To, Refused}
 use Rattle.layout.specs.Layout.{Trace, Samples, fitting, unfit}
 use Rattle.start.specs.Start.{within}
 use Rattle.append.specs.Grown.{newLength, grown}
-use Rattle.writer.specs.Answers.{onVerdict, noSlot, openedOf, onFit, samplesOf, onSamples, addAnswer, addLeft}
+use Rattle.writer.specs.Answers.{noSlot, areaAnswer, onFit, samplesVerdict, addAnswer, addLeft}
 use Rattle.start.specs.StartShown.{not-refused, from-measured, from-within, to-within, as-area}
 
 -- ---- from an answer back through the rows
@@ -41,11 +44,11 @@ use Rattle.start.specs.StartShown.{not-refused, from-measured, from-within, to-
 not-size : (r : Refusal) (b : ℕ) → measured.Refused r ≡ measured.Size b → ⊥
 not-size r b e = let z : _≡_ {A = ℕ} 0 1 = cc in omega arith
 
-from-samples : (v : Verdict) (more : Written) (end : ℕ) → onSamples v more ≡ To end → (v ≡ verdict.Accepted) × (more ≡ To end)
+from-samples : (v : Verdict) (more : Written) (end : ℕ) → asked Refused v more ≡ To end → (v ≡ verdict.Accepted) × (more ≡ To end)
 from-samples verdict.Accepted more end e = (refl, e)
 from-samples (verdict.Refused r) more end e = absurd (not-refused r end e)
 
-from-verdict : (v : Verdict) (m : Measured) (b : ℕ) → onVerdict v m ≡ measured.Size b → (v ≡ verdict.Accepted) × (m ≡ measured.Size b)
+from-verdict : (v : Verdict) (m : Measured) (b : ℕ) → asked measured.Refused v m ≡ measured.Size b → (v ≡ verdict.Accepted) × (m ≡ measured.Size b)
 from-verdict verdict.Accepted m b e = (refl, e)
 from-verdict (verdict.Refused r) m b e = absurd (not-size r b e)
 
@@ -69,34 +72,34 @@ unfolding roomOf
 room-small f by = word-small 2 (highFirst f) f 4 by
 
 -- row 1 and rows 2 to 7
-pub placed : (grow : Bool) (xs : List ℕ) (n : ℕ) → checkOf grow xs n ≡ verdict.Accepted
-    → ((32 ≤ n) × (n ≤ 67108864) × (n ≤ length xs)) × Headed grow (take n xs)
+pub placed : (purpose : Purpose) (xs : List ℕ) (n : ℕ) → checkOf Strict purpose xs n ≡ verdict.Accepted
+    → ((32 ≤ n) × (n ≤ 67108864) × (n ≤ length xs)) × Headed purpose (take n xs)
 unfolding checkOf
-placed grow xs n e = go (badLength (length xs) n) refl e
+placed purpose xs n e = go (badLength (length xs) n) refl e
   where
-    go : (w : Bool) → badLength (length xs) n ≡ w → pick w (refused Length 0) (imageOf grow (take n xs)) ≡ verdict.Accepted
-        → ((32 ≤ n) × (n ≤ 67108864) × (n ≤ length xs)) × Headed grow (take n xs)
+    go : (w : Bool) → badLength (length xs) n ≡ w → pick w (refused Length 0) (imageOf Strict purpose (take n xs)) ≡ verdict.Accepted
+        → ((32 ≤ n) × (n ≤ 67108864) × (n ≤ length xs)) × Headed purpose (take n xs)
     go true q h = absurd (refused-not _ h)
-    go false q h = (long-enough (length xs) n q, image-headed grow (take n xs) h)
+    go false q h = (long-enough (length xs) n q, image-headed Strict purpose (take n xs) h)
 
 -- rows 1 to 17 and 24 to 27
 pub record Opened (xs : List ℕ) (n : ℕ) (sheet : List ℕ) (size : ℕ) : Type 0 where
-  pub accepted : checkOf true xs n ≡ verdict.Accepted
+  pub accepted : checkOf Strict Grow xs n ≡ verdict.Accepted
   pub most : n ≤ 67108864
   pub slot : 4 * countOf (take n xs) + 4 ≤ roomOf (take n xs)
   pub measured : measuredOf (stringEnd (take n xs)) (lineEnd (take n xs)) sheet ≡ measured.Size size
 
-pub opened : (xs : List ℕ) (n : ℕ) (sheet : List ℕ) (size : ℕ) → openedOf xs n sheet ≡ measured.Size size → Opened xs n sheet size
-unfolding openedOf
+pub opened : (xs : List ℕ) (n : ℕ) (sheet : List ℕ) (size : ℕ) → areaAnswer xs n sheet ≡ measured.Size size → Opened xs n sheet size
+unfolding areaAnswer
 opened xs n sheet size e =
     let f : List ℕ = take n xs in
-    let v = from-verdict (checkOf true xs n) _ size e in
+    let v = from-verdict (checkOf Strict Grow xs n) _ size e in
     let s = from-slot (noSlot (roomOf f) (countOf f)) (refusal NoSlot File 0) (measuredOf (stringEnd f) (lineEnd f) sheet) size (v .1) in
-    record { accepted = v .0; most = placed true xs n (v .0) .0 .1; slot = ltb-false (roomOf f) (4 * countOf f + 4) (s .0); measured = s .1 }
+    record { accepted = v .0; most = placed Grow xs n (v .0) .0 .1; slot = ltb-false (roomOf f) (4 * countOf f + 4) (s .0); measured = s .1 }
 
 -- rows 28 and 29
-pub samples-fit : (code : ℕ) (x : Samples) → samplesOf code x ≡ verdict.Accepted → (fitting code x ≡ true) × (unfit code x ≡ All)
-unfolding samplesOf
+pub samples-fit : (code : ℕ) (x : Samples) → samplesVerdict code x ≡ verdict.Accepted → (fitting code x ≡ true) × (unfit code x ≡ All)
+unfolding samplesVerdict
 samples-fit code x e =
     let k = from-kind (not (fitting code x)) (refusal EntryCode File 0) (onFit (unfit code x)) e in
     (not-false (fitting code x) (k .0), from-fit (unfit code x) (k .1))
@@ -104,7 +107,7 @@ samples-fit code x e =
 -- ---- adding
 
 pub record Added (xs : List ℕ) (n : ℕ) (x : Trace) (end : ℕ) : Type 0 where
-  pub accepted : checkOf true xs n ≡ verdict.Accepted
+  pub accepted : checkOf Strict Grow xs n ≡ verdict.Accepted
   pub slot : 4 * countOf (take n xs) + 4 ≤ roomOf (take n xs)
   pub sized : measuredOf (stringEnd (take n xs)) (lineEnd (take n xs)) (x .sheet)
       ≡ measured.Size (areaSize (stringEnd (take n xs)) (lineEnd (take n xs)) (x .sheet))
@@ -118,8 +121,8 @@ pub added : (xs : List ℕ) (n : ℕ) (x : Trace) (end : ℕ) → addAnswer xs n
 unfolding addAnswer
 added xs n x end e =
     let f : List ℕ = take n xs in
-    let a = from-measured (openedOf xs n (x .sheet)) (onSamples (samplesOf (x .code) (x .samples)) (within (length xs) (newLength f n x))) end e in
-    let b = from-samples (samplesOf (x .code) (x .samples)) (within (length xs) (newLength f n x)) end (a .2) in
+    let a = from-measured (areaAnswer xs n (x .sheet)) (asked Refused (samplesVerdict (x .code) (x .samples)) (within (length xs) (newLength f n x))) end e in
+    let b = from-samples (samplesVerdict (x .code) (x .samples)) (within (length xs) (newLength f n x)) end (a .2) in
     let c = from-within (length xs) (newLength f n x) end (b .1) in
     let o = opened xs n (x .sheet) (a .0) (a .1) in
     let s = samples-fit (x .code) (x .samples) (b .0) in
@@ -135,7 +138,7 @@ added xs n x end e =
     }
 
 pub adds : (xs : List ℕ) (n : ℕ) (x : Trace) (end : ℕ) → Added xs n x end → addAnswer xs n x ≡ To end
-unfolding addAnswer openedOf samplesOf
+unfolding addAnswer areaAnswer samplesVerdict
 adds xs n x end h =
     let s : 4 * countOf (take n xs) + 4 ≤ roomOf (take n xs) = h .slot in
     rw (h .accepted, le-ltb (roomOf (take n xs)) (4 * countOf (take n xs) + 4) s, h .sized, h .kind, h .held)

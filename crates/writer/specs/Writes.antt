@@ -26,6 +26,8 @@ use Rattle.sheet.specs.Area.{areaSize, measuredOf}
 use Rattle.area.specs.Spelling.{measured-size}
 use Rattle.head.specs.Head.{roomOf, countOf, terminatorAt, stringEnd, lineEnd, goodTerminator, fileBlockOf}
 use Rattle.head.specs.HeadLaws.{good-most}
+use Rattle.text.specs.declared.Manner.the-variants.{Strict}
+use Rattle.head.specs.declared.Purpose.the-variants.{Grow}
 use Rattle.image.specs.Image.{checkOf}
 use Rattle.head.specs.declared.FileBlock.{FileBlock}
 use Rattle.start.specs.declared.Written.the-variants.{To, Refused}
@@ -34,7 +36,7 @@ use Rattle.layout.specs.LayoutLaws.{kinded, room-enough}
 use Rattle.writer.specs.Shown.{room-small, placed, opened, samples-fit}
 use Rattle.start.specs.Start.{refuse, within}
 use Rattle.append.specs.Grown.{newLength, grown}
-use Rattle.writer.specs.Answers.{openedOf, onFit, samplesOf, addAnswer, addLeft}
+use Rattle.writer.specs.Answers.{areaAnswer, onFit, samplesVerdict, addAnswer, addLeft}
 use Rattle.append.specs.GrownLaws.{Growing}
 
 -- ---- the terminators as the code takes them out of the buffer
@@ -59,12 +61,12 @@ end-taken xs n at h k small =
 -- ---- an addition's answers, with what is left in the buffer
 
 module _ (xs : List ℕ) (n : ℕ) (x : Trace) where
-  pub add-shut : (r : Refusal) → openedOf xs n (x .sheet) ≡ measured.Refused r → (Refused r ≡ addAnswer xs n x) × (xs ≡ addLeft xs n x)
+  pub add-shut : (r : Refusal) → areaAnswer xs n (x .sheet) ≡ measured.Refused r → (Refused r ≡ addAnswer xs n x) × (xs ≡ addLeft xs n x)
   unfolding addAnswer addLeft
   add-shut r h = (rw h, rw h)
 
-  module _ (size : ℕ) (o : openedOf xs n (x .sheet) ≡ measured.Size size) where
-    pub add-unfit : (r : Refusal) → samplesOf (x .code) (x .samples) ≡ verdict.Refused r → (Refused r ≡ addAnswer xs n x) × (xs ≡ addLeft xs n x)
+  module _ (size : ℕ) (o : areaAnswer xs n (x .sheet) ≡ measured.Size size) where
+    pub add-unfit : (r : Refusal) → samplesVerdict (x .code) (x .samples) ≡ verdict.Refused r → (Refused r ≡ addAnswer xs n x) × (xs ≡ addLeft xs n x)
     unfolding addAnswer addLeft
     add-unfit r h = (rw (o, h), rw (o, h))
 
@@ -75,7 +77,7 @@ module _ (xs : List ℕ) (n : ℕ) (x : Trace) where
         let a : areaSize (stringEnd (take n xs)) (lineEnd (take n xs)) (x .sheet) ≡ size = measured-size (stringEnd (take n xs)) (lineEnd (take n xs)) (x .sheet) size (d .measured) .1 in
         rw a
 
-    module _ (fit : samplesOf (x .code) (x .samples) ≡ verdict.Accepted) where
+    module _ (fit : samplesVerdict (x .code) (x .samples) ≡ verdict.Accepted) where
       pub add-full : (end : ℕ) → end ≡ newLength (take n xs) n x → (ltb (length xs) end || ltb 67108864 end) ≡ true
           → (refuse NoRoom 0 ≡ addAnswer xs n x) × (xs ≡ addLeft xs n x)
       unfolding addAnswer addLeft
@@ -118,17 +120,17 @@ asked-in (suc (suc (suc (suc (suc (suc c)))))) s h k =
     let z : _≡_ {A = ℕ} 0 1 = cc in absurd (omega arith)
 
 module _ (code : ℕ) (row : List ℤ) where
-  pub integers-code : (ltb code 1 || ltb 3 code) ≡ true → verdict.Refused (refusal EntryCode File 0) ≡ samplesOf code (integers row)
-  unfolding samplesOf fitting
+  pub integers-code : (ltb code 1 || ltb 3 code) ≡ true → verdict.Refused (refusal EntryCode File 0) ≡ samplesVerdict code (integers row)
+  unfolding samplesVerdict fitting
   integers-code h = rw (asked-out code (length row) h)
 
-  pub integers-groups : (eqb code 3 && not (eqb (length row % 4) 0)) ≡ true → verdict.Refused (refusal EntryCode File 0) ≡ samplesOf code (integers row)
-  unfolding samplesOf fitting
+  pub integers-groups : (eqb code 3 && not (eqb (length row % 4) 0)) ≡ true → verdict.Refused (refusal EntryCode File 0) ≡ samplesVerdict code (integers row)
+  unfolding samplesVerdict fitting
   integers-groups h = rw (asked-odd code (length row) h)
 
   pub integers-judged : (ltb code 1 || ltb 3 code) ≡ false → (eqb code 3 && not (eqb (length row % 4) 0)) ≡ false
-      → onFit (unfitIntegers code row) ≡ samplesOf code (integers row)
-  unfolding samplesOf fitting unfit
+      → onFit (unfitIntegers code row) ≡ samplesVerdict code (integers row)
+  unfolding samplesVerdict fitting unfit
   integers-judged h k = rw (asked-in code (length row) h k)
 
 bits-out : (code : ℕ) → (ltb code 4 || ltb 5 code) ≡ true → bitsAsked code ≡ false
@@ -152,12 +154,12 @@ bits-in (suc (suc (suc (suc (suc (suc c)))))) h =
     let z : _≡_ {A = ℕ} 0 1 = cc in absurd (omega arith)
 
 module _ (code : ℕ) (row : List ℕ) where
-  pub bits-code : (ltb code 4 || ltb 5 code) ≡ true → verdict.Refused (refusal EntryCode File 0) ≡ samplesOf code (patterns row)
-  unfolding samplesOf fitting
+  pub bits-code : (ltb code 4 || ltb 5 code) ≡ true → verdict.Refused (refusal EntryCode File 0) ≡ samplesVerdict code (patterns row)
+  unfolding samplesVerdict fitting
   bits-code h = rw (bits-out code h)
 
-  pub bits-judged : (ltb code 4 || ltb 5 code) ≡ false → onFit (unfitPatterns code row) ≡ samplesOf code (patterns row)
-  unfolding samplesOf fitting unfit
+  pub bits-judged : (ltb code 4 || ltb 5 code) ≡ false → onFit (unfitPatterns code row) ≡ samplesVerdict code (patterns row)
+  unfolding samplesVerdict fitting unfit
   bits-judged h = rw (bits-in code h)
 
 -- ---- rows 1 to 17 and 24 as the code tests them; b is the file block that it read
@@ -172,9 +174,9 @@ pub record Checked (xs : List ℕ) (n : ℕ) : Type 0 where
   pub strings : goodTerminator (take n xs) 8 ≡ true
   pub lines : goodTerminator (take n xs) 11 ≡ true
 
-pub accepted : (xs : List ℕ) (n : ℕ) → checkOf true xs n ≡ verdict.Accepted → Checked xs n
+pub accepted : (xs : List ℕ) (n : ℕ) → checkOf Strict Grow xs n ≡ verdict.Accepted → Checked xs n
 accepted xs n e =
-    let p = placed true xs n e in
+    let p = placed Grow xs n e in
     let l = p .0 in
     let h = p .1 in
     let k : length (take n xs) ≡ n = length-take-le n xs (l .2) in
@@ -182,11 +184,11 @@ accepted xs n e =
     record { low = l .0; most = l .1; within = l .2; size = k; room = omega arith; count = h .count; strings = h .strings; lines = h .lines }
 
 module _ (xs : List ℕ) (n : ℕ) (sheet : List ℕ) where
-  pub opened-bad : (r : Refusal) → checkOf true xs n ≡ verdict.Refused r → measured.Refused r ≡ openedOf xs n sheet
-  unfolding openedOf
+  pub opened-bad : (r : Refusal) → checkOf Strict Grow xs n ≡ verdict.Refused r → measured.Refused r ≡ areaAnswer xs n sheet
+  unfolding areaAnswer
   opened-bad r e = rw e
 
-  module _ (e : checkOf true xs n ≡ verdict.Accepted) (b : FileBlock) (read : b ≡ fileBlockOf (take n xs)) where
+  module _ (e : checkOf Strict Grow xs n ≡ verdict.Accepted) (b : FileBlock) (read : b ≡ fileBlockOf (take n xs)) where
     pub few-slots : 4 * b .n + 4 ≤ 67108868
     unfolding fileBlockOf
     few-slots =
@@ -194,22 +196,22 @@ module _ (xs : List ℕ) (n : ℕ) (sheet : List ℕ) where
         let q : b .n ≡ countOf (take n xs) = ap (λ (k : FileBlock). k .n) read in
         omega (arith, a .most, a .room, a .count)
 
-    pub opened-full : b .m < 4 * b .n + 4 → measured.Refused (refusal NoSlot File 0) ≡ openedOf xs n sheet
-    unfolding fileBlockOf openedOf
+    pub opened-full : b .m < 4 * b .n + 4 → measured.Refused (refusal NoSlot File 0) ≡ areaAnswer xs n sheet
+    unfolding fileBlockOf areaAnswer
     opened-full h =
         let p : b .m ≡ roomOf (take n xs) = ap (λ (k : FileBlock). k .m) read in
         let q : b .n ≡ countOf (take n xs) = ap (λ (k : FileBlock). k .n) read in
         rw (e, lt-ltb (roomOf (take n xs)) (4 * countOf (take n xs) + 4) (omega arith))
 
-    pub opened-free : 4 * b .n + 4 ≤ b .m → measuredOf (stringEnd (take n xs)) (lineEnd (take n xs)) sheet ≡ openedOf xs n sheet
-    unfolding fileBlockOf openedOf
+    pub opened-free : 4 * b .n + 4 ≤ b .m → measuredOf (stringEnd (take n xs)) (lineEnd (take n xs)) sheet ≡ areaAnswer xs n sheet
+    unfolding fileBlockOf areaAnswer
     opened-free h =
         let p : b .m ≡ roomOf (take n xs) = ap (λ (k : FileBlock). k .m) read in
         let q : b .n ≡ countOf (take n xs) = ap (λ (k : FileBlock). k .n) read in
         rw (e, le-ltb (roomOf (take n xs)) (4 * countOf (take n xs) + 4) (omega arith))
 
-pub growing : (xs : List ℕ) (n size : ℕ) (x : Trace) (end : ℕ) → Bytes xs → openedOf xs n (x .sheet) ≡ measured.Size size
-    → samplesOf (x .code) (x .samples) ≡ verdict.Accepted → count (x .samples) ≤ 67108864
+pub growing : (xs : List ℕ) (n size : ℕ) (x : Trace) (end : ℕ) → Bytes xs → areaAnswer xs n (x .sheet) ≡ measured.Size size
+    → samplesVerdict (x .code) (x .samples) ≡ verdict.Accepted → count (x .samples) ≤ 67108864
     → end ≡ round4 n + (32 + size + room (x .code) (count (x .samples))) → end ≤ length xs → Growing xs n (x .sheet) size x
 growing xs n size x end by e fit few q h =
     let f = samples-fit (x .code) (x .samples) fit in
@@ -243,8 +245,8 @@ growing xs n size x end by e fit few q h =
     }
 
 -- row 30 where there are more samples than the maximum has bytes
-pub add-long : (xs : List ℕ) (n : ℕ) (x : Trace) (size : ℕ) → openedOf xs n (x .sheet) ≡ measured.Size size
-    → samplesOf (x .code) (x .samples) ≡ verdict.Accepted → 67108864 < count (x .samples)
+pub add-long : (xs : List ℕ) (n : ℕ) (x : Trace) (size : ℕ) → areaAnswer xs n (x .sheet) ≡ measured.Size size
+    → samplesVerdict (x .code) (x .samples) ≡ verdict.Accepted → 67108864 < count (x .samples)
     → (refuse NoRoom 0 ≡ addAnswer xs n x) × (xs ≡ addLeft xs n x)
 unfolding newLength
 add-long xs n x size o fit h =
@@ -258,6 +260,6 @@ add-long xs n x size o fit h =
     or-second false b k = k
 
 -- the new length as the code sums it
-pub new-end : (xs : List ℕ) (n : ℕ) (x : Trace) (size : ℕ) → openedOf xs n (x .sheet) ≡ measured.Size size
+pub new-end : (xs : List ℕ) (n : ℕ) (x : Trace) (size : ℕ) → areaAnswer xs n (x .sheet) ≡ measured.Size size
     → round4 n + (32 + size + room (x .code) (count (x .samples))) ≡ newLength (take n xs) n x
 new-end xs n x size o = sym (new-length xs n x size o)

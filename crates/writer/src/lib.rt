@@ -2,28 +2,30 @@
 // Answers has the definitions, Shown the second view: a trace is added exactly where no row is met. Stands on `append`, `start`, `image`, `encode`.
 // The rules in words: docs/FORMAT.md, "What we write".
 use encode::Fit;
+use head::Purpose;
 use refusal::Part;
 use refusal::Refusal;
 use refusal::Rule;
 use refusal::Verdict;
 use sheet::Measured;
 use start::Written;
+use text::Manner;
 ghost use mathlib.Core.Path.{_≡_};
 ghost use Prim.Native.Nat.{_+_, _≤_};
 ghost use lib.ListN.{length};
 ghost use Rattle.word.specs.Round.{round4};
 ghost use Rattle.sample.specs.Needed.{room};
-ghost use Rattle.layout.specs.Layout.{integers, patterns, ofIntegers, ofPatterns};
+ghost use Rattle.layout.specs.Layout.{integers, patterns, integersTrace, patternsTrace};
 ghost use Rattle.refusal.specs.Table.{refusal};
-ghost use Rattle.writer.specs.Answers.{openedOf, onFit, samplesOf, addAnswer, addLeft};
+ghost use Rattle.writer.specs.Answers.{areaAnswer, onFit, samplesVerdict, addAnswer, addLeft};
 
 // ---- adding a trace
 
 // Rows 1 to 17 and 24 to 27: the size of the new trace's area, or the first of them that is met.
 fn opened(buffer: &[u8], n: usize, sheet: &[u8]) -> Measured
-    ensures { λ r. ⌜ r ≡ openedOf (now (buffer .entry)) n (now (sheet .entry)) ⌝ }
+    ensures { λ r. ⌜ r ≡ areaAnswer (now (buffer .entry)) n (now (sheet .entry)) ⌝ }
 {
-    let v = image::check(buffer, n, true);
+    let v = image::check(buffer, n, Purpose::Grow, Manner::Strict);
     if let Verdict::Refused(r) = v {
         return Measured::Refused(r);
     }
@@ -36,7 +38,7 @@ fn opened(buffer: &[u8], n: usize, sheet: &[u8]) -> Measured
             place: 0,
         });
     }
-    sheet::measure(sheet, head::terminator(f, 8), head::terminator(f, 11))
+    sheet::measure(sheet, head::string_end(f), head::line_end(f))
 }
 
 fn wrong(rule: Rule, place: usize) -> Verdict
@@ -61,7 +63,7 @@ fn fitted(fit: Fit) -> Verdict
 
 // Rows 28 and 29 of integers.
 fn integers_fit(code: u32, row: &[i32]) -> Verdict
-    ensures { λ r. ⌜ r ≡ samplesOf code (integers (now (row .entry))) ⌝ }
+    ensures { λ r. ⌜ r ≡ samplesVerdict code (integers (now (row .entry))) ⌝ }
 {
     if (code < 1) | (3 < code) {
         return wrong(Rule::EntryCode, 0);
@@ -74,7 +76,7 @@ fn integers_fit(code: u32, row: &[i32]) -> Verdict
 
 // Rows 28 and 29 of bit patterns.
 fn bits_fit(code: u32, row: &[u64]) -> Verdict
-    ensures { λ r. ⌜ r ≡ samplesOf code (patterns (now (row .entry))) ⌝ }
+    ensures { λ r. ⌜ r ≡ samplesVerdict code (patterns (now (row .entry))) ⌝ }
 {
     if (code < 4) | (5 < code) {
         return wrong(Rule::EntryCode, 0);
@@ -99,9 +101,9 @@ fn integers_behind(
     code: u32,
     row: &[i32],
 ) -> Written
-    requires { ⌜ openedOf (now buffer) n (now sheet) ≡ Measured.Size size ⌝ }
-    ensures answer { λ r. ⌜ r ≡ addAnswer (now (buffer .entry)) n (ofIntegers (now (sheet .entry)) code (now (row .entry))) ⌝ }
-    ensures left { λ _. ⌜ now (buffer .exit) ≡ addLeft (now (buffer .entry)) n (ofIntegers (now (sheet .entry)) code (now (row .entry))) ⌝ }
+    requires { ⌜ areaAnswer (now buffer) n (now sheet) ≡ Measured.Size size ⌝ }
+    ensures answer { λ r. ⌜ r ≡ addAnswer (now (buffer .entry)) n (integersTrace (now (sheet .entry)) code (now (row .entry))) ⌝ }
+    ensures left { λ _. ⌜ now (buffer .exit) ≡ addLeft (now (buffer .entry)) n (integersTrace (now (sheet .entry)) code (now (row .entry))) ⌝ }
 {
     let v = integers_fit(code, row);
     if let Verdict::Refused(r) = v {
@@ -127,9 +129,9 @@ fn bits_behind(
     code: u32,
     row: &[u64],
 ) -> Written
-    requires { ⌜ openedOf (now buffer) n (now sheet) ≡ Measured.Size size ⌝ }
-    ensures answer { λ r. ⌜ r ≡ addAnswer (now (buffer .entry)) n (ofPatterns (now (sheet .entry)) code (now (row .entry))) ⌝ }
-    ensures left { λ _. ⌜ now (buffer .exit) ≡ addLeft (now (buffer .entry)) n (ofPatterns (now (sheet .entry)) code (now (row .entry))) ⌝ }
+    requires { ⌜ areaAnswer (now buffer) n (now sheet) ≡ Measured.Size size ⌝ }
+    ensures answer { λ r. ⌜ r ≡ addAnswer (now (buffer .entry)) n (patternsTrace (now (sheet .entry)) code (now (row .entry))) ⌝ }
+    ensures left { λ _. ⌜ now (buffer .exit) ≡ addLeft (now (buffer .entry)) n (patternsTrace (now (sheet .entry)) code (now (row .entry))) ⌝ }
 {
     let v = bits_fit(code, row);
     if let Verdict::Refused(r) = v {
@@ -149,8 +151,8 @@ fn bits_behind(
 
 // A trace of integers (codes 1 to 3) behind the image that the buffer's first `n` bytes are: a file, or a start's image without traces.
 pub fn add_integers(buffer: &mut [u8], n: usize, sheet: &[u8], code: u32, row: &[i32]) -> Written
-    ensures answer { λ r. ⌜ r ≡ addAnswer (now (buffer .entry)) n (ofIntegers (now (sheet .entry)) code (now (row .entry))) ⌝ }
-    ensures left { λ _. ⌜ now (buffer .exit) ≡ addLeft (now (buffer .entry)) n (ofIntegers (now (sheet .entry)) code (now (row .entry))) ⌝ }
+    ensures answer { λ r. ⌜ r ≡ addAnswer (now (buffer .entry)) n (integersTrace (now (sheet .entry)) code (now (row .entry))) ⌝ }
+    ensures left { λ _. ⌜ now (buffer .exit) ≡ addLeft (now (buffer .entry)) n (integersTrace (now (sheet .entry)) code (now (row .entry))) ⌝ }
 {
     let o = opened(&buffer[..], n, sheet);
     match o {
@@ -161,8 +163,8 @@ pub fn add_integers(buffer: &mut [u8], n: usize, sheet: &[u8], code: u32, row: &
 
 // A trace of bit patterns (codes 4 and 5).
 pub fn add_bits(buffer: &mut [u8], n: usize, sheet: &[u8], code: u32, row: &[u64]) -> Written
-    ensures answer { λ r. ⌜ r ≡ addAnswer (now (buffer .entry)) n (ofPatterns (now (sheet .entry)) code (now (row .entry))) ⌝ }
-    ensures left { λ _. ⌜ now (buffer .exit) ≡ addLeft (now (buffer .entry)) n (ofPatterns (now (sheet .entry)) code (now (row .entry))) ⌝ }
+    ensures answer { λ r. ⌜ r ≡ addAnswer (now (buffer .entry)) n (patternsTrace (now (sheet .entry)) code (now (row .entry))) ⌝ }
+    ensures left { λ _. ⌜ now (buffer .exit) ≡ addLeft (now (buffer .entry)) n (patternsTrace (now (sheet .entry)) code (now (row .entry))) ⌝ }
 {
     let o = opened(&buffer[..], n, sheet);
     match o {

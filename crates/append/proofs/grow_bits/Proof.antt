@@ -2,7 +2,7 @@
 use mathlib.Core.Path.{sym}
 use lib.Seq.{length-take-le}
 use Rattle.word.specs.Put.{length-put}
-use Rattle.layout.specs.Layout.{ofPatterns}
+use Rattle.layout.specs.Layout.{patternsTrace}
 use Rattle.append.specs.GrownLaws.{ready, grown-put, block-count, block-high}
 use borrow.Author.Needs.{needs}
 use native.Mathlib.Omega.{arith}
@@ -58,14 +58,14 @@ grow-bits-spec =
     let start = at-round-up .before .before .before .before .before .before in
     let args = start .args in
     rw (at-round-up .round-up .ensures) (ready (args .buffer .now) _ (args .n) (args .sheet .now) (args .size)
-    (ofPatterns (args .sheet .now) (args .code) (args .row .now)) _ _ _ (start .pre) (at-zeros .zeros .ensures)
+    (patternsTrace (args .sheet .now) (args .code) (args .row .now)) _ _ _ (start .pre) (at-zeros .zeros .ensures)
     (rw (at-wide .wide .ensures .0) (start .pre .plain .string-end)) (rw (at-wide2 .wide2 .ensures .0) (start .pre .plain .line-end))))
     (λ c.
     let at-zeros = c .before .before .before .before .before .before .before .before .before .before in
     let at-file-block = at-zeros .before .before .before .before .before .before .before .before .before .before .before in
     let start = at-file-block .before .before .before .before .before in
     let g = start .pre .plain in
-    omega (arith, g .few, block-count _ _ (at-file-block .file-block .ensures)))
+    omega (arith, g .few, block-count _ _ (at-file-block .file-block .ensures .0)))
     (λ c κs.
     let at-lend-bits = c .before .before .before .before in
     let at-zeros = at-lend-bits .before .before .before .before .before .before in
@@ -73,11 +73,11 @@ grow-bits-spec =
     let at-file-block = at-round-up .before in
     let start = at-file-block .before .before .before .before .before in
     let g = start .pre .plain in
-    let k = block-count _ _ (at-file-block .file-block .ensures) in
+    let k = block-count _ _ (at-file-block .file-block .ensures .0) in
     rw (at-lend-bits .lend-bits .ensures, length-put, at-zeros .zeros .ensures, length-put) (
-      omega (arith, g .slot, block-count _ _ (at-file-block .file-block .ensures)),
+      omega (arith, g .slot, block-count _ _ (at-file-block .file-block .ensures .0)),
       omega
-          (arith, g .few, block-count _ _ (at-file-block .file-block .ensures)),
+          (arith, g .few, block-count _ _ (at-file-block .file-block .ensures .0)),
       omega (arith, g .most, at-round-up .round-up .ensures),
     ))
     (λ c. search needs)
@@ -92,6 +92,6 @@ grow-bits-spec =
     let start = at-file-block .before .before .before .before .before in
     let args = start .args in
     rw (at-register .register .ensures, at-lend-bits .lend-bits .ensures, at-zeros .zeros .ensures, at-round-up .round-up .ensures)
-    (grown-put (args .buffer .now) (args .n) (ofPatterns (args .sheet .now) (args .code) (args .row .now)) _ _ _ _
-    (block-high _ _ (at-file-block .file-block .ensures)) (rw (at-wide .wide .ensures .0) (start .pre .plain .string-end))
-    (rw (at-wide2 .wide2 .ensures .0) (start .pre .plain .line-end)) (block-count _ _ (at-file-block .file-block .ensures)))))
+    (grown-put (args .buffer .now) (args .n) (patternsTrace (args .sheet .now) (args .code) (args .row .now)) _ _ _ _
+    (block-high _ _ (at-file-block .file-block .ensures .0)) (rw (at-wide .wide .ensures .0) (start .pre .plain .string-end))
+    (rw (at-wide2 .wide2 .ensures .0) (start .pre .plain .line-end)) (block-count _ _ (at-file-block .file-block .ensures .0)))))

@@ -4,7 +4,7 @@ use Prim.Native.Nat.{ℕ, _-_}
 use native.Mathlib.Omega.{arith}
 use lib.ListN.{length, getD}
 use borrow.Author.Needs.{needs}
-use Rattle.sample.specs.Run.{run, Filling, fill-start, fill-one, fill-end, run-of}
+use Rattle.sample.specs.Run.{valuesFrom, Filling, fill-start, fill-one, fill-end, run-of}
 use Rattle.decode.specs.Sample.{classOf}
 use Rattle.decode.proofs.classes4.Statement.{statement}
 use Rattle.decode.proofs.classes4.Tie as tie
@@ -30,4 +30,4 @@ classes4-spec =
     (λ c. search needs)
     (λ c. fill-one (c .before .before .before .loop .inv) (omega arith) (c .class4 .ensures))
     (λ c. c .before .loop .inv .long)
-    (λ c. fill-end (c .before .loop .inv) (omega arith) ∙ ap (run _ 0) (c .before .before .before .before .pre) ∙ run-of _ (classOf 4) 0 (c .before .before .before .before .args .row .now) (λ i l. refl)))
+    (λ c. fill-end (c .before .loop .inv) (omega arith) ∙ ap (valuesFrom _ 0) (c .before .before .before .before .pre) ∙ run-of _ (classOf 4) 0 (c .before .before .before .before .args .row .now) (λ i l. refl)))

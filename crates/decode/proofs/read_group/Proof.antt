@@ -5,7 +5,7 @@ use native.Mathlib.Omega.{arith}
 use lib.ListN.{length-set}
 use borrow.Author.Needs.{needs}
 use Rattle.word.specs.Put.{put}
-use Rattle.sample.specs.Run.{run}
+use Rattle.sample.specs.Run.{valuesFrom}
 use Rattle.decode.specs.SampleLaws.{in-group}
 use Rattle.word.specs.Signed.{kept}
 use Rattle.decode.proofs.read_group.Statement.{statement}
@@ -69,7 +69,7 @@ same-length : tie.Need-same-length
 same-length c = search needs
 
 returns : tie.Need-returns
-unfolding put run
+unfolding put valuesFrom
 returns c =
     let g = c .before .before .before .before .before .before .args .g in
     let h = c .before .before .before .before .before .before .args .high in

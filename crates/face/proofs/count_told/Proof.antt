@@ -1,13 +1,13 @@
 -- `face::count_told` meets its contract. Each arm is one of the answers. Assumes nothing.
 use mir.Syntax.{w32}
 use mir.Facts.{toZ-ofZ}
-use Rattle.face.specs.Face.{verdictOf, countOf}
+use Rattle.face.specs.Face.{asVerdict, asCount}
 use borrow.Author.Needs.{needs}
 use Rattle.face.proofs.count_told.Statement.{statement}
 use Rattle.face.proofs.count_told.Tie as tie
 
 pub count-told-spec : {M : Type 1} → statement M
-unfolding verdictOf countOf
+unfolding asVerdict asCount
 count-told-spec =
     tie.close
     (tie.spec

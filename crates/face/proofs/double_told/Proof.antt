@@ -1,14 +1,14 @@
 -- `face::double_told` meets its contract. Each arm is one of the answers. Assumes nothing.
 use mir.Syntax.{w32}
 use mir.Facts.{toZ-ofZ}
-use Rattle.face.specs.Face.{verdictOf, doubleOf}
+use Rattle.face.specs.Face.{asVerdict, asDouble}
 use lib.Ieee.{ofBits}
 use borrow.Author.Needs.{needs}
 use Rattle.face.proofs.double_told.Statement.{statement}
 use Rattle.face.proofs.double_told.Tie as tie
 
 pub double-told-spec : {M : Type 1} → statement M
-unfolding verdictOf doubleOf ofBits
+unfolding asVerdict asDouble ofBits
 double-told-spec =
     tie.close
     (tie.spec

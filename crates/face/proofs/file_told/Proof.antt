@@ -1,13 +1,13 @@
 -- `face::file_told` meets its contract. Each arm is one of the answers. Assumes nothing.
 use mir.Syntax.{w32}
 use mir.Facts.{toZ-ofZ}
-use Rattle.face.specs.Face.{verdictOf, fileOf}
+use Rattle.face.specs.Face.{asVerdict, asFile}
 use borrow.Author.Needs.{needs}
 use Rattle.face.proofs.file_told.Statement.{statement}
 use Rattle.face.proofs.file_told.Tie as tie
 
 pub file-told-spec : {M : Type 1} → statement M
-unfolding verdictOf fileOf
+unfolding asVerdict asFile
 file-told-spec =
     tie.close
     (tie.spec

@@ -1,13 +1,13 @@
 -- `face::keyword_told` meets its contract. Each arm is one of the answers. Assumes nothing.
 use mir.Syntax.{w32}
 use mir.Facts.{toZ-ofZ}
-use Rattle.face.specs.Face.{verdictOf, keywordOf}
+use Rattle.face.specs.Face.{asVerdict, asKeyword}
 use borrow.Author.Needs.{needs}
 use Rattle.face.proofs.keyword_told.Statement.{statement}
 use Rattle.face.proofs.keyword_told.Tie as tie
 
 pub keyword-told-spec : {M : Type 1} → statement M
-unfolding verdictOf keywordOf
+unfolding asVerdict asKeyword
 keyword-told-spec =
     tie.close
     (tie.spec

@@ -1,13 +1,13 @@
 -- `face::length_told` meets its contract. Each arm is one of the answers. Assumes nothing.
 use mir.Syntax.{w32}
 use mir.Facts.{toZ-ofZ}
-use Rattle.face.specs.Face.{verdictOf, lengthOf}
+use Rattle.face.specs.Face.{asVerdict, asLength}
 use borrow.Author.Needs.{needs}
 use Rattle.face.proofs.length_told.Statement.{statement}
 use Rattle.face.proofs.length_told.Tie as tie
 
 pub length-told-spec : {M : Type 1} → statement M
-unfolding verdictOf lengthOf
+unfolding asVerdict asLength
 length-told-spec =
     tie.close
     (tie.spec

@@ -1,14 +1,14 @@
 -- `face::location_told` meets its contract. Each arm is one of the answers. Assumes nothing.
 use mir.Syntax.{w32}
 use mir.Facts.{toZ-ofZ}
-use Rattle.face.specs.Face.{verdictOf, locationOf}
+use Rattle.face.specs.Face.{asVerdict, asLocation}
 use lib.Ieee.{ofBits}
 use borrow.Author.Needs.{needs}
 use Rattle.face.proofs.location_told.Statement.{statement}
 use Rattle.face.proofs.location_told.Tie as tie
 
 pub location-told-spec : {M : Type 1} → statement M
-unfolding verdictOf locationOf ofBits
+unfolding asVerdict asLocation ofBits
 location-told-spec =
     tie.close
     (tie.spec

@@ -1,13 +1,13 @@
 -- `face::number_told` meets its contract. Each arm is one of the answers. Assumes nothing.
 use mir.Syntax.{w32}
 use mir.Facts.{toZ-ofZ}
-use Rattle.face.specs.Face.{verdictOf, decimalOf}
+use Rattle.face.specs.Face.{asVerdict, asNumber}
 use borrow.Author.Needs.{needs}
 use Rattle.face.proofs.number_told.Statement.{statement}
 use Rattle.face.proofs.number_told.Tie as tie
 
 pub number-told-spec : {M : Type 1} → statement M
-unfolding verdictOf decimalOf
+unfolding asVerdict asNumber
 number-told-spec =
     tie.close
     (tie.spec

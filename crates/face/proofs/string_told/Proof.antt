@@ -1,13 +1,13 @@
 -- `face::string_told` meets its contract. Each arm is one of the answers. Assumes nothing.
 use mir.Syntax.{w32}
 use mir.Facts.{toZ-ofZ}
-use Rattle.face.specs.Face.{verdictOf, stringOf}
+use Rattle.face.specs.Face.{asVerdict, asString}
 use borrow.Author.Needs.{needs}
 use Rattle.face.proofs.string_told.Statement.{statement}
 use Rattle.face.proofs.string_told.Tie as tie
 
 pub string-told-spec : {M : Type 1} → statement M
-unfolding verdictOf stringOf
+unfolding asVerdict asString
 string-told-spec =
     tie.close
     (tie.spec

@@ -1,13 +1,13 @@
 -- `face::told` meets its contract. Each arm is one of the answers. Assumes nothing.
 use mir.Syntax.{w32}
 use mir.Facts.{toZ-ofZ}
-use Rattle.face.specs.Face.{verdictOf}
+use Rattle.face.specs.Face.{asVerdict}
 use borrow.Author.Needs.{needs}
 use Rattle.face.proofs.told.Statement.{statement}
 use Rattle.face.proofs.told.Tie as tie
 
 pub told-spec : {M : Type 1} → statement M
-unfolding verdictOf
+unfolding asVerdict
 told-spec =
     tie.close
     (tie.spec

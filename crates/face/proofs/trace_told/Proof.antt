@@ -1,13 +1,13 @@
 -- `face::trace_told` meets its contract. Each arm is one of the answers. Assumes nothing.
 use mir.Syntax.{w32}
 use mir.Facts.{toZ-ofZ}
-use Rattle.face.specs.Face.{verdictOf, traceOf}
+use Rattle.face.specs.Face.{asVerdict, asTrace}
 use borrow.Author.Needs.{needs}
 use Rattle.face.proofs.trace_told.Statement.{statement}
 use Rattle.face.proofs.trace_told.Tie as tie
 
 pub trace-told-spec : {M : Type 1} → statement M
-unfolding verdictOf traceOf
+unfolding asVerdict asTrace
 trace-told-spec =
     tie.close
     (tie.spec

@@ -1,13 +1,13 @@
 -- `face::value_told` meets its contract. Each arm is one of the answers. Assumes nothing.
 use mir.Syntax.{w32}
 use mir.Facts.{toZ-ofZ}
-use Rattle.face.specs.Face.{verdictOf, valueOf}
+use Rattle.face.specs.Face.{asVerdict, asValue}
 use borrow.Author.Needs.{needs}
 use Rattle.face.proofs.value_told.Statement.{statement}
 use Rattle.face.proofs.value_told.Tie as tie
 
 pub value-told-spec : {M : Type 1} → statement M
-unfolding verdictOf valueOf
+unfolding asVerdict asValue
 value-told-spec =
     tie.close
     (tie.spec

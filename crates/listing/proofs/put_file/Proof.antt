@@ -13,7 +13,7 @@ put-file-spec =
     (λ c.
     (let c1 = c .before in
     let c4 = c1 .before .before .before in
-    let a = room-told (c4 .args .f .now) (c4 .pre .0) (c4 .pre .1) _ (c1 .file-block .ensures) in omega (arith, a .0, a .1, c4 .pre .2)))
+    let a = room-told (c4 .args .f .now) (c4 .pre .0) (c4 .pre .1) _ (c1 .file-block .ensures .0) in omega (arith, a .0, a .1, c4 .pre .2)))
     (λ c κs.
     (let c4 = c .before .before .before .before in
     first-slot (c4 .args .f .now) (c4 .pre .0) (c4 .pre .1)))
@@ -21,7 +21,7 @@ put-file-spec =
     (let c1 = c .before in
     let c3 = c1 .before .before in
     let c6 = c3 .before .before .before in
-    file-first (c6 .args .f .now) (c6 .pre .0) (c6 .pre .1) _ (c3 .file-block .ensures) _ (c1 .pointer .ensures .0) (c6 .args .out .now) (c6 .pre
+    file-first (c6 .args .f .now) (c6 .pre .0) (c6 .pre .1) _ (c3 .file-block .ensures .0) _ (c1 .pointer .ensures .0) (c6 .args .out .now) (c6 .pre
     .3)))
     (λ c κs.
     (let c10 = c .before .before .before .before .before .before .before .before .before .before in
@@ -35,18 +35,18 @@ put-file-spec =
     let c7 = c5 .before .before in
     let c9 = c7 .before .before in
     let c12 = c9 .before .before .before in
-    let a = file-area (c12 .args .f .now) (c12 .pre .0) (c12 .pre .1) _ (c9 .file-block .ensures) _ (c7 .pointer .ensures .0) in (
+    let a = file-area (c12 .args .f .now) (c12 .pre .0) (c12 .pre .1) _ (c9 .file-block .ensures .0) _ (c7 .pointer .ensures .0) in (
       a .0,
       a .1,
-      line-some (c12 .args .f .now) (c12 .pre .0) (c12 .pre .1) _ (c .terminator2 .ensures .0),
+      line-some (c12 .args .f .now) (c12 .pre .0) (c12 .pre .1) _ (c .line-end .ensures .0),
       file-second (c12 .args .f .now) (c12 .pre .0) (c12
-          .pre .1) _ (c9 .file-block .ensures) _ (c7 .pointer .ensures .0) (c12 .args .out .now) (c12 .pre .3) _ _ (c1 .terminator .ensures .0) (c
-          .terminator2 .ensures .0) _ _ (c5 .put-head .ensures),
+          .pre .1) _ (c9 .file-block .ensures .0) _ (c7 .pointer .ensures .0) (c12 .args .out .now) (c12 .pre .3) _ _ (c1 .string-end .ensures .0) (c
+          .line-end .ensures .0) _ _ (c5 .put-head .ensures),
     )))
     (λ c.
     (let c14 = c .before .before .before .before .before .before .before .before .before .before .before .before .before .before in
     let c17 = c14 .before .before .before in
-    let a = room-told (c17 .args .f .now) (c17 .pre .0) (c17 .pre .1) _ (c14 .file-block .ensures) in omega (arith, a .0, a .1, c17 .pre .2)))
+    let a = room-told (c17 .args .f .now) (c17 .pre .0) (c17 .pre .1) _ (c14 .file-block .ensures .0) in omega (arith, a .0, a .1, c17 .pre .2)))
     (λ c κs.
     (let c4 = c .before .before .before .before in
     let c5 = c4 .before in
@@ -57,10 +57,10 @@ put-file-spec =
     let c17 = c14 .before .before .before in (
       c17 .pre .0,
       c17 .pre .1,
-      count-told (c17 .args .f .now) (c17 .pre .0) (c17 .pre .1) _ (c14 .file-block .ensures),
+      count-told (c17 .args .f .now) (c17 .pre .0) (c17 .pre .1) _ (c14 .file-block .ensures .0),
       file-third (c17 .args .f
-          .now) (c17 .pre .0) (c17 .pre .1) _ (c14 .file-block .ensures) _ (c12 .pointer .ensures .0) (c17 .args .out .now) (c17 .pre .3) _ _ (c6
-          .terminator .ensures .0) (c5 .terminator2 .ensures .0) _ _ (c10 .put-head .ensures) _ _ (c4 .put-strings .ensures),
+          .now) (c17 .pre .0) (c17 .pre .1) _ (c14 .file-block .ensures .0) _ (c12 .pointer .ensures .0) (c17 .args .out .now) (c17 .pre .3) _ _ (c6
+          .string-end .ensures .0) (c5 .line-end .ensures .0) _ _ (c10 .put-head .ensures) _ _ (c4 .put-strings .ensures),
     )))
     (λ c. search needs)
     (λ c.
@@ -72,6 +72,6 @@ put-file-spec =
     let c15 = c13 .before .before in
     let c17 = c15 .before .before in
     let c20 = c17 .before .before .before in
-    file-all (c20 .args .f .now) (c20 .pre .0) (c20 .pre .1) _ (c17 .file-block .ensures) _ (c15 .pointer .ensures .0) (c20 .args .out .now) (c20
-    .pre .3) _ _ (c9 .terminator .ensures .0) (c8 .terminator2 .ensures .0) _ _ (c13 .put-head .ensures) _ _ (c7 .put-strings .ensures) _ _ (c2
+    file-all (c20 .args .f .now) (c20 .pre .0) (c20 .pre .1) _ (c17 .file-block .ensures .0) _ (c15 .pointer .ensures .0) (c20 .args .out .now) (c20
+    .pre .3) _ _ (c9 .string-end .ensures .0) (c8 .line-end .ensures .0) _ _ (c13 .put-head .ensures) _ _ (c7 .put-strings .ensures) _ _ (c2
     .put-traces .ensures))))

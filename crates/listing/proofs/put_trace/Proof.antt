@@ -47,10 +47,10 @@ put-trace-spec =
     .ensures) in (
       a .0,
       a .1,
-      line-some (c13 .args .f .now) (c13 .pre .0) (c13 .pre .1) _ (c .terminator2 .ensures .0),
+      line-some (c13 .args .f .now) (c13 .pre .0) (c13 .pre .1) _ (c .line-end .ensures .0),
       trace-second (c13 .args .f
           .now) (c13 .pre .0) (c13 .pre .1) (c13 .args .k) (c13 .pre .2) _ (c10 .is-high .ensures) _ (c9 .trace-block .ensures) (c13 .args .out .now)
-          (c13 .args .at) (c13 .pre .3) _ _ (c1 .terminator .ensures .0) (c .terminator2 .ensures .0) _ _ (c5 .put-trace-line .ensures),
+          (c13 .args .at) (c13 .pre .3) _ _ (c1 .string-end .ensures .0) (c .line-end .ensures .0) _ _ (c5 .put-trace-line .ensures),
     )))
     (λ c. search needs)
     (λ c.
@@ -62,5 +62,5 @@ put-trace-spec =
     let c13 = c12 .before in
     let c16 = c13 .before .before .before in
     trace-both (c16 .args .f .now) (c16 .pre .0) (c16 .pre .1) (c16 .args .k) (c16 .pre .2) _ (c13 .is-high .ensures) _ (c12 .trace-block
-    .ensures) (c16 .args .out .now) (c16 .args .at) (c16 .pre .3) _ _ (c4 .terminator .ensures .0) (c3 .terminator2 .ensures .0) _ _ _ _ (c8
+    .ensures) (c16 .args .out .now) (c16 .args .at) (c16 .pre .3) _ _ (c4 .string-end .ensures .0) (c3 .line-end .ensures .0) _ _ _ _ (c8
     .put-trace-line .ensures) (c2 .put-strings .ensures))))

@@ -22,15 +22,15 @@ double-spec =
     let at-find = c .before .before .before in
     let start = at-find .before .before .before in
     let args = start .args in
-    rw (sym (handed (λ (z : ℤ). findAnswer (args .buffer .now) (args .n) z (args .key .now)) (args .part) (start .fits .part .sfits)
+    rw (sym (handed (λ (z : ℤ). findAnswer (args .how) (args .buffer .now) (args .n) z (args .key .now)) (args .part) (start .fits .part .sfits)
     (at-find .find .ensures)) ∙ c .before .s .given .1))
-    (λ c κs. rw (c .before .find .ensures) (find-lent _ _ _ _))
+    (λ c κs. rw (c .before .find .ensures) (find-lent _ _ _ _ _))
     (λ c κs. search needs)
     (λ c.
     let at-match = c .before .before in
     let at-find = at-match .before in
     let start = at-find .before .before .before in
     let args = start .args in
-    c .double .ensures ∙ value-made double.Refused doubleOf _ _ _ _ _ _ (handed (λ (z : ℤ). findAnswer (args .buffer .now) (args .n) z (args .key .now))
+    c .double .ensures ∙ value-made _ double.Refused doubleOf _ _ _ _ _ _ (handed (λ (z : ℤ). findAnswer (args .how) (args .buffer .now) (args .n) z (args .key .now))
     (args .part) (start .fits .part .sfits) (at-find .find .ensures)) (c .before .value-at .ensures .0)
     (answered double.Refused (at-find .find .result) (at-match .match .keys2))))

@@ -2,14 +2,13 @@
 use mathlib.Core.Path.{sym, _∙_}
 use native.Mathlib.Omega.{arith}
 use borrow.Author.Needs.{needs}
-use Rattle.head.specs.Head.{fileBlockOf}
 use Rattle.reader.specs.Reach.{checked}
 use Rattle.reader.specs.Questions.{fileAnswer}
 use Rattle.reader.proofs.file_block.Statement.{statement}
 use Rattle.reader.proofs.file_block.Tie as tie
 
 pub file-block-spec : {M : Type 1} → statement M
-unfolding fileBlockOf fileAnswer
+unfolding fileAnswer
 file-block-spec =
     tie.close
     (tie.spec
@@ -17,10 +16,8 @@ file-block-spec =
     (λ c. search needs)
     (λ c. rw (sym (c .before .before .before .check .ensures) ∙ c .before .v .given .1))
     (λ c. search needs)
-    (λ c. sym (checked _ _ (sym (c .before .before .before .check .ensures) ∙ c .before .enum-told .given .1) .size))
-    (λ c κs. let k = checked _ _ (sym (c .before .before .before .check .ensures) ∙ c .before .enum-told .given .1) in omega (arith, k .size, k .least))
-    (λ c. let k = checked _ _ (sym (c .before .before .before .before .before .check .ensures) ∙ c .before .before .before .enum-told .given .1) in omega (arith, k .size, k .least))
-    (λ c κs. search needs)
-    (λ c. let k = checked _ _ (sym (c .before .before .before .before .before .before .before .check .ensures) ∙ c .before .before .before .before .before .enum-told .given .1) in omega (arith, k .size, k .least))
-    (λ c κs. search needs)
-    (λ c. rw ((sym (c .before .before .before .before .before .before .before .before .check .ensures) ∙ c .before .before .before .before .before .before .enum-told .given .1), c .before .before .before .before .file-block .ensures, c .before .before .wide .ensures .0, c .wide2 .ensures .0)))
+    (λ c. sym (checked _ _ _ (sym (c .before .before .before .check .ensures) ∙ c .before .enum-told .given .1) .size))
+    (λ c κs.
+    let k = checked _ _ _ (sym (c .before .before .before .check .ensures) ∙ c .before .enum-told .given .1) in
+    omega (arith, k .size, k .least))
+    (λ c. rw (sym (c .before .before .before .before .check .ensures) ∙ c .before .before .enum-told .given .1, c .file-block .ensures .0)))

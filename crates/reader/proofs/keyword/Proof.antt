@@ -20,17 +20,17 @@ keyword-spec =
     let at-find = c .before .before in
     let start = at-find .before .before .before in
     let args = start .args in
-    rw (sym (handed (λ (z : ℤ). findAnswer (args .buffer .now) (args .n) z (args .key .now)) (args .part) (start .fits .part .sfits)
+    rw (sym (handed (λ (z : ℤ). findAnswer (args .how) (args .buffer .now) (args .n) z (args .key .now)) (args .part) (start .fits .part .sfits)
     (at-find .find .ensures)) ∙ c .enum-told .given .1))
     (λ c.
     let at-find = c .before .before in
     let start = at-find .before .before .before in
     let args = start .args in
-    rw (sym (handed (λ (z : ℤ). findAnswer (args .buffer .now) (args .n) z (args .key .now)) (args .part) (start .fits .part .sfits)
+    rw (sym (handed (λ (z : ℤ). findAnswer (args .how) (args .buffer .now) (args .n) z (args .key .now)) (args .part) (start .fits .part .sfits)
     (at-find .find .ensures)) ∙ c .enum-told2 .given .1))
     (λ c.
     let at-find = c .before .before .before in
     let start = at-find .before .before .before in
     let args = start .args in
-    rw (sym (handed (λ (z : ℤ). findAnswer (args .buffer .now) (args .n) z (args .key .now)) (args .part) (start .fits .part .sfits)
+    rw (sym (handed (λ (z : ℤ). findAnswer (args .how) (args .buffer .now) (args .n) z (args .key .now)) (args .part) (start .fits .part .sfits)
     (at-find .find .ensures)) ∙ c .before .s .given .1)))

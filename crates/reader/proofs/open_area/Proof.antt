@@ -20,10 +20,10 @@ open-area-spec =
     (λ c. search needs)
     (λ c. rw (sym (c .before .before .before .check .ensures) ∙ c .before .v .given .1))
     (λ c. search needs)
-    (λ c. sym (checked _ _ (sym (c .before .before .before .check .ensures) ∙ c .before .enum-told .given .1) .size))
+    (λ c. sym (checked _ _ _ (sym (c .before .before .before .check .ensures) ∙ c .before .enum-told .given .1) .size))
     (λ c κs.
     let at-check = c .before .before .before in
-    let k = checked _ _ (sym (at-check .check .ensures) ∙ c .before .enum-told .given .1) in
+    let k = checked _ _ _ (sym (at-check .check .ensures) ∙ c .before .enum-told .given .1) in
     (omega (arith, k .size, k .least), k .image))
     (λ c. search needs)
     (λ c κs. search needs)

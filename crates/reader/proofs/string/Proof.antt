@@ -16,28 +16,28 @@ string-spec =
     (λ c κs. search needs)
     (λ c. search needs)
     (λ c. search needs)
-    (λ c. let r = reached _ _ _ _ _ (sym (c .before .before .before .before .open-area .ensures) ∙ c .before .before .o2 .given .1) in sym (r .known .size))
+    (λ c. let r = reached _ _ _ _ _ _ (sym (c .before .before .before .before .open-area .ensures) ∙ c .before .before .o2 .given .1) in sym (r .known .size))
     (λ c κs.
     let at-o2 = c .before .before in
     let at-open-area = at-o2 .before .before in
-    let r = reached _ _ _ _ _ (sym (at-open-area .open-area .ensures) ∙ at-o2 .o2 .given .1) in
+    let r = reached _ _ _ _ _ _ (sym (at-open-area .open-area .ensures) ∙ at-o2 .o2 .given .1) in
     omega (arith, r .known .size, r .known .least))
     (λ c κs.
     let at-o2 = c .before .before .before in
     let at-open-area = at-o2 .before .before in
-    let r = reached _ _ _ _ _ (sym (at-open-area .open-area .ensures) ∙ at-o2 .o2 .given .1) in
+    let r = reached _ _ _ _ _ _ (sym (at-open-area .open-area .ensures) ∙ at-o2 .o2 .given .1) in
     (omega (arith, r .known .size, r .known .least), r .good))
     (λ c κs.
     let at-o2 = c .before .before .before .before in
     let at-open-area = at-o2 .before .before in
-    let r = reached _ _ _ _ _ (sym (at-open-area .open-area .ensures) ∙ at-o2 .o2 .given .1) in
+    let r = reached _ _ _ _ _ _ (sym (at-open-area .open-area .ensures) ∙ at-o2 .o2 .given .1) in
     (r .low, r .end))
     (λ c κs. search needs)
     (λ c.
     let at-open-area = c .before .before .before in
     let start = at-open-area .before .before in
     let args = start .args in
-    nth-bad _ _ _ _ _ (sym (handed (λ (z : ℤ). openedOf (args .buffer .now) (args .n) z) (args .part) (start .fits .part .sfits)
+    nth-bad _ _ _ _ _ _ (sym (handed (λ (z : ℤ). openedOf (args .how) (args .buffer .now) (args .n) z) (args .part) (start .fits .part .sfits)
     (at-open-area .open-area .ensures)) ∙ c .before .o .given .1))
     (λ c.
     let at-terminator = c .before .before in
@@ -46,6 +46,6 @@ string-spec =
     let at-open-area = at-o2 .before .before in
     let start = at-open-area .before .before in
     let args = start .args in
-    nth-told _ _ _ _ _ _ _
-    (sym (handed (λ (z : ℤ). openedOf (args .buffer .now) (args .n) z) (args .part) (start .fits .part .sfits) (at-open-area .open-area .ensures))
-    ∙ at-o2 .o2 .given .1) (at-is-high .is-high .ensures) (at-terminator .terminator .ensures .0) _ _ _ (c .before .nth .ensures) (c .there .ensures)))
+    nth-told _ _ _ _ _ _ _ _
+    (sym (handed (λ (z : ℤ). openedOf (args .how) (args .buffer .now) (args .n) z) (args .part) (start .fits .part .sfits) (at-open-area .open-area .ensures))
+    ∙ at-o2 .o2 .given .1) (at-is-high .is-high .ensures) (at-terminator .string-end .ensures .0) _ _ _ (c .before .nth .ensures) (c .there .ensures)))

@@ -20,22 +20,22 @@ trace-block-spec =
     (λ c. search needs)
     (λ c. rw (sym (c .before .before .before .check .ensures) ∙ c .before .v .given .1))
     (λ c. search needs)
-    (λ c. sym (checked _ _ (sym (c .before .before .before .check .ensures) ∙ c .before .enum-told .given .1) .size))
-    (λ c κs. let k = checked _ _ (sym (c .before .before .before .check .ensures) ∙ c .before .enum-told .given .1) in omega (arith, k .size, k .least))
+    (λ c. sym (checked _ _ _ (sym (c .before .before .before .check .ensures) ∙ c .before .enum-told .given .1) .size))
+    (λ c κs. let k = checked _ _ _ (sym (c .before .before .before .check .ensures) ∙ c .before .enum-told .given .1) in omega (arith, k .size, k .least))
     (λ c. search needs)
     (λ c κs.
     let at-enum-told = c .before .before .before .before .before in
     let at-check = at-enum-told .before .before in
-    let k = checked _ _ (sym (at-check .check .ensures) ∙ at-enum-told .enum-told .given .1) in
+    let k = checked _ _ _ (sym (at-check .check .ensures) ∙ at-enum-told .enum-told .given .1) in
     omega (arith, k .size, k .least))
     (λ c κs.
     let at-w = c .before .before in
     let at-whose-in = at-w .before .before in
     let at-enum-told = at-whose-in .before .before in
     let at-check = at-enum-told .before .before in
-    let k = checked _ _ (sym (at-check .check .ensures) ∙ at-enum-told .enum-told .given .1) in
+    let k = checked _ _ _ (sym (at-check .check .ensures) ∙ at-enum-told .enum-told .given .1) in
     let l = (whose-trace _ _ _ (sym (at-whose-in .whose-in .ensures) ∙ at-w .w .given .1) .1) in
-    (pointer-slot _ (k .image) _ l, rw (c .is-high .ensures) (trace-pointed _ (k .image) _ l .fits)))
+    (pointer-slot _ _ (k .image) _ l, rw (c .is-high .ensures) (trace-pointed _ _ (k .image) _ l .fits)))
     (λ c. search needs)
     (λ c κs. search needs)
     (λ c. search needs)

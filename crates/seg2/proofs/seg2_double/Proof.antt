@@ -2,7 +2,7 @@
 use mathlib.Core.Path.{ap, _∙_}
 use mir.Syntax.{w32}
 use mir.Facts.{toZ-ofZ}
-use Rattle.face.specs.Face.{doubleOf}
+use Rattle.face.specs.Face.{asDouble}
 use borrow.Author.Needs.{needs}
 use Rattle.seg2.proofs.seg2_double.Statement.{statement}
 use Rattle.seg2.proofs.seg2_double.Tie as tie
@@ -13,4 +13,4 @@ seg2-double-spec =
     (tie.spec
     (λ c κs. search needs)
     (λ c κs. search needs)
-    (λ c. c .double-told .ensures ∙ ap doubleOf (rw (toZ-ofZ {w = w32} (c .before .before .before .before .fits .part)) at (c .before .double .ensures))))
+    (λ c. c .double-told .ensures ∙ ap asDouble (rw (toZ-ofZ {w = w32} (c .before .before .before .before .fits .part)) at (c .before .double .ensures))))

@@ -1,6 +1,6 @@
 -- `seg2::seg2_file_block` meets its contract. The answer of the function below it, as it crosses. Assumes nothing.
 use mathlib.Core.Path.{ap, _∙_}
-use Rattle.face.specs.Face.{fileOf}
+use Rattle.face.specs.Face.{asFile}
 use borrow.Author.Needs.{needs}
 use Rattle.seg2.proofs.seg2_file_block.Statement.{statement}
 use Rattle.seg2.proofs.seg2_file_block.Tie as tie
@@ -11,4 +11,4 @@ seg2-file-block-spec =
     (tie.spec
     (λ c κs. search needs)
     (λ c κs. search needs)
-    (λ c. c .file-told .ensures ∙ ap fileOf (c .before .file-block .ensures)))
+    (λ c. c .file-told .ensures ∙ ap asFile (c .before .file-block .ensures)))

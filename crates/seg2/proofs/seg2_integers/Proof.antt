@@ -2,7 +2,7 @@
 use mathlib.Core.Path.{ap, _∙_}
 use mir.Syntax.{w32}
 use mir.Facts.{toZ-ofZ}
-use Rattle.face.specs.Face.{verdictOf}
+use Rattle.face.specs.Face.{asVerdict}
 use borrow.Author.Needs.{needs}
 use Rattle.seg2.proofs.seg2_integers.Statement.{statement}
 use Rattle.seg2.proofs.seg2_integers.Tie as tie
@@ -14,4 +14,4 @@ seg2-integers-spec =
     (λ c κs. search needs)
     (λ c κs. search needs)
     (λ c. search needs)
-    (λ c. (c .told .ensures ∙ ap verdictOf (rw (toZ-ofZ {w = w32} (c .before .before .before .before .before .fits .trace)) at (c .before .before .integers .ensures .0)), rw (toZ-ofZ {w = w32} (c .before .before .before .before .before .fits .trace)) at (c .before .before .integers .ensures .1))))
+    (λ c. (c .told .ensures ∙ ap asVerdict (rw (toZ-ofZ {w = w32} (c .before .before .before .before .before .fits .trace)) at (c .before .before .integers .ensures .0)), rw (toZ-ofZ {w = w32} (c .before .before .before .before .before .fits .trace)) at (c .before .before .integers .ensures .1))))

@@ -2,7 +2,7 @@
 use mathlib.Core.Path.{ap, _∙_}
 use mir.Syntax.{w32}
 use mir.Facts.{toZ-ofZ}
-use Rattle.face.specs.Face.{keywordOf}
+use Rattle.face.specs.Face.{asKeyword}
 use borrow.Author.Needs.{needs}
 use Rattle.seg2.proofs.seg2_keyword.Statement.{statement}
 use Rattle.seg2.proofs.seg2_keyword.Tie as tie
@@ -13,4 +13,4 @@ seg2-keyword-spec =
     (tie.spec
     (λ c κs. search needs)
     (λ c κs. search needs)
-    (λ c. c .keyword-told .ensures ∙ ap keywordOf (rw (toZ-ofZ {w = w32} (c .before .before .before .before .fits .part)) at (c .before .keyword .ensures))))
+    (λ c. c .keyword-told .ensures ∙ ap asKeyword (rw (toZ-ofZ {w = w32} (c .before .before .before .before .fits .part)) at (c .before .keyword .ensures))))

@@ -2,7 +2,7 @@
 use mathlib.Core.Path.{ap, _∙_}
 use mir.Syntax.{w32}
 use mir.Facts.{toZ-ofZ}
-use Rattle.face.specs.Face.{locationOf}
+use Rattle.face.specs.Face.{asLocation}
 use borrow.Author.Needs.{needs}
 use Rattle.seg2.proofs.seg2_location.Statement.{statement}
 use Rattle.seg2.proofs.seg2_location.Tie as tie
@@ -13,4 +13,4 @@ seg2-location-spec =
     (tie.spec
     (λ c κs. search needs)
     (λ c κs. search needs)
-    (λ c. c .location-told .ensures ∙ ap locationOf (rw (toZ-ofZ {w = w32} (c .before .before .before .before .fits .part)) at (c .before .location .ensures))))
+    (λ c. c .location-told .ensures ∙ ap asLocation (rw (toZ-ofZ {w = w32} (c .before .before .before .before .fits .part)) at (c .before .location .ensures))))

@@ -2,7 +2,7 @@
 use mathlib.Core.Path.{ap, _∙_}
 use mir.Syntax.{w32}
 use mir.Facts.{toZ-ofZ}
-use Rattle.face.specs.Face.{decimalOf}
+use Rattle.face.specs.Face.{asNumber}
 use borrow.Author.Needs.{needs}
 use Rattle.seg2.proofs.seg2_number.Statement.{statement}
 use Rattle.seg2.proofs.seg2_number.Tie as tie
@@ -13,4 +13,4 @@ seg2-number-spec =
     (tie.spec
     (λ c κs. search needs)
     (λ c κs. search needs)
-    (λ c. c .number-told .ensures ∙ ap decimalOf (rw (toZ-ofZ {w = w32} (c .before .before .before .before .fits .part)) at (c .before .number .ensures))))
+    (λ c. c .number-told .ensures ∙ ap asNumber (rw (toZ-ofZ {w = w32} (c .before .before .before .before .fits .part)) at (c .before .number .ensures))))

@@ -1,6 +1,6 @@
 -- `seg2::seg2_start` meets its contract. The answer of the function below it, as it crosses. Assumes nothing.
 use mathlib.Core.Path.{ap, _∙_}
-use Rattle.face.specs.Face.{lengthOf}
+use Rattle.face.specs.Face.{asLength}
 use borrow.Author.Needs.{needs}
 use Rattle.seg2.proofs.seg2_start.Statement.{statement}
 use Rattle.seg2.proofs.seg2_start.Tie as tie
@@ -12,4 +12,4 @@ seg2-start-spec =
     (λ c κs. search needs)
     (λ c κs. search needs)
     (λ c. search needs)
-    (λ c. (c .length-told .ensures ∙ ap lengthOf (c .before .before .before .start .ensures .0), c .before .before .before .start .ensures .1)))
+    (λ c. (c .length-told .ensures ∙ ap asLength (c .before .before .before .start .ensures .0), c .before .before .before .start .ensures .1)))

@@ -2,7 +2,7 @@
 use mathlib.Core.Path.{ap, _∙_}
 use mir.Syntax.{w32}
 use mir.Facts.{toZ-ofZ}
-use Rattle.face.specs.Face.{stringOf}
+use Rattle.face.specs.Face.{asString}
 use borrow.Author.Needs.{needs}
 use Rattle.seg2.proofs.seg2_string.Statement.{statement}
 use Rattle.seg2.proofs.seg2_string.Tie as tie
@@ -13,4 +13,4 @@ seg2-string-spec =
     (tie.spec
     (λ c κs. search needs)
     (λ c κs. search needs)
-    (λ c. c .string-told .ensures ∙ ap stringOf (rw (toZ-ofZ {w = w32} (c .before .before .before .fits .part)) at (c .before .string .ensures))))
+    (λ c. c .string-told .ensures ∙ ap asString (rw (toZ-ofZ {w = w32} (c .before .before .before .fits .part)) at (c .before .string .ensures))))

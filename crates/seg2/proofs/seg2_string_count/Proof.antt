@@ -2,7 +2,7 @@
 use mathlib.Core.Path.{ap, _∙_}
 use mir.Syntax.{w32}
 use mir.Facts.{toZ-ofZ}
-use Rattle.face.specs.Face.{countOf}
+use Rattle.face.specs.Face.{asCount}
 use borrow.Author.Needs.{needs}
 use Rattle.seg2.proofs.seg2_string_count.Statement.{statement}
 use Rattle.seg2.proofs.seg2_string_count.Tie as tie
@@ -13,4 +13,4 @@ seg2-string-count-spec =
     (tie.spec
     (λ c κs. search needs)
     (λ c κs. search needs)
-    (λ c. c .count-told .ensures ∙ ap countOf (rw (toZ-ofZ {w = w32} (c .before .before .before .fits .part)) at (c .before .string-count .ensures))))
+    (λ c. c .count-told .ensures ∙ ap asCount (rw (toZ-ofZ {w = w32} (c .before .before .before .fits .part)) at (c .before .string-count .ensures))))

@@ -2,7 +2,7 @@
 use mathlib.Core.Path.{ap, _∙_}
 use mir.Syntax.{w32}
 use mir.Facts.{toZ-ofZ}
-use Rattle.face.specs.Face.{traceOf}
+use Rattle.face.specs.Face.{asTrace}
 use borrow.Author.Needs.{needs}
 use Rattle.seg2.proofs.seg2_trace_block.Statement.{statement}
 use Rattle.seg2.proofs.seg2_trace_block.Tie as tie
@@ -13,4 +13,4 @@ seg2-trace-block-spec =
     (tie.spec
     (λ c κs. search needs)
     (λ c κs. search needs)
-    (λ c. c .trace-told .ensures ∙ ap traceOf (rw (toZ-ofZ {w = w32} (c .before .before .before .fits .trace)) at (c .before .trace-block .ensures))))
+    (λ c. c .trace-told .ensures ∙ ap asTrace (rw (toZ-ofZ {w = w32} (c .before .before .before .fits .trace)) at (c .before .trace-block .ensures))))

@@ -2,7 +2,7 @@
 use mathlib.Core.Path.{ap, _∙_}
 use mir.Syntax.{w32}
 use mir.Facts.{toZ-ofZ}
-use Rattle.face.specs.Face.{valueOf}
+use Rattle.face.specs.Face.{asValue}
 use borrow.Author.Needs.{needs}
 use Rattle.seg2.proofs.seg2_value.Statement.{statement}
 use Rattle.seg2.proofs.seg2_value.Tie as tie
@@ -13,4 +13,4 @@ seg2-value-spec =
     (tie.spec
     (λ c κs. search needs)
     (λ c κs. search needs)
-    (λ c. c .value-told .ensures ∙ ap valueOf (rw (toZ-ofZ {w = w32} (c .before .before .before .before .fits .part)) at (c .before .find .ensures))))
+    (λ c. c .value-told .ensures ∙ ap asValue (rw (toZ-ofZ {w = w32} (c .before .before .before .before .fits .part)) at (c .before .find .ensures))))

@@ -1,6 +1,6 @@
 -- `writer::add_bits` meets its contract. What is refused before the samples leaves all as it was. Assumes nothing.
 use mathlib.Core.Path.{sym, _∙_}
-use Rattle.layout.specs.Layout.{ofPatterns}
+use Rattle.layout.specs.Layout.{patternsTrace}
 use Rattle.writer.specs.Writes.{add-shut}
 use borrow.Author.Needs.{needs}
 use Rattle.writer.proofs.add_bits.Statement.{statement}
@@ -19,7 +19,7 @@ add-bits-spec =
     let at-opened = c .before .before .before in
     let start = at-opened .before .before .before .before .before in
     let args = start .args in
-    add-shut (args .buffer .now) (args .n) (ofPatterns (args .sheet .now) (args .code) (args .row .now)) _
+    add-shut (args .buffer .now) (args .n) (patternsTrace (args .sheet .now) (args .code) (args .row .now)) _
     (sym (at-opened .opened .ensures) ∙ c .before .o .given .1))
     (λ c. search needs)
     (λ c. search needs))

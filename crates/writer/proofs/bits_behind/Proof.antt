@@ -1,7 +1,7 @@
 -- `writer::bits_behind` meets its contract. Each return is one row; the last is the new length. Assumes nothing.
 use mathlib.Core.Path.{sym, _∙_}
 use Rattle.word.specs.Tests.{neither}
-use Rattle.layout.specs.Layout.{ofPatterns, count}
+use Rattle.layout.specs.Layout.{patternsTrace, count}
 use Rattle.layout.specs.LayoutLaws.{kinded}
 use Rattle.writer.specs.Shown.{opened, samples-fit}
 use Rattle.writer.specs.Writes.{add-unfit, add-long, add-full, add-fits, new-end, growing}
@@ -24,7 +24,7 @@ bits-behind-spec =
     let at-bits-fit = c .before .before .before in
     let start = at-bits-fit .before .before .before .before in
     let args = start .args in
-    add-unfit (args .buffer .now) (args .n) (ofPatterns (args .sheet .now) (args .code) (args .row .now)) (args .size) (start .pre) _
+    add-unfit (args .buffer .now) (args .n) (patternsTrace (args .sheet .now) (args .code) (args .row .now)) (args .size) (start .pre) _
     (sym (at-bits-fit .bits-fit .ensures) ∙ c .before .v .given .1))
     (λ c. search needs)
     (λ c κs. search needs)
@@ -33,7 +33,7 @@ bits-behind-spec =
     let at-bits-fit = at-enum-told .before .before in
     let start = at-bits-fit .before .before .before .before in
     let args = start .args in
-    let a = add-long (args .buffer .now) (args .n) (ofPatterns (args .sheet .now) (args .code) (args .row .now)) (args .size) (start .pre)
+    let a = add-long (args .buffer .now) (args .n) (patternsTrace (args .sheet .now) (args .code) (args .row .now)) (args .size) (start .pre)
     (sym (at-bits-fit .bits-fit .ensures) ∙ at-enum-told .enum-told .given .1) (c .before .if1 .taken) in
     (c .refusing .ensures ∙ a .0, a .1))
     (λ c.
@@ -49,9 +49,9 @@ bits-behind-spec =
     let at-bits-fit = at-enum-told .before .before in
     let start = at-bits-fit .before .before .before .before in
     let args = start .args in
-    let a = add-full (args .buffer .now) (args .n) (ofPatterns (args .sheet .now) (args .code) (args .row .now)) (args .size) (start .pre)
+    let a = add-full (args .buffer .now) (args .n) (patternsTrace (args .sheet .now) (args .code) (args .row .now)) (args .size) (start .pre)
     (sym (at-bits-fit .bits-fit .ensures) ∙ at-enum-told .enum-told .given .1) _ (at-end-of .end-of .ensures ∙ new-end (args .buffer .now) (args .n)
-    (ofPatterns (args .sheet .now) (args .code) (args .row .now)) (args .size) (start .pre)) (c .before .if2 .taken) in
+    (patternsTrace (args .sheet .now) (args .code) (args .row .now)) (args .size) (start .pre)) (c .before .if2 .taken) in
     (c .refusing2 .ensures ∙ a .0, a .1))
     (λ c κs.
     let at-end-of = c .before .before in
@@ -62,7 +62,7 @@ bits-behind-spec =
     let start = at-slice-known .before in
     let args = start .args in
     let k = neither _ _ (c .before .if2 .left) in
-    growing (args .buffer .now) (args .n) (args .size) (ofPatterns (args .sheet .now) (args .code) (args .row .now)) _
+    growing (args .buffer .now) (args .n) (args .size) (patternsTrace (args .sheet .now) (args .code) (args .row .now)) _
     (each-bytes (args .buffer .now) (λ i. at-slice-known .slice-known .given i .fits)) (start .pre)
     (sym (at-bits-fit .bits-fit .ensures) ∙ at-enum-told .enum-told .given .1) (at-if1 .if1 .left) (at-end-of .end-of .ensures) (ltb-false _ _ (k .0)))
     (λ c. search needs)
@@ -74,7 +74,7 @@ bits-behind-spec =
     let at-bits-fit = at-enum-told .before .before in
     let start = at-bits-fit .before .before .before .before in
     let args = start .args in
-    let a = add-fits (args .buffer .now) (args .n) (ofPatterns (args .sheet .now) (args .code) (args .row .now)) (args .size) (start .pre)
+    let a = add-fits (args .buffer .now) (args .n) (patternsTrace (args .sheet .now) (args .code) (args .row .now)) (args .size) (start .pre)
     (sym (at-bits-fit .bits-fit .ensures) ∙ at-enum-told .enum-told .given .1) _ (at-end-of .end-of .ensures ∙ new-end (args .buffer .now) (args .n)
-    (ofPatterns (args .sheet .now) (args .code) (args .row .now)) (args .size) (start .pre)) (at-if2 .if2 .left) in
+    (patternsTrace (args .sheet .now) (args .code) (args .row .now)) (args .size) (start .pre)) (at-if2 .if2 .left) in
     (a .0, at-grow-bits .grow-bits .ensures ∙ a .1)))

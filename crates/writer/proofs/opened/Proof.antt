@@ -25,7 +25,7 @@ opened-spec =
     omega (
       arith,
       few-slots (args .buffer .now) (args .n) (args .sheet .now) (sym (at-check .check .ensures) ∙ at-enum-told .enum-told .given .1) _
-          (c .before .file-block .ensures),
+          (c .before .file-block .ensures .0),
     ))
     (λ c.
     let at-enum-told = c .before .before .before in
@@ -35,13 +35,13 @@ opened-spec =
     omega (
       arith,
       few-slots (args .buffer .now) (args .n) (args .sheet .now) (sym (at-check .check .ensures) ∙ at-enum-told .enum-told .given .1) _
-          (c .before .file-block .ensures),
+          (c .before .file-block .ensures .0),
     ))
     (λ c.
     let at-file-block = c .before .before .before in
     let at-enum-told = at-file-block .before .before in
     let at-check = at-enum-told .before .before in
-    opened-full _ _ _ (sym (at-check .check .ensures) ∙ at-enum-told .enum-told .given .1) _ (at-file-block .file-block .ensures) (c .if1 .taken))
+    opened-full _ _ _ (sym (at-check .check .ensures) ∙ at-enum-told .enum-told .given .1) _ (at-file-block .file-block .ensures .0) (c .if1 .taken))
     (λ c κs.
     let at-enum-told = c .before .before .before .before .before in
     let at-check = at-enum-told .before .before in
@@ -59,5 +59,5 @@ opened-spec =
     let at-file-block = at-if1 .before .before .before in
     let at-enum-told = at-file-block .before .before in
     let at-check = at-enum-told .before .before in
-    c .measure .ensures ∙ rw (at-terminator .terminator .ensures .0, c .before .terminator2 .ensures .0)
-    (opened-free _ _ _ (sym (at-check .check .ensures) ∙ at-enum-told .enum-told .given .1) _ (at-file-block .file-block .ensures) (at-if1 .if1 .left))))
+    c .measure .ensures ∙ rw (at-terminator .string-end .ensures .0, c .before .line-end .ensures .0)
+    (opened-free _ _ _ (sym (at-check .check .ensures) ∙ at-enum-told .enum-told .given .1) _ (at-file-block .file-block .ensures .0) (at-if1 .if1 .left))))

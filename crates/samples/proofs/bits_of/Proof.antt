@@ -2,9 +2,9 @@
 use mathlib.Core.Path.{sym, _∙_}
 use borrow.Author.Tests.{not-true, not-false}
 use borrow.Author.Needs.{needs}
-use Rattle.traces.specs.Samples.{bits-kind, bits-long, classes-long, bits-done}
-use Rattle.traces.proofs.bits_of.Statement.{statement}
-use Rattle.traces.proofs.bits_of.Tie as tie
+use Rattle.samples.specs.Samples.{bits-kind, bits-long, classes-long, bits-done}
+use Rattle.samples.proofs.bits_of.Statement.{statement}
+use Rattle.samples.proofs.bits_of.Tie as tie
 
 pub bits-of-spec : {M : Type 1} → statement M
 bits-of-spec =

@@ -2,9 +2,9 @@
 use mathlib.Core.Path.{sym, _∙_}
 use borrow.Author.Tests.{not-true, not-false}
 use borrow.Author.Needs.{needs}
-use Rattle.traces.specs.Samples.{integers-kind, integers-long, integers-done}
-use Rattle.traces.proofs.integers_of.Statement.{statement}
-use Rattle.traces.proofs.integers_of.Tie as tie
+use Rattle.samples.specs.Samples.{integers-kind, integers-long, integers-done}
+use Rattle.samples.proofs.integers_of.Statement.{statement}
+use Rattle.samples.proofs.integers_of.Tie as tie
 
 pub integers-of-spec : {M : Type 1} → statement M
 integers-of-spec =

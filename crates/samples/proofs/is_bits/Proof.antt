@@ -1,8 +1,8 @@
 -- `traces::is_bits` meets its contract. No other code is one of bits. Assumes nothing.
 use borrow.Author.Needs.{needs}
 use Rattle.reader.specs.Leaves.{bits-none}
-use Rattle.traces.proofs.is_bits.Statement.{statement}
-use Rattle.traces.proofs.is_bits.Tie as tie
+use Rattle.samples.proofs.is_bits.Statement.{statement}
+use Rattle.samples.proofs.is_bits.Tie as tie
 
 pub is-bits-spec : {M : Type 1} → statement M
 is-bits-spec =

@@ -1,8 +1,8 @@
 -- `traces::is_integers` meets its contract. No other code is one of integers. Assumes nothing.
 use borrow.Author.Needs.{needs}
 use Rattle.reader.specs.Leaves.{integers-none}
-use Rattle.traces.proofs.is_integers.Statement.{statement}
-use Rattle.traces.proofs.is_integers.Tie as tie
+use Rattle.samples.proofs.is_integers.Statement.{statement}
+use Rattle.samples.proofs.is_integers.Tie as tie
 
 pub is-integers-spec : {M : Type 1} → statement M
 is-integers-spec =

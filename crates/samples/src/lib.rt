@@ -1,18 +1,20 @@
 // The samples of a trace, as integers or as bits and classes (document 01, "Samples", rows 18, 32, 33). The definitions are those of reader/Questions;
 // Samples has a law for each answer. The trace's data is handed to `decode` as a part of the lent file. Stands on `reader`, `decode` and what they stand on.
 // The rules in words: docs/FORMAT.md, "Samples".
+use block::TraceAnswer;
 use block::TraceBlock;
-use reader::TraceAnswer;
 use refusal::Part;
 use refusal::Refusal;
 use refusal::Rule;
 use refusal::Verdict;
+use text::Manner;
 ghost use mathlib.Core.Path.{_≡_};
 ghost use Prim.Native.Nat.{_≤_};
 ghost use lib.ListN.{length};
 ghost use Rattle.head.specs.Head.{refused};
-ghost use Rattle.reader.specs.Questions.{ofIntegers, ofBits, kept, integersAnswer, integersLeft, bitsAnswer, patternsLeft, classesLeft};
-ghost use Rattle.reader.specs.Leaves.{Fits, integersTold, samplesTold, bitsTold, patternsTold, classesTold};
+ghost use Rattle.reader.specs.Questions.{ofIntegers, ofBits, integersVerdict, samplesIn, bitsVerdict, patternsIn, classesIn, kept};
+ghost use Rattle.reader.specs.Questions.{integersAnswer, integersLeft, bitsAnswer, patternsLeft, classesLeft};
+ghost use Rattle.reader.specs.Leaves.{Fits};
 
 // ---- samples: rows 18, 33 and 32 in that order; then the data block alone, out of the middle of the file, is handed to the decoder
 
@@ -53,8 +55,8 @@ fn refusing(rule: Rule) -> Verdict
 // The samples of the trace whose block is t, of an accepted image.
 fn integers_of(f: &[u8], t: TraceBlock, row: &mut [i32]) -> Verdict
     requires { ⌜ (2 ≤ length (now f)) × Fits (length (now f)) t ⌝ }
-    ensures answer { λ r. ⌜ r ≡ integersTold t (length (now (row .entry))) ⌝ }
-    ensures row { λ _. ⌜ now (row .exit) ≡ kept (integersTold t (length (now (row .entry)))) (samplesTold (now (f .entry)) t) (now (row .entry)) ⌝ }
+    ensures answer { λ r. ⌜ r ≡ integersVerdict t (length (now (row .entry))) ⌝ }
+    ensures row { λ _. ⌜ now (row .exit) ≡ kept (integersVerdict t (length (now (row .entry)))) (samplesIn (now (f .entry)) t) (now (row .entry)) ⌝ }
 {
     let code = t.code;
     let s = t.s;
@@ -72,11 +74,11 @@ fn integers_of(f: &[u8], t: TraceBlock, row: &mut [i32]) -> Verdict
 }
 
 // The samples of a trace of code 1 to 3, into a row of S numbers.
-pub fn integers(buffer: &[u8], n: usize, trace: i32, row: &mut [i32]) -> Verdict
-    ensures answer { λ r. ⌜ r ≡ integersAnswer (now (buffer .entry)) n trace (length (now (row .entry))) ⌝ }
-    ensures row { λ _. ⌜ now (row .exit) ≡ integersLeft (now (buffer .entry)) n trace (now (row .entry)) ⌝ }
+pub fn integers(buffer: &[u8], n: usize, trace: i32, row: &mut [i32], how: Manner) -> Verdict
+    ensures answer { λ r. ⌜ r ≡ integersAnswer how (now (buffer .entry)) n trace (length (now (row .entry))) ⌝ }
+    ensures row { λ _. ⌜ now (row .exit) ≡ integersLeft how (now (buffer .entry)) n trace (now (row .entry)) ⌝ }
 {
-    let a = reader::trace_block(buffer, n, trace);
+    let a = reader::trace_block(buffer, n, trace, how);
     match a {
         TraceAnswer::Refused(r) => Verdict::Refused(r),
         TraceAnswer::Is(t) => integers_of(&buffer[..n], t, row),
@@ -86,9 +88,9 @@ pub fn integers(buffer: &[u8], n: usize, trace: i32, row: &mut [i32]) -> Verdict
 // The patterns of the trace whose block is t, and their classes.
 fn bits_of(f: &[u8], t: TraceBlock, row: &mut [u64], classes: &mut [u8]) -> Verdict
     requires { ⌜ (2 ≤ length (now f)) × Fits (length (now f)) t ⌝ }
-    ensures answer { λ r. ⌜ r ≡ bitsTold t (length (now (row .entry))) (length (now (classes .entry))) ⌝ }
-    ensures row { λ _. ⌜ now (row .exit) ≡ kept (bitsTold t (length (now (row .entry))) (length (now (classes .entry)))) (patternsTold (now (f .entry)) t) (now (row .entry)) ⌝ }
-    ensures classes { λ _. ⌜ now (classes .exit) ≡ kept (bitsTold t (length (now (row .entry))) (length (now (classes .entry)))) (classesTold (now (f .entry)) t) (now (classes .entry)) ⌝ }
+    ensures answer { λ r. ⌜ r ≡ bitsVerdict t (length (now (row .entry))) (length (now (classes .entry))) ⌝ }
+    ensures row { λ _. ⌜ now (row .exit) ≡ kept (bitsVerdict t (length (now (row .entry))) (length (now (classes .entry)))) (patternsIn (now (f .entry)) t) (now (row .entry)) ⌝ }
+    ensures classes { λ _. ⌜ now (classes .exit) ≡ kept (bitsVerdict t (length (now (row .entry))) (length (now (classes .entry)))) (classesIn (now (f .entry)) t) (now (classes .entry)) ⌝ }
 {
     let code = t.code;
     let count = t.s;
@@ -109,12 +111,19 @@ fn bits_of(f: &[u8], t: TraceBlock, row: &mut [u64], classes: &mut [u8]) -> Verd
 }
 
 // The bit patterns of a trace of code 4 or 5 and their classes, into two rows of S elements.
-pub fn bits(buffer: &[u8], n: usize, trace: i32, row: &mut [u64], classes: &mut [u8]) -> Verdict
-    ensures answer { λ r. ⌜ r ≡ bitsAnswer (now (buffer .entry)) n trace (length (now (row .entry))) (length (now (classes .entry))) ⌝ }
-    ensures row { λ _. ⌜ now (row .exit) ≡ patternsLeft (now (buffer .entry)) n trace (now (row .entry)) (now (classes .entry)) ⌝ }
-    ensures classes { λ _. ⌜ now (classes .exit) ≡ classesLeft (now (buffer .entry)) n trace (now (row .entry)) (now (classes .entry)) ⌝ }
+pub fn bits(
+    buffer: &[u8],
+    n: usize,
+    trace: i32,
+    row: &mut [u64],
+    classes: &mut [u8],
+    how: Manner,
+) -> Verdict
+    ensures answer { λ r. ⌜ r ≡ bitsAnswer how (now (buffer .entry)) n trace (length (now (row .entry))) (length (now (classes .entry))) ⌝ }
+    ensures row { λ _. ⌜ now (row .exit) ≡ patternsLeft how (now (buffer .entry)) n trace (now (row .entry)) (now (classes .entry)) ⌝ }
+    ensures classes { λ _. ⌜ now (classes .exit) ≡ classesLeft how (now (buffer .entry)) n trace (now (row .entry)) (now (classes .entry)) ⌝ }
 {
-    let a = reader::trace_block(buffer, n, trace);
+    let a = reader::trace_block(buffer, n, trace, how);
     match a {
         TraceAnswer::Refused(r) => Verdict::Refused(r),
         TraceAnswer::Is(t) => bits_of(&buffer[..n], t, row, classes),
