@@ -90,4 +90,5 @@ below-hundred r = numbered r .1
 -- a number names one rule
 pub numbers-apart : (a b : Rule) → numberOf a ≡ numberOf b → a ≡ b
 numbers-apart a b e =
-    values-one enum a b (apart parts (λ c. numberOf (make c)) 0 100 in-order (as-values a) (as-values b) (ap numberOf (eta a) ∙ e ∙ sym (ap numberOf (eta b))))
+    values-one enum a b (apart parts (λ c. numberOf (make c)) 0 100 in-order (as-values a) (as-values b) (ap numberOf (eta a) ∙ e ∙
+    sym (ap numberOf (eta b))))

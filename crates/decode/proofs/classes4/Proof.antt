@@ -30,4 +30,8 @@ classes4-spec =
     (λ c. search needs)
     (λ c. fill-one (c .before .before .before .loop .inv) (omega arith) (c .class4 .ensures))
     (λ c. c .before .loop .inv .long)
-    (λ c. fill-end (c .before .loop .inv) (omega arith) ∙ ap (valuesFrom _ 0) (c .before .before .before .before .pre) ∙ run-of _ (classOf 4) 0 (c .before .before .before .before .args .row .now) (λ i l. refl)))
+    (λ c.
+    let c1 = c .before in
+    let c4 = c1 .before .before .before in
+    fill-end (c1 .loop .inv) (omega arith) ∙ ap (valuesFrom _ 0) (c4 .pre) ∙ run-of _ (classOf 4) 0 (c4 .args .row .now) (λ i l.
+    refl)))

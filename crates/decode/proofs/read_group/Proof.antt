@@ -75,10 +75,14 @@ returns c =
     let h = c .before .before .before .before .before .before .args .high in
     let b = c .before .before .before .before .before .before .args .block .now in
     rw (
-      kept (c .before .before .before .group-sample .result) (c .before .before .before .group-sample .ok) ∙ c .before .before .before .group-sample .ensures ∙ sym (in-group h b (4 * g) g 0 (omega arith) (omega arith)),
-      kept (c .before .before .group-sample2 .result) (c .before .before .group-sample2 .ok) ∙ c .before .before .group-sample2 .ensures ∙ sym (in-group h b (4 * g + 1) g 1 (omega arith) (omega arith)),
-      kept (c .before .group-sample3 .result) (c .before .group-sample3 .ok) ∙ c .before .group-sample3 .ensures ∙ sym (in-group h b (4 * g + 1 + 1) g 2 (omega arith) (omega arith)),
-      kept (c .group-sample4 .result) (c .group-sample4 .ok) ∙ c .group-sample4 .ensures ∙ sym (in-group h b (4 * g + 1 + 1 + 1) g 3 (omega arith) (omega arith)),
+      kept (c .before .before .before .group-sample .result) (c .before .before .before .group-sample .ok) ∙
+          c .before .before .before .group-sample .ensures ∙ sym (in-group h b (4 * g) g 0 (omega arith) (omega arith)),
+      kept (c .before .before .group-sample2 .result) (c .before .before .group-sample2 .ok) ∙ c .before .before .group-sample2 .ensures
+          ∙ sym (in-group h b (4 * g + 1) g 1 (omega arith) (omega arith)),
+      kept (c .before .group-sample3 .result) (c .before .group-sample3 .ok) ∙ c .before .group-sample3 .ensures ∙ sym (in-group h b (4
+          * g + 1 + 1) g 2 (omega arith) (omega arith)),
+      kept (c .group-sample4 .result) (c .group-sample4 .ok) ∙ c .group-sample4 .ensures ∙ sym (in-group h b (4 * g + 1 + 1 + 1) g 3
+          (omega arith) (omega arith)),
     )
 
 pub read-group-spec : {M : Type 1} → statement M

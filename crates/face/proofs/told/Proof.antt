@@ -16,4 +16,7 @@ told-spec =
     (λ c κs. search needs)
     (λ c κs. search needs)
     (λ c. rw (c .enum-told .given .1))
-    (λ c. rw (c .before .before .before .v .given .1, ← c .before .number .ensures, ← c .part-number .ensures, toZ-ofZ {w = w32} (record { sfits = c .part-number .ok }))))
+    (λ c.
+    let c1 = c .before in
+    let c3 = c1 .before .before in
+    rw (c3 .v .given .1, ← c1 .number .ensures, ← c .part-number .ensures, toZ-ofZ {w = w32} (record { sfits = c .part-number .ok }))))

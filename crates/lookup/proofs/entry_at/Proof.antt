@@ -29,20 +29,38 @@ entry-at-spec =
     (λ c. search needs)
     (λ c. search needs)
     (λ c κs. search needs)
-    (λ c. let i = in-frame _ _ _ _ _ (sym (c .before .before .before .before .before .before .before .framed .ensures) ∙ c .before .before .before .before .before .s .given .1) in omega (arith, i .low, i .fit))
     (λ c.
-    let i = in-frame _ _ _ _ _ (sym (c .before .before .before .before .before .before .before .framed .ensures) ∙ c .before .before .before .before .before .s .given .1) in
-    let b = part 2 (c .before .before .before .before .before .s .given .0 .0 - length (c .before .before .before .before .before .before .before .before .before .before .args .t .now)) (c .before .before .before .before .before .before .before .before .before .before .args .l .now) in
-    let x = length-part 2 (c .before .before .before .before .before .s .given .0 .0 - length (c .before .before .before .before .before .before .before .before .before .before .args .t .now)) (c .before .before .before .before .before .before .before .before .before .before .args .l .now) (omega (arith, i .low, i .fit)) in
-    let y = length-part (c .before .before .key-len .result) (length b) b (le-refl (length b)) in
-    omega (arith, i .low, i .fit, c .before .before .key-len .ensures .1, c .gap-run .ensures .1))
+    let c5 = c .before .before .before .before .before in
+    let c7 = c5 .before .before in
+    let i = in-frame _ _ _ _ _ (sym (c7 .framed .ensures) ∙ c5 .s .given .1) in omega (arith, i .low, i .fit))
     (λ c.
-    let i = in-frame _ _ _ _ _ (sym (c .before .before .before .before .before .before .before .framed .ensures) ∙ c .before .before .before .before .before .s .given .1) in
-    let b = part 2 (c .before .before .before .before .before .s .given .0 .0 - length (c .before .before .before .before .before .before .before .before .before .before .args .t .now)) (c .before .before .before .before .before .before .before .before .before .before .args .l .now) in
-    let x = length-part 2 (c .before .before .before .before .before .s .given .0 .0 - length (c .before .before .before .before .before .before .before .before .before .before .args .t .now)) (c .before .before .before .before .before .before .before .before .before .before .args .l .now) (omega (arith, i .low, i .fit)) in
-    let y = length-part (c .before .before .key-len .result) (length b) b (le-refl (length b)) in
-    omega (arith, i .low, i .fit, c .before .before .key-len .ensures .1, c .gap-run .ensures .1))
-    (λ c. let i = in-frame _ _ _ _ _ (sym (c .before .before .before .before .before .before .before .framed .ensures) ∙ c .before .before .before .before .before .s .given .1) in omega (arith, i .low, i .fit))
+    let c2 = c .before .before in
+    let c5 = c2 .before .before .before in
+    let c7 = c5 .before .before in
+    let c10 = c7 .before .before .before in
+    let i = in-frame _ _ _ _ _ (sym (c7 .framed .ensures) ∙ c5 .s .given .1) in
+    let b = part 2 (c5 .s .given .0 .0 - length (c10 .args .t .now)) (c10 .args .l .now) in
+    let x = length-part 2 (c5 .s .given .0 .0 - length (c10 .args .t .now)) (c10 .args .l .now) (omega (arith, i .low, i .fit)) in
+    let y = length-part (c2 .key-len .result) (length b) b (le-refl (length b)) in
+    omega (arith, i .low, i .fit, c2 .key-len .ensures .1, c .gap-run .ensures .1))
+    (λ c.
+    let c2 = c .before .before in
+    let c5 = c2 .before .before .before in
+    let c7 = c5 .before .before in
+    let c10 = c7 .before .before .before in
+    let i = in-frame _ _ _ _ _ (sym (c7 .framed .ensures) ∙ c5 .s .given .1) in
+    let b = part 2 (c5 .s .given .0 .0 - length (c10 .args .t .now)) (c10 .args .l .now) in
+    let x = length-part 2 (c5 .s .given .0 .0 - length (c10 .args .t .now)) (c10 .args .l .now) (omega (arith, i .low, i .fit)) in
+    let y = length-part (c2 .key-len .result) (length b) b (le-refl (length b)) in
+    omega (arith, i .low, i .fit, c2 .key-len .ensures .1, c .gap-run .ensures .1))
+    (λ c.
+    let c5 = c .before .before .before .before .before in
+    let c7 = c5 .before .before in
+    let i = in-frame _ _ _ _ _ (sym (c7 .framed .ensures) ∙ c5 .s .given .1) in omega (arith, i .low, i .fit))
     (λ c. rw (sym (c .before .before .framed .ensures) ∙ c .enum-told .given .1))
     (λ c. rw (sym (c .before .before .framed .ensures) ∙ c .enum-told2 .given .1))
-    (λ c. rw ((sym (c .before .before .before .before .before .before .before .framed .ensures) ∙ c .before .before .before .before .before .s .given .1), ← c .before .before .key-len .ensures .0, ← (rw part-rest at (c .gap-run .ensures .0)))))
+    (λ c.
+    let c2 = c .before .before in
+    let c5 = c2 .before .before .before in
+    let c7 = c5 .before .before in
+    rw ((sym (c7 .framed .ensures) ∙ c5 .s .given .1), ← c2 .key-len .ensures .0, ← (rw part-rest at (c .gap-run .ensures .0)))))

@@ -23,13 +23,48 @@ area-of-spec =
     (λ c. search needs)
     (λ c κs. search needs)
     (λ c. search needs)
-    (λ c κs. pointer-slot _ _ (c .before .before .before .before .before .before .pre .1) 0 (some-trace _ _ (c .before .before .before .before .before .before .pre .1)))
+    (λ c κs.
+    let c6 = c .before .before .before .before .before .before in
+    pointer-slot _ _ (c6 .pre .1) 0 (some-trace _ _ (c6 .pre .1)))
     (λ c. search needs)
-    (λ c κs. omega (arith, pointer-slot _ _ (c .before .before .before .before .before .before .pre .1) _ (whose-trace _ _ _ (sym (c .before .before .before .whose-in .ensures) ∙ c .before .w .given .1) .1)))
+    (λ c κs.
+    let c1 = c .before in
+    let c3 = c1 .before .before in
+    let c6 = c3 .before .before .before in
+    omega (arith, pointer-slot _ _ (c6 .pre .1) _ (whose-trace _ _ _ (sym (c3 .whose-in .ensures) ∙ c1 .w .given .1) .1)))
     (λ c. search needs)
     (λ c. search needs)
-    (λ c κs. let q = trace-pointed _ _ (c .before .before .before .before .before .before .before .pre .1) _ (whose-trace _ _ _ (sym (c .before .before .before .before .whose-in .ensures) ∙ c .before .before .w .given .1) .1) in omega (arith, q .fits, (rw (c .before .before .before .before .before .is-high .ensures) at (c .pointer2 .ensures .0))))
+    (λ c κs.
+    let c2 = c .before .before in
+    let c4 = c2 .before .before in
+    let c5 = c4 .before in
+    let c7 = c5 .before .before in
+    let q = trace-pointed _ _ (c7 .pre .1) _ (whose-trace _ _ _ (sym (c4 .whose-in .ensures) ∙ c2 .w .given .1) .1) in omega (
+      arith,
+      q .fits,
+      (rw (c5 .is-high .ensures) at (c .pointer2 .ensures .0)),
+    ))
     (λ c. search needs)
-    (λ c. ap (λ (w : Whose). areaNamed (c .before .before .before .before .before .args .f .now) w) (sym (c .enum-told .given .1) ∙ handed (λ (z : ℤ). whoseOf z (countOf (c .before .before .before .before .before .args .f .now))) (c .before .before .before .before .before .args .part) (c .before .before .before .before .before .fits .part .sfits) (c .before .before .whose-in .ensures)))
-    (λ c. area-whole _ _ _ _ (c .before .before .before .before .before .is-high .ensures) (c .before .word2 .ensures .0) (c .pointer .ensures .0) ∙ ap (λ (w : Whose). areaNamed (c .before .before .before .before .before .before .before .args .f .now) w) (sym (c .before .before .enum-told2 .given .1) ∙ handed (λ (z : ℤ). whoseOf z (countOf (c .before .before .before .before .before .before .before .args .f .now))) (c .before .before .before .before .before .before .before .args .part) (c .before .before .before .before .before .before .before .fits .part .sfits) (c .before .before .before .before .whose-in .ensures)))
-    (λ c. area-one _ _ _ _ _ (c .before .before .before .before .before .before .is-high .ensures) (c .before .pointer2 .ensures .0) (c .word22 .ensures .0) ∙ ap (λ (w : Whose). areaNamed (c .before .before .before .before .before .before .before .before .args .f .now) w) (sym (c .before .before .before .w .given .1) ∙ handed (λ (z : ℤ). whoseOf z (countOf (c .before .before .before .before .before .before .before .before .args .f .now))) (c .before .before .before .before .before .before .before .before .args .part) (c .before .before .before .before .before .before .before .before .fits .part .sfits) (c .before .before .before .before .before .whose-in .ensures))))
+    (λ c.
+    let c2 = c .before .before in
+    let c5 = c2 .before .before .before in
+    ap (λ (w : Whose). areaNamed (c5 .args .f .now) w) (sym (c .enum-told .given .1) ∙ handed (λ (z : ℤ). whoseOf z (countOf
+    (c5 .args .f .now))) (c5 .args .part) (c5 .fits .part .sfits) (c2 .whose-in .ensures)))
+    (λ c.
+    let c1 = c .before in
+    let c2 = c1 .before in
+    let c4 = c2 .before .before in
+    let c5 = c4 .before in
+    let c7 = c5 .before .before in
+    area-whole _ _ _ _ (c5 .is-high .ensures) (c1 .word2 .ensures .0) (c .pointer .ensures .0) ∙ ap (λ (w : Whose). areaNamed
+    (c7 .args .f .now) w) (sym (c2 .enum-told2 .given .1) ∙ handed (λ (z : ℤ). whoseOf z (countOf (c7 .args .f .now)))
+    (c7 .args .part) (c7 .fits .part .sfits) (c4 .whose-in .ensures)))
+    (λ c.
+    let c1 = c .before in
+    let c3 = c1 .before .before in
+    let c5 = c3 .before .before in
+    let c6 = c5 .before in
+    let c8 = c6 .before .before in
+    area-one _ _ _ _ _ (c6 .is-high .ensures) (c1 .pointer2 .ensures .0) (c .word22 .ensures .0) ∙ ap (λ (w : Whose). areaNamed
+    (c8 .args .f .now) w) (sym (c3 .w .given .1) ∙ handed (λ (z : ℤ). whoseOf z (countOf (c8 .args .f .now))) (c8 .args .part)
+    (c8 .fits .part .sfits) (c5 .whose-in .ensures))))

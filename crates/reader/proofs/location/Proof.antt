@@ -27,10 +27,13 @@ location-spec =
     (λ c κs. rw (c .before .find .ensures) (find-lent _ _ _ _ _))
     (λ c κs. search needs)
     (λ c.
-    let at-match = c .before .before in
+    let c1 = c .before in
+    let c2 = c1 .before in
+    let at-match = c2 in
     let at-find = at-match .before in
     let start = at-find .before .before .before in
     let args = start .args in
     c .location .ensures ∙ value-made _ location.Refused locationOf _ _ _ _ _ _
-    (handed (λ (z : ℤ). findAnswer (args .how) (args .buffer .now) (args .n) z (args .key .now)) (args .part) (start .fits .part .sfits) (at-find .find .ensures))
-    (c .before .value-at .ensures .0) (answered location.Refused (at-find .find .result) (at-match .match .keys2))))
+    (handed (λ (z : ℤ). findAnswer (args .how) (args .buffer .now) (args .n) z (args .key .now)) (args .part) (start .fits .part .sfits)
+    (at-find .find .ensures))
+    (c1 .value-at .ensures .0) (answered location.Refused (at-find .find .result) (at-match .match .keys2))))

@@ -16,7 +16,10 @@ string-count-spec =
     (λ c κs. search needs)
     (λ c. search needs)
     (λ c. search needs)
-    (λ c. let r = reached _ _ _ _ _ _ (sym (c .before .before .before .before .open-area .ensures) ∙ c .before .before .o2 .given .1) in sym (r .known .size))
+    (λ c.
+    let c2 = c .before .before in
+    let c4 = c2 .before .before in
+    let r = reached _ _ _ _ _ _ (sym (c4 .open-area .ensures) ∙ c2 .o2 .given .1) in sym (r .known .size))
     (λ c κs.
     let at-o2 = c .before .before in
     let at-open-area = at-o2 .before .before in
@@ -39,11 +42,14 @@ string-count-spec =
     count-bad _ _ _ _ _ (sym (handed (λ (z : ℤ). openedOf (args .how) (args .buffer .now) (args .n) z) (args .part) (start .fits .part .sfits)
     (at-open-area .open-area .ensures)) ∙ c .before .o .given .1))
     (λ c.
-    let at-is-high = c .before .before in
+    let c1 = c .before in
+    let c2 = c1 .before in
+    let at-is-high = c2 in
     let at-o2 = at-is-high .before .before .before in
     let at-open-area = at-o2 .before .before in
     let start = at-open-area .before .before in
     let args = start .args in
     count-told _ _ _ _ _ _ _ _
-    (sym (handed (λ (z : ℤ). openedOf (args .how) (args .buffer .now) (args .n) z) (args .part) (start .fits .part .sfits) (at-open-area .open-area .ensures))
-    ∙ at-o2 .o2 .given .1) (at-is-high .is-high .ensures) (c .before .string-end .ensures .0) _ (c .count .ensures)))
+    (sym (handed (λ (z : ℤ). openedOf (args .how) (args .buffer .now) (args .n) z) (args .part) (start .fits .part .sfits)
+    (at-open-area .open-area .ensures))
+    ∙ at-o2 .o2 .given .1) (at-is-high .is-high .ensures) (c1 .string-end .ensures .0) _ (c .count .ensures)))

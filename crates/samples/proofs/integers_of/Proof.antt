@@ -14,7 +14,11 @@ integers-of-spec =
     (λ c κs. search needs)
     (λ c. rw (c .refusing .ensures) (integers-kind _ _ _ (sym (c .before .before .is-integers .ensures) ∙ not-true _ (c .before .if1 .taken))))
     (λ c κs. search needs)
-    (λ c. rw (c .refusing2 .ensures) (integers-long _ _ _ (sym (c .before .before .before .is-integers .ensures) ∙ not-false _ (c .before .before .if1 .left)) (c .before .if2 .taken)))
+    (λ c.
+    let c1 = c .before in
+    let c2 = c1 .before in
+    let c3 = c2 .before in
+    rw (c .refusing2 .ensures) (integers-long _ _ _ (sym (c3 .is-integers .ensures) ∙ not-false _ (c2 .if1 .left)) (c1 .if2 .taken)))
     (λ c. search needs)
     (λ c. search needs)
     (λ c. search needs)
@@ -24,4 +28,12 @@ integers-of-spec =
     (λ c κs. search needs)
     (λ c κs. search needs)
     (λ c. search needs)
-    (λ c. integers-done _ _ _ _ _ (sym (c .before .before .before .before .before .before .before .is-integers .ensures) ∙ not-false _ (c .before .before .before .before .before .before .if1 .left)) (c .before .before .before .before .before .if2 .left) (c .before .before .before .before .before .before .before .before .before .pre .1) (c .before .before .before .is-high .ensures) (c .before .read-integers .ensures .1)))
+    (λ c.
+    let c1 = c .before in
+    let c3 = c1 .before .before in
+    let c5 = c3 .before .before in
+    let c6 = c5 .before in
+    let c7 = c6 .before in
+    let c9 = c7 .before .before in
+    integers-done _ _ _ _ _ (sym (c7 .is-integers .ensures) ∙ not-false _ (c6 .if1 .left)) (c5 .if2 .left) (c9 .pre .1)
+    (c3 .is-high .ensures) (c1 .read-integers .ensures .1)))

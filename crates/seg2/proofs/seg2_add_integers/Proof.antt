@@ -12,4 +12,6 @@ seg2-add-integers-spec =
     (λ c κs. search needs)
     (λ c κs. search needs)
     (λ c. search needs)
-    (λ c. (c .length-told .ensures ∙ ap asLength (c .before .before .before .add-integers .ensures .0), c .before .before .before .add-integers .ensures .1)))
+    (λ c.
+    let c3 = c .before .before .before in
+    (c .length-told .ensures ∙ ap asLength (c3 .add-integers .ensures .0), c3 .add-integers .ensures .1)))

@@ -15,4 +15,13 @@ seg2-bits-spec =
     (λ c κs. search needs)
     (λ c. search needs)
     (λ c. search needs)
-    (λ c. (c .told .ensures ∙ ap asVerdict (rw (toZ-ofZ {w = w32} (c .before .before .before .before .before .before .before .before .before .before .before .fits .trace)) at (c .before .before .before .before .before .bits .ensures .0)), (rw (toZ-ofZ {w = w32} (c .before .before .before .before .before .before .before .before .before .before .before .fits .trace)) at (c .before .before .before .before .before .bits .ensures .1 .0), rw (toZ-ofZ {w = w32} (c .before .before .before .before .before .before .before .before .before .before .before .fits .trace)) at (c .before .before .before .before .before .bits .ensures .1 .1)))))
+    (λ c.
+    let c5 = c .before .before .before .before .before in
+    let c11 = c5 .before .before .before .before .before .before in (
+      c .told .ensures ∙ ap asVerdict (rw (toZ-ofZ {w = w32} (c11 .fits .trace)) at (c5 .bits .ensures .0)),
+      (
+        rw (toZ-ofZ {w = w32}
+            (c11 .fits .trace)) at (c5 .bits .ensures .1 .0),
+        rw (toZ-ofZ {w = w32} (c11 .fits .trace)) at (c5 .bits .ensures .1 .1),
+      ),
+    )))

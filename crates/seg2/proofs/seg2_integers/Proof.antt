@@ -14,4 +14,10 @@ seg2-integers-spec =
     (λ c κs. search needs)
     (λ c κs. search needs)
     (λ c. search needs)
-    (λ c. (c .told .ensures ∙ ap asVerdict (rw (toZ-ofZ {w = w32} (c .before .before .before .before .before .fits .trace)) at (c .before .before .integers .ensures .0)), rw (toZ-ofZ {w = w32} (c .before .before .before .before .before .fits .trace)) at (c .before .before .integers .ensures .1))))
+    (λ c.
+    let c2 = c .before .before in
+    let c5 = c2 .before .before .before in (
+      c .told .ensures ∙ ap asVerdict (rw (toZ-ofZ {w = w32} (c5 .fits .trace)) at (c2 .integers .ensures .0)),
+      rw (toZ-ofZ {w = w32}
+          (c5 .fits .trace)) at (c2 .integers .ensures .1),
+    )))

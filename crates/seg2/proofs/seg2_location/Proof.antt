@@ -13,4 +13,7 @@ seg2-location-spec =
     (tie.spec
     (λ c κs. search needs)
     (λ c κs. search needs)
-    (λ c. c .location-told .ensures ∙ ap asLocation (rw (toZ-ofZ {w = w32} (c .before .before .before .before .fits .part)) at (c .before .location .ensures))))
+    (λ c.
+    let c1 = c .before in
+    let c4 = c1 .before .before .before in
+    c .location-told .ensures ∙ ap asLocation (rw (toZ-ofZ {w = w32} (c4 .fits .part)) at (c1 .location .ensures))))

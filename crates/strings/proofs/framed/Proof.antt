@@ -19,11 +19,15 @@ framed-spec =
     let w = c .before in
     frame-end _ _ _ _ _ (w .word2 .ensures .0) (sym (w .before .before .before .is-cut .ensures) ∙ w .before .before .if1 .left) (c .if3 .taken))
     (λ c.
-    let w = c .before .before in
-    frame-small _ _ _ _ _ (w .word2 .ensures .0) (sym (w .before .before .before .is-cut .ensures) ∙ w .before .before .if1 .left) (omega arith) (omega arith))
+    let c2 = c .before .before in
+    let w = c2 in
+    frame-small _ _ _ _ _ (w .word2 .ensures .0) (sym (w .before .before .before .is-cut .ensures) ∙ w .before .before .if1 .left) (omega
+    arith) (omega arith))
     (λ c.
-    let w = c .before .before .before in
-    frame-small _ _ _ _ _ (w .word2 .ensures .0) (sym (w .before .before .before .is-cut .ensures) ∙ w .before .before .if1 .left) (omega arith) (omega arith))
+    let c3 = c .before .before .before in
+    let w = c3 in
+    frame-small _ _ _ _ _ (w .word2 .ensures .0) (sym (w .before .before .before .is-cut .ensures) ∙ w .before .before .if1 .left) (omega
+    arith) (omega arith))
     (λ c.
     let w = c .before .before .before .before in
     frame-past _ _ _ _ _ (w .word2 .ensures .0) (sym (w .before .before .before .is-cut .ensures) ∙ w .before .before .if1 .left) (omega arith) (omega arith))
@@ -33,8 +37,14 @@ framed-spec =
     (λ c. search needs)
     (λ c κs. search needs)
     (λ c.
-    let w = c .before .before .before .before .before .before .before in
-    frame-open _ _ _ _ _ (w .word2 .ensures .0) (sym (w .before .before .before .is-cut .ensures) ∙ w .before .before .if1 .left) (omega arith) (omega arith) (sym (c .before .is-same .ensures) ∙ not-true _ (c .if7 .taken)))
+    let c1 = c .before in
+    let c7 = c1 .before .before .before .before .before .before in
+    let w = c7 in
+    frame-open _ _ _ _ _ (w .word2 .ensures .0) (sym (w .before .before .before .is-cut .ensures) ∙ w .before .before .if1 .left) (omega
+    arith) (omega arith) (sym (c1 .is-same .ensures) ∙ not-true _ (c .if7 .taken)))
     (λ c.
-    let w = c .before .before .before .before .before .before .before in
-    frame-text _ _ _ _ _ (w .word2 .ensures .0) (sym (w .before .before .before .is-cut .ensures) ∙ w .before .before .if1 .left) (omega arith) (omega arith) (sym (c .before .is-same .ensures) ∙ not-false _ (c .if7 .left))))
+    let c1 = c .before in
+    let c7 = c1 .before .before .before .before .before .before in
+    let w = c7 in
+    frame-text _ _ _ _ _ (w .word2 .ensures .0) (sym (w .before .before .before .is-cut .ensures) ∙ w .before .before .if1 .left) (omega
+    arith) (omega arith) (sym (c1 .is-same .ensures) ∙ not-false _ (c .if7 .left))))

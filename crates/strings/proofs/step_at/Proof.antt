@@ -25,5 +25,15 @@ step-at-spec =
     (λ c. search needs)
     (λ c. rw (sym (c .before .before .framed .ensures) ∙ c .enum-told .given .1))
     (λ c. rw (sym (c .before .before .before .framed .ensures) ∙ c .before .s .given .1))
-    (λ c. rw ((sym (c .before .before .before .before .before .before .before .before .framed .ensures) ∙ c .before .before .before .before .before .before .s2 .given .1), sym (c .before .before .before .judge .ensures) ∙ c .before .j .given .1))
-    (λ c. rw ((sym (c .before .before .before .before .before .before .before .before .framed .ensures) ∙ c .before .before .before .before .before .before .s2 .given .1), sym (c .before .before .before .judge .ensures) ∙ c .before .j2 .given .1)))
+    (λ c.
+    let c1 = c .before in
+    let c3 = c1 .before .before in
+    let c6 = c3 .before .before .before in
+    let c8 = c6 .before .before in
+    rw ((sym (c8 .framed .ensures) ∙ c6 .s2 .given .1), sym (c3 .judge .ensures) ∙ c1 .j .given .1))
+    (λ c.
+    let c1 = c .before in
+    let c3 = c1 .before .before in
+    let c6 = c3 .before .before .before in
+    let c8 = c6 .before .before in
+    rw ((sym (c8 .framed .ensures) ∙ c6 .s2 .given .1), sym (c3 .judge .ensures) ∙ c1 .j2 .given .1)))

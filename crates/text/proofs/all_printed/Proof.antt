@@ -26,5 +26,12 @@ all-printed-spec =
     (λ c κs. search needs)
     (λ c. search needs)
     (λ c. search needs)
-    (λ c. (search needs, rw (c .is-printed .ensures) (all-turn printed (c .before .before .before .before .before .args .s .now) (c .before .before .before .loop .i) (c .before .before .before .loop .ok) (c .before .before .loop-test .taken)) ∙ c .before .before .before .loop .inv .1))
+    (λ c.
+    let c2 = c .before .before in
+    let c3 = c2 .before in
+    let c5 = c3 .before .before in (
+      search needs,
+      rw (c .is-printed .ensures) (all-turn printed (c5 .args .s .now) (c3 .loop .i) (c3 .loop .ok) (c2 .loop-test .taken))
+          ∙ c3 .loop .inv .1,
+    ))
     (λ c. all-through printed _ _ _ (c .loop-test .left) ∙ c .before .loop .inv .1))

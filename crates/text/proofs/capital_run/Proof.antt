@@ -26,6 +26,17 @@ capital-run-spec =
     (λ c κs. search needs)
     (λ c. search needs)
     (λ c. search needs)
-    (λ c. (search needs, sym (run-more capital _ _ (c .before .before .before .loop-test .taken) (sym (c .before .is-capital .ensures) ∙ c .if1 .taken)) ∙ c .before .before .before .before .loop .inv .1))
-    (λ c. (run-end capital _ _ (c .before .before .before .loop-test .taken) (sym (c .before .is-capital .ensures) ∙ c .if1 .left) ∙ c .before .before .before .before .loop .inv .1, search needs))
+    (λ c.
+    let c1 = c .before in
+    let c3 = c1 .before .before in
+    let c4 = c3 .before in (
+      search needs,
+      sym (run-more capital _ _ (c3 .loop-test .taken) (sym (c1 .is-capital .ensures) ∙ c .if1 .taken)) ∙
+          c4 .loop .inv .1,
+    ))
+    (λ c.
+    let c1 = c .before in
+    let c3 = c1 .before .before in
+    let c4 = c3 .before in
+    (run-end capital _ _ (c3 .loop-test .taken) (sym (c1 .is-capital .ensures) ∙ c .if1 .left) ∙ c4 .loop .inv .1, search needs))
     (λ c. (run-none capital _ _ (c .loop-test .left) ∙ c .before .loop .inv .1, search needs)))

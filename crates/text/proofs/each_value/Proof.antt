@@ -26,5 +26,12 @@ each-value-spec =
     (λ c κs. search needs)
     (λ c. search needs)
     (λ c. search needs)
-    (λ c. (search needs, rw (c .value-char .ensures) (all-turn valueChar (c .before .before .before .before .before .args .s .now) (c .before .before .before .loop .i) (c .before .before .before .loop .ok) (c .before .before .loop-test .taken)) ∙ c .before .before .before .loop .inv .1))
+    (λ c.
+    let c2 = c .before .before in
+    let c3 = c2 .before in
+    let c5 = c3 .before .before in (
+      search needs,
+      rw (c .value-char .ensures) (all-turn valueChar (c5 .args .s .now) (c3 .loop .i) (c3 .loop .ok) (c2 .loop-test .taken))
+          ∙ c3 .loop .inv .1,
+    ))
     (λ c. all-through valueChar _ _ _ (c .loop-test .left) ∙ c .before .loop .inv .1))

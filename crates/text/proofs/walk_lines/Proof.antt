@@ -30,25 +30,50 @@ walk-lines-spec =
     (λ c. search needs)
     (λ c. search needs)
     (λ c.
-    let a = c .before .before .before .before .before .before .before .before .before .args in
-    let t = c .before .before .before .before .loop in
-    (search needs, lines-apart (a .u .now) (a .s .now) (t .i) (c .before .before .before .loop-test .taken) (c .before .before .before .before .before .before .before .before .before .pre) (rw (c .before .before .before .before .before .value-char .ensures, c .before .value-char2 .ensures) at (c .if1 .taken)) ∙ t .inv .1))
+    let c1 = c .before in
+    let c3 = c1 .before .before in
+    let c4 = c3 .before in
+    let c5 = c4 .before in
+    let c9 = c5 .before .before .before .before in
+    let a = c9 .args in
+    let t = c4 .loop in (
+      search needs,
+      lines-apart (a .u .now) (a .s .now) (t .i) (c3 .loop-test .taken) (c9 .pre) (rw (
+        c5 .value-char .ensures,
+        c1 .value-char2 .ensures,
+      ) at (c .if1 .taken)) ∙ t .inv .1,
+    ))
     (λ c. search needs)
     (λ c. search needs)
     (λ c. search needs)
     (λ c κs. search needs)
     (λ c.
-    let a = c .before .before .before .before .before .before .before .before .before .before .before .before .args in
-    let b = lines-start (a .u .now) (a .s .now) (c .before .before .before .before .before .before .before .loop .i) (c .before .before .before .before .before .before .loop-test .taken) (c .before .before .before .before .before .before .before .before .before .before .before .before .pre) ((rw part-rest at (sym (c .before .is-start .ensures))) ∙ c .if2 .taken) in
+    let c1 = c .before in
+    let c6 = c1 .before .before .before .before .before in
+    let c7 = c6 .before in
+    let c12 = c7 .before .before .before .before .before in
+    let a = c12 .args in
+    let b = lines-start (a .u .now) (a .s .now) (c7 .loop .i) (c6 .loop-test .taken) (c12 .pre) ((rw part-rest at (sym
+    (c1 .is-start .ensures))) ∙ c .if2 .taken) in
     omega (arith, b .0))
     (λ c.
-    let a = c .before .before .before .before .before .before .before .before .before .before .before .before .args in
-    let b = lines-start (a .u .now) (a .s .now) (c .before .before .before .before .before .before .before .loop .i) (c .before .before .before .before .before .before .loop-test .taken) (c .before .before .before .before .before .before .before .before .before .before .before .before .pre) ((rw part-rest at (sym (c .before .is-start .ensures))) ∙ c .if2 .taken) in
-    omega (arith, b .0, c .before .before .before .before .before .before .before .before .before .before .before .before .pre, c .before .before .before .before .before .before .loop-test .taken))
+    let c1 = c .before in
+    let c6 = c1 .before .before .before .before .before in
+    let c7 = c6 .before in
+    let c12 = c7 .before .before .before .before .before in
+    let a = c12 .args in
+    let b = lines-start (a .u .now) (a .s .now) (c7 .loop .i) (c6 .loop-test .taken) (c12 .pre) ((rw part-rest at (sym
+    (c1 .is-start .ensures))) ∙ c .if2 .taken) in
+    omega (arith, b .0, c12 .pre, c6 .loop-test .taken))
     (λ c.
-    let a = c .before .before .before .before .before .before .before .before .before .before .before .before .args in
-    let b = lines-start (a .u .now) (a .s .now) (c .before .before .before .before .before .before .before .loop .i) (c .before .before .before .before .before .before .loop-test .taken) (c .before .before .before .before .before .before .before .before .before .before .before .before .pre) ((rw part-rest at (sym (c .before .is-start .ensures))) ∙ c .if2 .taken) in
-    (b .0, b .1 ∙ c .before .before .before .before .before .before .before .loop .inv .1))
+    let c1 = c .before in
+    let c6 = c1 .before .before .before .before .before in
+    let c7 = c6 .before in
+    let c12 = c7 .before .before .before .before .before in
+    let a = c12 .args in
+    let b = lines-start (a .u .now) (a .s .now) (c7 .loop .i) (c6 .loop-test .taken) (c12 .pre) ((rw part-rest at (sym
+    (c1 .is-start .ensures))) ∙ c .if2 .taken) in
+    (b .0, b .1 ∙ c7 .loop .inv .1))
     (λ c. search needs)
     (λ c κs. search needs)
     (λ c.
