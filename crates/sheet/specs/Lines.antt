@@ -16,7 +16,7 @@ use Rattle.refusal.specs.Table.{refusal}
 use Rattle.refusal.specs.Rows.{Rows, pick, ruled}
 use Rattle.strings.specs.declared.Judged.{Judged}
 use Rattle.strings.specs.declared.Judged.the-variants.{Keyword, Wrong}
-use Rattle.text.specs.Chars.{keyChar, note}
+use Rattle.text.specs.Chars.{keyChar, printed, note}
 use Rattle.text.specs.Runs.{run, all, same}
 use Rattle.text.specs.Order.{rises}
 use Rattle.sheet.specs.declared.Step.{Step}
@@ -30,7 +30,7 @@ inLine b = not (eqb b 10)
 
 -- "Value codes are 32 to 126": no tab and no other control character
 abbrev pub plain : ℕ → Bool
-plain b = leb 32 b && leb b 126
+plain b = printed b
 
 -- the length of the first line, the line, and what follows its 0Ah
 unfoldable pub lineLen : List ℕ → ℕ
