@@ -24,6 +24,10 @@ use Rattle.head.specs.declared.FileBlock.{FileBlock}
 use Rattle.head.specs.declared.FileAnswer.{FileAnswer}
 use Rattle.head.specs.declared.FileAnswer.the-variants as file
 
+-- "A file is at most 67,108,864 bytes"
+abbrev pub maximum : ℕ
+maximum = 67108864
+
 -- ---- what stands in the first 32 bytes
 
 -- "bytes 0 and 1: 55 3A is low byte first, 3A 55 high byte first"

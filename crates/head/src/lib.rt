@@ -15,6 +15,9 @@ ghost use Rattle.text.specs.Chars.{control};
 ghost use Rattle.head.specs.Head.{known, highFirst, terminatorAt, stringEnd, lineEnd, goodTerminator, lacks, apart, mayBeEmpty};
 ghost use Rattle.head.specs.Head.{badRoom, badCount, badLines, refused, badFile, headAnswer, InWords, terminatorSpan, fileBlockOf};
 
+// "A file is at most 67,108,864 bytes": `maximum` of the definitions.
+pub const MAXIMUM: usize = 67108864;
+
 // What a file is opened for: to be read, or to be given a trace. An addition also takes an image with N=0.
 pub enum Purpose {
     Read,

@@ -28,7 +28,7 @@ use Rattle.text.specs.declared.Manner.{Manner}
 use Rattle.head.specs.declared.Purpose.{Purpose}
 use Rattle.text.specs.Note.{LineEnd}
 use Rattle.strings.specs.Paper.{spelled-accepted, accepted-spelled}
-use Rattle.head.specs.Head.{known, highFirst, roomOf, countOf, stringEnd, lineEnd, goodTerminator, headOf, refused}
+use Rattle.head.specs.Head.{maximum, known, highFirst, roomOf, countOf, stringEnd, lineEnd, goodTerminator, headOf, refused}
 use Rattle.head.specs.HeadLaws.{Headed, headed, head-accepts, good-length, good-chars, good-ends}
 use Rattle.block.specs.Block.{blockSize, dataSize, dataAt, endAt, pointerRow, blockOf}
 use Rattle.image.specs.Image.{areaVerdict, traceChecks, traceOf, tracesFrom, filledChecks, restOf, imageOf, badLength, checkOf}
@@ -187,7 +187,7 @@ image-strings how purpose f e = go (eqb (countOf f) 0) (and-then (headOf purpose
 
 -- ---- the theorem
 
-pub image-keeps : (how : Manner) (purpose : Purpose) (f : List ℕ) → Bytes f → 32 ≤ length f → length f ≤ 67108864 → imageOf how purpose f ≡ Accepted
+pub image-keeps : (how : Manner) (purpose : Purpose) (f : List ℕ) → Bytes f → 32 ≤ length f → length f ≤ maximum → imageOf how purpose f ≡ Accepted
     → Keeps how purpose f
 image-keeps how purpose f by low most e =
     let h = image-headed how purpose f e in

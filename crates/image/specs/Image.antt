@@ -22,7 +22,7 @@ use Rattle.image.specs.declared.Walked.the-variants.{Past, Bad}
 use Rattle.block.specs.Block.{pointerOf, blockSize, endAt, pointerRow, blockOf}
 use Rattle.block.specs.BlockLaws.{headAt}
 use Rattle.head.specs.declared.Purpose.{Purpose}
-use Rattle.head.specs.Head.{highFirst, roomOf, countOf, stringEnd, lineEnd, headOf, refused}
+use Rattle.head.specs.Head.{maximum, highFirst, roomOf, countOf, stringEnd, lineEnd, headOf, refused}
 
 -- rows 14 to 17 of an area of the file: "The file's strings fill the bytes from 32+M to the first pointer", "strings from byte 32 to B"
 unfoldable pub areaVerdict : Manner → Bool → List ℕ → List ℕ → List ℕ → Part → ℕ → ℕ → Verdict
@@ -73,7 +73,7 @@ imageOf how purpose f =
 
 -- "length under 32, over the maximum, or over the buffer"; the image is the first n bytes
 abbrev pub badLength : ℕ → ℕ → Bool
-badLength size n = ltb n 32 || (ltb 67108864 n || ltb size n)
+badLength size n = ltb n 32 || (ltb maximum n || ltb size n)
 
 unfoldable pub checkOf : Manner → Purpose → List ℕ → ℕ → Verdict
 checkOf how purpose xs n = pick (badLength (length xs) n) (refused Length 0) (imageOf how purpose (take n xs))

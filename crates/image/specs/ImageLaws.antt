@@ -22,7 +22,7 @@ use Rattle.head.specs.declared.Purpose.{Purpose}
 use Rattle.head.specs.declared.FileBlock.{FileBlock}
 use Rattle.head.specs.declared.FileAnswer.{FileAnswer}
 use Rattle.head.specs.declared.FileAnswer.the-variants as file
-use Rattle.head.specs.Head.{roomOf, countOf, stringEnd, lineEnd, headOf, fileBlockOf, headAnswer, InWords}
+use Rattle.head.specs.Head.{maximum, roomOf, countOf, stringEnd, lineEnd, headOf, fileBlockOf, headAnswer, InWords}
 use Rattle.head.specs.HeadLaws.{Headed, headed, own-block, block-order, block-room, block-count}
 use Rattle.block.specs.declared.TraceBlock.{TraceBlock}
 use Rattle.block.specs.declared.TraceAnswer.the-variants as trace
@@ -205,12 +205,12 @@ unfolding headAnswer imageOf andThen
 head-bad how purpose f r e = let h : headOf purpose (take 32 f) (length f) ≡ Refused r = file-told _ _ r e in sym (rw h)
 
 -- ---- what row 1 has shown, and what passes it
-pub long-enough : (size n : ℕ) → badLength size n ≡ false → (32 ≤ n) × (n ≤ 67108864) × (n ≤ size)
+pub long-enough : (size n : ℕ) → badLength size n ≡ false → (32 ≤ n) × (n ≤ maximum) × (n ≤ size)
 long-enough size n h =
-    let a = neither (ltb n 32) (ltb 67108864 n || ltb size n) h in
-    let b = neither (ltb 67108864 n) (ltb size n) (a .1) in
+    let a = neither (ltb n 32) (ltb maximum n || ltb size n) h in
+    let b = neither (ltb maximum n) (ltb size n) (a .1) in
     (ltb-false _ _ (a .0), ltb-false _ _ (b .0), ltb-false _ _ (b .1))
 
-pub length-accepts : (size n : ℕ) → 32 ≤ n → n ≤ 67108864 → n ≤ size → badLength size n ≡ false
+pub length-accepts : (size n : ℕ) → 32 ≤ n → n ≤ maximum → n ≤ size → badLength size n ≡ false
 length-accepts size n a b c =
-    join-neither (ltb n 32) (ltb 67108864 n || ltb size n) (le-ltb _ _ a) (join-neither (ltb 67108864 n) (ltb size n) (le-ltb _ _ b) (le-ltb _ _ c))
+    join-neither (ltb n 32) (ltb maximum n || ltb size n) (le-ltb _ _ a) (join-neither (ltb maximum n) (ltb size n) (le-ltb _ _ b) (le-ltb _ _ c))

@@ -17,7 +17,7 @@ use Rattle.head.specs.declared.Purpose.{Purpose}
 use Rattle.head.specs.declared.Purpose.the-variants.{Grow}
 use Rattle.strings.specs.Spelled.{Str, Spells}
 use Rattle.text.specs.Chars.{control}
-use Rattle.head.specs.Head.{highFirst, revisionOf, roomOf, countOf, terminatorAt, stringEnd, lineEnd, apart}
+use Rattle.head.specs.Head.{maximum, highFirst, revisionOf, roomOf, countOf, terminatorAt, stringEnd, lineEnd, apart}
 use Rattle.block.specs.Block.{traceMark, pointerOf, markAt, blockSize, dataSize, sampleCount, formatCode, dataAt, endAt}
 
 -- where the trace k begins, and where what stands before it ends: the pointer room before the first, then the data of the trace before
@@ -56,7 +56,7 @@ pub record KeepsTrace (how : Manner) (f : List ℕ) (k : ℕ) : Type 0 where
 
 -- a file that is read has a trace; an image that grows may have none
 pub record KeepsFile (how : Manner) (purpose : Purpose) (f : List ℕ) : Type 0 where
-  pub extent : (32 ≤ length f) × (length f ≤ 67108864)
+  pub extent : (32 ≤ length f) × (length f ≤ maximum)
   pub first : ((getD f 0 0 ≡ 85) × (getD f 1 0 ≡ 58)) ⊎ ((getD f 0 0 ≡ 58) × (getD f 1 0 ≡ 85))
   pub revision : revisionOf f ≡ 1
   pub room : (4 ≤ roomOf f) × (roomOf f % 4 ≡ 0) × (32 + roomOf f ≤ length f)

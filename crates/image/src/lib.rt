@@ -130,7 +130,7 @@ fn image(f: &[u8], purpose: Purpose, how: Manner) -> Verdict
 pub fn check(buffer: &[u8], n: usize, purpose: Purpose, how: Manner) -> Verdict
     ensures { λ r. ⌜ r ≡ checkOf how purpose (now (buffer .entry)) n ⌝ }
 {
-    if (n < 32) | ((67108864 < n) | (buffer.len() < n)) {
+    if (n < 32) | ((head::MAXIMUM < n) | (buffer.len() < n)) {
         return head::refusing(Rule::Length, 0);
     }
     image(&buffer[..n], purpose, how)

@@ -2,7 +2,7 @@
 // Document 01, "Refusal numbers, in order of checking": Table has the numbers, Rows how the first row met answers. Stands on nothing.
 // The rules in words: docs/FORMAT.md, "Refusal numbers, in order of checking".
 ghost use mathlib.Core.Path.{_≡_};
-ghost use Rattle.refusal.specs.Table.{numberOf, Numbered, partOf};
+ghost use Rattle.refusal.specs.Table.{numberOf, Numbered, partOf, refusal};
 
 // The rules that an input can break, in the order of their numbers, which are those of `specs/Table.antt`: `number`
 // promises it. The words stand there.
@@ -81,5 +81,16 @@ pub fn part_number(part: Part) -> i32
     match part {
         Part::File => -1,
         Part::Trace(k) => k as i32,
+    }
+}
+
+// A refusal whose part is the file: rows 1 to 7 and all that are not of a trace's bytes.
+pub fn of_file(rule: Rule, place: usize) -> Refusal
+    ensures { λ r. ⌜ r ≡ refusal rule Part.File place ⌝ }
+{
+    Refusal {
+        rule,
+        part: Part::File,
+        place,
     }
 }
