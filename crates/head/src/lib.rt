@@ -11,7 +11,7 @@ ghost use mathlib.Core.Bool.{true};
 ghost use Prim.Native.Nat.{_+_, _≤_, _<_};
 ghost use lib.ListN.{length};
 ghost use Rattle.word.specs.Part.{PartOf};
-ghost use Rattle.text.specs.Chars.{control};
+ghost use Rattle.chars.specs.Chars.{control};
 ghost use Rattle.head.specs.Head.{known, highFirst, terminatorAt, stringEnd, lineEnd, goodTerminator, lacks, apart, mayBeEmpty};
 ghost use Rattle.head.specs.Head.{badRoom, badCount, badLines, refused, badFile, headAnswer, InWords, terminatorSpan, fileBlockOf};
 

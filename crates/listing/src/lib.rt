@@ -16,13 +16,13 @@ ghost use Rattle.word.specs.Part as parts;
 ghost use Rattle.refusal.specs.declared.Verdict.the-variants.{Accepted};
 ghost use Rattle.text.specs.declared.Manner.the-variants.{Strict};
 ghost use Rattle.head.specs.declared.Purpose.the-variants.{Read};
-ghost use Rattle.text.specs.Note.{linesOf};
+ghost use Rattle.note.specs.Note.{linesOf};
 ghost use Rattle.strings.specs.Strings.{placesOf};
 ghost use Rattle.strings.specs.Spelled.{strsIn};
 ghost use Rattle.head.specs.Head.{countOf};
 ghost use Rattle.image.specs.Image.{imageOf};
 ghost use Rattle.listing.specs.Listing.{linesText, valuesOf, stringsText, traceText, tracesText, fileText, listAnswer, Within, listLeft};
-ghost use Rattle.lines.specs.Wrote.{Room, Wrote};
+ghost use Rattle.word.specs.Wrote.{Room, Wrote};
 
 // How many bytes the listing has; or that the row lent may be too short for it.
 pub enum Listed {

@@ -7,6 +7,7 @@ use refusal::Part;
 use refusal::Refusal;
 use refusal::Rule;
 use refusal::Verdict;
+use chars::Kind;
 use text::Manner;
 ghost use mathlib.Core.Path.{_≡_};
 ghost use Prim.Native.Nat.{_≤_, _<_};
@@ -88,7 +89,7 @@ pub fn framed(l: &[u8], high: bool, t: &[u8], how: Manner) -> Frame
         return Frame::Broken(Rule::StringOffset);
     }
     let end = o - n;
-    if !text::is_same(&l[end..o], t) {
+    if !chars::is_same(&l[end..o], t) {
         return Frame::Broken(Rule::StringEnd);
     }
     Frame::Text(o)
@@ -104,12 +105,12 @@ fn judge(b: &[u8], u: &[u8], prev: &[u8], how: Manner) -> Judged
         return Judged::Wrong(Rule::Character);
     }
     let r = &b[n..];
-    let g = text::gap_run(r);
+    let g = chars::run(Kind::Blank, r);
     if (g == 0) & (0 < r.len()) {
         return Judged::Wrong(Rule::Character);
     }
     let k = &b[..n];
-    if !text::value_ok(u, k, &r[g..], how) {
+    if !note::value_ok(u, k, &r[g..], how) {
         return Judged::Wrong(Rule::Character);
     }
     if !text::following(prev, k, how) {

@@ -3,7 +3,8 @@ use Prim.Native.Nat.{_<_}
 use native.Mathlib.Omega.{arith}
 use Rattle.word.specs.Signed.{kept}
 use borrow.Author.Needs.{needs}
-use Rattle.decimal.specs.Number.{decimalOf, room-none, room-behind, two-digits}
+use Rattle.decimal.specs.Number.{decimalOf}
+use Rattle.digits.specs.Value.{room-none, room-behind, two-digits}
 use Rattle.decimal.proofs.made.Statement.{statement}
 use Rattle.decimal.proofs.made.Tie as tie
 

@@ -3,7 +3,7 @@ use mathlib.Core.Path.{_≡_, refl, sym, _∙_}
 use Prim.Native.Nat.{_≤_, _-_}
 use lib.ListN.{length, drop}
 use borrow.Author.Tests.{not-true, not-false}
-use Rattle.text.specs.Runs.{all, all-more, all-end, all-over}
+use Rattle.chars.specs.Runs.{all, all-more, all-end, all-over}
 use Rattle.head.specs.Head.{lacks, apart}
 use borrow.Author.Needs.{needs}
 use Rattle.head.proofs.is_apart.Statement.{statement}

@@ -1,7 +1,7 @@
 -- `lines::put_ended` meets its contract. The digits, then the end. Assumes nothing.
 use Rattle.lines.specs.Lines.{ended}
 use Rattle.lines.specs.Sizes.{length-ended}
-use Rattle.lines.specs.Wrote.{joined}
+use Rattle.word.specs.Wrote.{joined}
 use native.Mathlib.Omega.{arith}
 use borrow.Author.Needs.{needs}
 use Rattle.lines.proofs.put_ended.Statement.{statement}

@@ -1,7 +1,7 @@
 -- `lines::put_head` meets its contract. The order, N and M. Assumes nothing.
 use Rattle.lines.specs.Lines.{headLine}
 use Rattle.lines.specs.Sizes.{length-head}
-use Rattle.lines.specs.Wrote.{joined}
+use Rattle.word.specs.Wrote.{joined}
 use native.Mathlib.Omega.{arith}
 use borrow.Author.Needs.{needs}
 use Rattle.lines.proofs.put_head.Statement.{statement}

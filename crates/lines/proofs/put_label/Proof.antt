@@ -1,7 +1,7 @@
 -- `lines::put_label` meets its contract. Part and keyword, each with a tab behind it. Assumes nothing.
 use Rattle.lines.specs.Lines.{label}
 use Rattle.lines.specs.Sizes.{length-label}
-use Rattle.lines.specs.Wrote.{joined}
+use Rattle.word.specs.Wrote.{joined}
 use native.Mathlib.Omega.{arith}
 use borrow.Author.Needs.{needs}
 use Rattle.lines.proofs.put_label.Statement.{statement}

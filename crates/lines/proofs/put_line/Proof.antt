@@ -1,7 +1,7 @@
 -- `lines::put_line` meets its contract. The label, the value, the end. Assumes nothing.
 use Rattle.lines.specs.Lines.{stringLine}
 use Rattle.lines.specs.Sizes.{length-line}
-use Rattle.lines.specs.Wrote.{joined}
+use Rattle.word.specs.Wrote.{joined}
 use native.Mathlib.Omega.{arith}
 use borrow.Author.Needs.{needs}
 use Rattle.lines.proofs.put_line.Statement.{statement}

@@ -1,6 +1,6 @@
 -- `lines::put_refusal` meets its contract. Number, part and place. Assumes nothing.
 use Rattle.lines.specs.Lines.{refusalLine}
-use Rattle.lines.specs.Wrote.{joined}
+use Rattle.word.specs.Wrote.{joined}
 use native.Mathlib.Omega.{arith}
 use borrow.Author.Needs.{needs}
 use Rattle.lines.proofs.put_refusal.Statement.{statement}

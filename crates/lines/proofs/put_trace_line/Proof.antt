@@ -1,7 +1,7 @@
 -- `lines::put_trace_line` meets its contract. Trace, code and samples. Assumes nothing.
 use Rattle.lines.specs.Lines.{traceLine}
 use Rattle.lines.specs.Sizes.{length-trace}
-use Rattle.lines.specs.Wrote.{joined}
+use Rattle.word.specs.Wrote.{joined}
 use native.Mathlib.Omega.{arith}
 use borrow.Author.Needs.{needs}
 use Rattle.lines.proofs.put_trace_line.Statement.{statement}

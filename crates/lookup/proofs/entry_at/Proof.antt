@@ -4,7 +4,7 @@ use Prim.Native.Nat.{_-_}
 use native.Mathlib.Nat.{le-refl}
 use lib.ListN.{length}
 use Rattle.word.specs.Part.{part, length-part, part-rest}
-use Rattle.strings.specs.Strings.{body, gapLen, onText, entryOf}
+use Rattle.strings.specs.Strings.{body, keyLen, gapLen, onText, entryOf}
 use Rattle.strings.specs.Walks.{in-frame}
 use borrow.Author.Needs.{needs}
 use native.Mathlib.Omega.{arith}
@@ -12,7 +12,7 @@ use Rattle.lookup.proofs.entry_at.Statement.{statement}
 use Rattle.lookup.proofs.entry_at.Tie as tie
 
 pub entry-at-spec : {M : Type 1} → statement M
-unfolding body gapLen onText entryOf
+unfolding body keyLen gapLen onText entryOf
 entry-at-spec =
     tie.close
     (tie.spec
@@ -41,8 +41,8 @@ entry-at-spec =
     let i = in-frame _ _ _ _ _ (sym (c7 .framed .ensures) ∙ c5 .s .given .1) in
     let b = part 2 (c5 .s .given .0 .0 - length (c10 .args .t .now)) (c10 .args .l .now) in
     let x = length-part 2 (c5 .s .given .0 .0 - length (c10 .args .t .now)) (c10 .args .l .now) (omega (arith, i .low, i .fit)) in
-    let y = length-part (c2 .key-len .result) (length b) b (le-refl (length b)) in
-    omega (arith, i .low, i .fit, c2 .key-len .ensures .1, c .gap-run .ensures .1))
+    let y = length-part (c2 .run .result) (length b) b (le-refl (length b)) in
+    omega (arith, i .low, i .fit, c2 .run .ensures .1, c .run2 .ensures .1))
     (λ c.
     let c2 = c .before .before in
     let c5 = c2 .before .before .before in
@@ -51,8 +51,8 @@ entry-at-spec =
     let i = in-frame _ _ _ _ _ (sym (c7 .framed .ensures) ∙ c5 .s .given .1) in
     let b = part 2 (c5 .s .given .0 .0 - length (c10 .args .t .now)) (c10 .args .l .now) in
     let x = length-part 2 (c5 .s .given .0 .0 - length (c10 .args .t .now)) (c10 .args .l .now) (omega (arith, i .low, i .fit)) in
-    let y = length-part (c2 .key-len .result) (length b) b (le-refl (length b)) in
-    omega (arith, i .low, i .fit, c2 .key-len .ensures .1, c .gap-run .ensures .1))
+    let y = length-part (c2 .run .result) (length b) b (le-refl (length b)) in
+    omega (arith, i .low, i .fit, c2 .run .ensures .1, c .run2 .ensures .1))
     (λ c.
     let c5 = c .before .before .before .before .before in
     let c7 = c5 .before .before in
@@ -63,4 +63,4 @@ entry-at-spec =
     let c2 = c .before .before in
     let c5 = c2 .before .before .before in
     let c7 = c5 .before .before in
-    rw ((sym (c7 .framed .ensures) ∙ c5 .s .given .1), ← c2 .key-len .ensures .0, ← (rw part-rest at (c .gap-run .ensures .0)))))
+    rw ((sym (c7 .framed .ensures) ∙ c5 .s .given .1), ← c2 .run .ensures .0, ← (rw part-rest at (c .run2 .ensures .0)))))
