@@ -13,7 +13,11 @@ ghost use Rattle.digits.specs.Digits.{digits};
 pub fn worth(b: u8) -> u64
     ensures { λ r. ⌜ (r ≡ worth b) × (r < 10) ⌝ }
 {
-    if chars::is(Kind::Digit, b) { b as u64 - 48 } else { 0 }
+    if chars::is(Kind::Digit, b) {
+        b as u64 - 48
+    } else {
+        0
+    }
 }
 
 // v with the digits of a text behind it: at most 18 in all.

@@ -3,7 +3,6 @@
 // A sheet is the bytes of its lines, each ended by 0Ah; t is the file's string terminator, u its line terminator.
 // The rules in words: docs/FORMAT.md, "What we write".
 use chars::Kind;
-use refusal::Part;
 use refusal::Refusal;
 use refusal::Rule;
 use strings::Judged;
@@ -87,20 +86,12 @@ fn step_at(s: &[u8], prev: &[u8], at: usize) -> Step
 {
     let n = line_len(s);
     if s.len() <= n {
-        return Step::Bad(Refusal {
-            rule: Rule::SheetLine,
-            part: Part::File,
-            place: at,
-        });
+        return Step::Bad(refusal::of_file(Rule::SheetLine, at));
     }
     let j = judge(&s[..n], prev);
     match j {
         Judged::Keyword(w) => Step::Next(n, w),
-        Judged::Wrong(rule) => Step::Bad(Refusal {
-            rule,
-            part: Part::File,
-            place: at,
-        }),
+        Judged::Wrong(rule) => Step::Bad(refusal::of_file(rule, at)),
     }
 }
 
@@ -157,11 +148,7 @@ pub fn measure(sheet: &[u8], t: &[u8], u: &[u8]) -> Measured
     }
     let size = word::round_up(n);
     if 65500 < size {
-        return Measured::Refused(Refusal {
-            rule: Rule::AreaSize,
-            part: Part::File,
-            place: 0,
-        });
+        return Measured::Refused(refusal::of_file(Rule::AreaSize, 0));
     }
     Measured::Size(size)
 }

@@ -3,11 +3,11 @@
 // An area is the bytes of a file from place a to place e; t is the string terminator, u the line terminator, `high` the byte order, `how` the manner of
 // reading (text/Manner), which is a parameter of every walk and question here.
 // The rules in words: docs/FORMAT.md, "Strings".
+use chars::Kind;
 use refusal::Part;
 use refusal::Refusal;
 use refusal::Rule;
 use refusal::Verdict;
-use chars::Kind;
 use text::Manner;
 ghost use mathlib.Core.Path.{_≡_};
 ghost use Prim.Native.Nat.{_≤_, _<_};

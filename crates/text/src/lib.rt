@@ -116,4 +116,3 @@ pub fn following(p: &[u8], k: &[u8], how: Manner) -> bool
         Manner::Strict => rising(p, k),
     }
 }
-

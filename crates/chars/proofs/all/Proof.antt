@@ -27,11 +27,12 @@ all-spec =
     (λ c. search needs)
     (λ c. search needs)
     (λ c.
-    let c2 = c .before .before in
-    let c3 = c2 .before in
-    let c5 = c3 .before .before in (
+    let at-loop-test = c .before .before in
+    let at-loop = at-loop-test .before in
+    let start = at-loop .before .before in
+    let args = start .args in (
       search needs,
-      rw (c .is .ensures) (all-turn (isOf (c5 .args .kind)) (c5 .args .s .now) (c3 .loop .i) (c3 .loop .ok) (c2 .loop-test .taken))
-          ∙ c3 .loop .inv .1,
+      rw (c .is .ensures) (all-turn (isOf (args .kind)) (args .s .now) (at-loop .loop .i) (at-loop .loop .ok) (at-loop-test .loop-test .taken))
+          ∙ at-loop .loop .inv .1,
     ))
     (λ c. all-through _ _ _ _ (c .loop-test .left) ∙ c .before .loop .inv .1))

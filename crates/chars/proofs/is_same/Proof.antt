@@ -25,9 +25,17 @@ is-same-spec =
     (λ c. same-short _ _ _ (c .before .loop-test .taken) (c .if1 .taken) ∙ c .before .before .loop .inv .1)
     (λ c. search needs)
     (λ c. search needs)
-    (λ c. same-apart _ _ _ (c .before .before .before .before .loop-test .taken) (c .before .before .before .if1 .left) (ne-eqb _ _ (c .if2 .taken)) ∙ c .before .before .before .before .before .loop .inv .1)
+    (λ c.
+    let at-if1 = c .before .before .before in
+    let at-loop-test = at-if1 .before in
+    let at-loop = at-loop-test .before in
+    same-apart _ _ _ (at-loop-test .loop-test .taken) (at-if1 .if1 .left) (ne-eqb _ _ (c .if2 .taken)) ∙ at-loop .loop .inv .1)
     (λ c. search needs)
     (λ c. search needs)
-    (λ c. (search needs, same-next _ _ _ (c .before .before .before .before .loop-test .taken) (c .before .before .before .if1 .left) (eq-eqb _ _ (c .if2 .left)) ∙ c .before .before .before .before .before .loop .inv .1))
+    (λ c.
+    let at-if1 = c .before .before .before in
+    let at-loop-test = at-if1 .before in
+    let at-loop = at-loop-test .before in
+    (search needs, same-next _ _ _ (at-loop-test .loop-test .taken) (at-if1 .if1 .left) (eq-eqb _ _ (c .if2 .left)) ∙ at-loop .loop .inv .1))
     (λ c. same-longer _ _ _ (c .before .loop-test .left) (c .if3 .taken) ∙ c .before .before .loop .inv .1)
     (λ c. same-ended _ _ _ (c .before .loop-test .left) (c .if3 .left) ∙ c .before .before .loop .inv .1))

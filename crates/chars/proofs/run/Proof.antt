@@ -26,6 +26,14 @@ run-spec =
     (λ c κs. search needs)
     (λ c. search needs)
     (λ c. search needs)
-    (λ c. (search needs, sym (run-more _ _ _ (c .before .before .before .loop-test .taken) (sym (c .before .is .ensures) ∙ c .if1 .taken)) ∙ c .before .before .before .before .loop .inv .1))
-    (λ c. (run-end _ _ _ (c .before .before .before .loop-test .taken) (sym (c .before .is .ensures) ∙ c .if1 .left) ∙ c .before .before .before .before .loop .inv .1, search needs))
+    (λ c.
+    let at-is = c .before in
+    let at-loop-test = at-is .before .before in
+    let at-loop = at-loop-test .before in
+    (search needs, sym (run-more _ _ _ (at-loop-test .loop-test .taken) (sym (at-is .is .ensures) ∙ c .if1 .taken)) ∙ at-loop .loop .inv .1))
+    (λ c.
+    let at-is = c .before in
+    let at-loop-test = at-is .before .before in
+    let at-loop = at-loop-test .before in
+    (run-end _ _ _ (at-loop-test .loop-test .taken) (sym (at-is .is .ensures) ∙ c .if1 .left) ∙ at-loop .loop .inv .1, search needs))
     (λ c. (run-none _ _ _ (c .loop-test .left) ∙ c .before .loop .inv .1, search needs)))

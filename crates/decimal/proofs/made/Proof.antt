@@ -23,10 +23,13 @@ made-spec =
     (λ c. search needs)
     (λ c κs. (small c, omega arith))
     (λ c.
+    let at-value3 = c .before in
+    let at-value2 = at-value3 .before in
+    let at-value = at-value2 .before in
     rw (
       kept (c .power .result) (c .power .ok),
       c .power .ensures,
-      c .before .value3 .ensures,
-      c .before .before .value2 .ensures,
-      c .before .before .before .value .ensures,
+      at-value3 .value3 .ensures,
+      at-value2 .value2 .ensures,
+      at-value .value .ensures,
     )))

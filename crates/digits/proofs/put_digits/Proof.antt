@@ -24,16 +24,36 @@ put-digits-spec =
     (λ c. omega (arith, c .before .loop .inv .2 .0))
     (λ c. omega arith)
     (λ c. omega arith)
-    (λ c. omega (arith, c .before .loop .inv .0, c .before .loop .inv .1, c .before .loop .inv .2 .0))
+    (λ c.
+    let at-loop = c .before in
+    omega (arith, at-loop .loop .inv .0, at-loop .loop .inv .1, at-loop .loop .inv .2 .0))
     (λ c. omega arith)
-    (λ c. let s = storing-turn _ (c .before .loop .row) (c .before .loop .i) (c .before .loop .left) (omega (arith, c .before .loop .inv .0, c .before .loop .inv .1)) (c .before .loop .inv .2) (c .loop-test .taken) in (simp length-set (c .before .loop .inv .0), omega arith, s .1))
+    (λ c.
+    let at-loop = c .before in
+    let s = storing-turn _ (at-loop .loop .row) (at-loop .loop .i) (at-loop .loop .left)
+    (omega (arith, at-loop .loop .inv .0, at-loop .loop .inv .1)) (at-loop .loop .inv .2) (c .loop-test .taken) in
+    (simp length-set (at-loop .loop .inv .0), omega arith, s .1))
     (λ c. omega (arith, c .before .loop .inv .2 .0))
     (λ c. omega arith)
     (λ c. omega arith)
-    (λ c. omega (arith, c .before .loop .inv .0, c .before .loop .inv .1, c .before .loop .inv .2 .0))
+    (λ c.
+    let at-loop = c .before in
+    omega (arith, at-loop .loop .inv .0, at-loop .loop .inv .1, at-loop .loop .inv .2 .0))
     (λ c. omega arith)
     (λ c. omega arith)
-    (λ c. let l = length-set (c .before .before .before .loop .row) (c .before .before .before .loop .i - 1) (48 + c .before .before .before .loop .left) in omega (arith, l, c .before .before .before .loop .inv .0))
-    (λ c κs. rw (storing-whole _ (c .before .before .before .before .loop .row) (c .before .before .before .before .loop .i) (c .before .before .before .before .loop .left) (c .before .before .before .before .loop .inv .0) (c .before .before .before .before .loop .inv .1) (c .before .before .before .before .loop .inv .2) (c .before .before .before .loop-test .left)) (c .before .before .before .before .before .before .pre))
+    (λ c.
+    let at-loop = c .before .before .before in
+    let l = length-set (at-loop .loop .row) (at-loop .loop .i - 1) (48 + at-loop .loop .left) in omega (arith, l, at-loop .loop .inv .0))
+    (λ c κs.
+    let at-loop-test = c .before .before .before in
+    let at-loop = at-loop-test .before in
+    let start = at-loop .before .before in
+    rw (storing-whole _ (at-loop .loop .row) (at-loop .loop .i) (at-loop .loop .left) (at-loop .loop .inv .0) (at-loop .loop .inv .1)
+    (at-loop .loop .inv .2) (at-loop-test .loop-test .left)) (start .pre))
     (λ c. search needs)
-    (λ c. rw (storing-whole _ (c .before .before .before .before .before .before .before .loop .row) (c .before .before .before .before .before .before .before .loop .i) (c .before .before .before .before .before .before .before .loop .left) (c .before .before .before .before .before .before .before .loop .inv .0) (c .before .before .before .before .before .before .before .loop .inv .1) (c .before .before .before .before .before .before .before .loop .inv .2) (c .before .before .before .before .before .before .loop-test .left)) at (c .before .before .put-bytes .ensures)))
+    (λ c.
+    let at-put-bytes = c .before .before in
+    let at-loop-test = at-put-bytes .before .before .before .before in
+    let at-loop = at-loop-test .before in
+    rw (storing-whole _ (at-loop .loop .row) (at-loop .loop .i) (at-loop .loop .left) (at-loop .loop .inv .0) (at-loop .loop .inv .1)
+    (at-loop .loop .inv .2) (at-loop-test .loop-test .left)) at (at-put-bytes .put-bytes .ensures)))

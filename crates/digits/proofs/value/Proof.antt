@@ -30,9 +30,10 @@ value-spec =
     (λ c. search needs)
     (λ c. search needs)
     (λ c.
-    let t = c .before .before in
-    let l = t .before .loop in (
-      rw (c .worth .ensures .0) (value-more (l .w) _ (l .i) (t .loop-test .taken) ∙ l .inv .0),
-      rw (c .worth .ensures .0) (room-more (l .w) _ _ (l .i) (t .loop-test .taken) (l .inv .1)),
+    let at-loop-test = c .before .before in
+    let at-loop = at-loop-test .before in
+    let l = at-loop .loop in (
+      rw (c .worth .ensures .0) (value-more (l .w) _ (l .i) (at-loop-test .loop-test .taken) ∙ l .inv .0),
+      rw (c .worth .ensures .0) (room-more (l .w) _ _ (l .i) (at-loop-test .loop-test .taken) (l .inv .1)),
     ))
     (λ c. sym (value-over _ _ (c .before .loop .i) (c .loop-test .left)) ∙ c .before .loop .inv .0))

@@ -16,8 +16,10 @@ all-lines-spec =
     (λ c. search needs)
     (λ c κs. search needs)
     (λ c.
-    let a = c .before .before .before .before .before .args in
-    c .all-value-or .ensures ∙ lines-one (a .u .now) (a .s .now) (c .before .before .if1 .taken))
+    let at-if1 = c .before .before in
+    let start = at-if1 .before .before .before in
+    let a = start .args in
+    c .all-value-or .ensures ∙ lines-one (a .u .now) (a .s .now) (at-if1 .if1 .taken))
     (λ c. search needs)
     (λ c κs. search needs)
     (λ c. search needs)
@@ -28,12 +30,13 @@ all-lines-spec =
     (λ c. search needs)
     (λ c κs. search needs)
     (λ c.
-    let t = c .before .before .before in
-    let m = t .before .before .before in
-    let i = m .before .before in
-    let a = i .before .before .before .before .args in
+    let at-if3 = c .before .before .before in
+    let at-is = at-if3 .before .before .before in
+    let at-if2 = at-is .before .before in
+    let start = at-if2 .before .before .before .before in
+    let a = start .args in
     let u = a .u .now in
-    let two = both (eqb (length u) 2) (leb 32 (length (a .s .now))) (i .if2 .taken) in
-    c .all-value-pairs .ensures ∙ lines-two u (a .s .now) (eqb-true (length u) 2 (two .0)) (rw (m .is .ensures) at (t .if3 .left)))
+    let two = both (eqb (length u) 2) (leb 32 (length (a .s .now))) (at-if2 .if2 .taken) in
+    c .all-value-pairs .ensures ∙ lines-two u (a .s .now) (eqb-true (length u) 2 (two .0)) (rw (at-is .is .ensures) at (at-if3 .if3 .left)))
     (λ c κs. search needs)
     (λ c. search needs))

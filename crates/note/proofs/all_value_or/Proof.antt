@@ -28,8 +28,12 @@ all-value-or-spec =
     (λ c. search needs)
     (λ c. search needs)
     (λ c.
-    let a = c .before .before .before .before .before .before .args in
-    let t = c .before .before .before .before .loop in
-    let k = all-turn (valueOr (a .x)) (a .s .now) (t .i) (t .ok) (c .before .before .before .loop-test .taken) in
-    (search needs, rw (c .before .is .ensures) k ∙ t .inv .1))
+    let at-is = c .before in
+    let at-loop-test = at-is .before .before in
+    let at-loop = at-loop-test .before in
+    let start = at-loop .before .before in
+    let a = start .args in
+    let t = at-loop .loop in
+    let k = all-turn (valueOr (a .x)) (a .s .now) (t .i) (t .ok) (at-loop-test .loop-test .taken) in
+    (search needs, rw (at-is .is .ensures) k ∙ t .inv .1))
     (λ c. all-through (valueOr _) _ _ _ (c .loop-test .left) ∙ c .before .loop .inv .1))

@@ -27,9 +27,12 @@ all-value-pairs-spec =
     (λ c. search needs)
     (λ c. search needs)
     (λ c.
-    let a = c .before .before .before .before .before .args in
-    let t = c .before .before .before .loop in
-    let k = paired-turn (a .a) (a .b) (a .s .now) (t .i) (t .ok) (t .behind) (c .before .before .loop-test .taken) in
+    let at-loop-test = c .before .before in
+    let at-loop = at-loop-test .before in
+    let start = at-loop .before .before in
+    let a = start .args in
+    let t = at-loop .loop in
+    let k = paired-turn (a .a) (a .b) (a .s .now) (t .i) (t .ok) (t .behind) (at-loop-test .loop-test .taken) in
     (search needs, rw (c .is .ensures) k ∙ t .inv .1))
     (λ c.
     let a = c .before .before .before .args in

@@ -16,13 +16,19 @@ is-start-spec =
     tie.close
     (tie.spec
     (λ c. rw (lt-leb _ _ (c .if1 .taken)))
-    (λ c. starts-none (c .before .before .before .before .args .u .now) (c .before .before .before .before .args .s .now) (c .if2 .taken))
+    (λ c.
+    let start = c .before .before .before .before in
+    let args = start .args in
+    starts-none (args .u .now) (args .s .now) (c .if2 .taken))
     (λ c. search needs)
     (λ c. search needs)
     (λ c.
-    let a = c .before .before .before .before .before .before .before .args in
-    let some : 0 < length (a .u .now) = omega (arith, c .before .before .before .if2 .left) in
-    starts-other (a .u .now) (a .s .now) some (omega (arith, some, c .before .before .before .before .if1 .left)) (c .if3 .taken))
+    let at-if2 = c .before .before .before in
+    let at-if1 = at-if2 .before in
+    let start = at-if1 .before .before .before in
+    let a = start .args in
+    let some : 0 < length (a .u .now) = omega (arith, at-if2 .if2 .left) in
+    starts-other (a .u .now) (a .s .now) some (omega (arith, some, at-if1 .if1 .left)) (c .if3 .taken))
     (λ c. sym (length-take-le _ _ (c .before .before .before .before .before .if1 .left)))
     (λ c κs. search needs)
     (λ c. c .is-same .ensures ∙ rw (le-leb _ _ (c .before .before .before .before .before .before .if1 .left))))

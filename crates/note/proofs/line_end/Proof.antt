@@ -26,8 +26,20 @@ line-end-spec =
     (λ c. search needs)
     (λ c. search needs)
     (λ c κs. search needs)
-    (λ c. line-here _ _ _ (c .before .before .before .loop-test .taken) ((rw part-rest at (sym (c .before .is-start .ensures))) ∙ c .if1 .taken) ∙ c .before .before .before .before .loop .inv .1)
+    (λ c.
+    let at-is-start = c .before in
+    let at-loop-test = at-is-start .before .before in
+    let at-loop = at-loop-test .before in
+    line-here _ _ _ (at-loop-test .loop-test .taken) ((rw part-rest at (sym (at-is-start .is-start .ensures))) ∙ c .if1 .taken) ∙
+    at-loop .loop .inv .1)
     (λ c. search needs)
     (λ c. search needs)
-    (λ c. (search needs, line-on _ _ _ (c .before .before .before .loop-test .taken) ((rw part-rest at (sym (c .before .is-start .ensures))) ∙ c .if1 .left) ∙ c .before .before .before .before .loop .inv .1))
+    (λ c.
+    let at-is-start = c .before in
+    let at-loop-test = at-is-start .before .before in
+    let at-loop = at-loop-test .before in (
+      search needs,
+      line-on _ _ _ (at-loop-test .loop-test .taken) ((rw part-rest at (sym (at-is-start .is-start .ensures))) ∙ c .if1 .left) ∙
+          at-loop .loop .inv .1,
+    ))
     (λ c. line-over _ _ _ (c .loop-test .left) ∙ c .before .loop .inv .1))

@@ -30,17 +30,17 @@ walk-lines-spec =
     (λ c. search needs)
     (λ c. search needs)
     (λ c.
-    let c1 = c .before in
-    let c3 = c1 .before .before in
-    let c4 = c3 .before in
-    let c5 = c4 .before in
-    let c9 = c5 .before .before .before .before in
-    let a = c9 .args in
-    let t = c4 .loop in (
+    let at-is2 = c .before in
+    let at-loop-test = at-is2 .before .before in
+    let at-loop = at-loop-test .before in
+    let at-is = at-loop .before in
+    let start = at-is .before .before .before .before in
+    let a = start .args in
+    let t = at-loop .loop in (
       search needs,
-      lines-apart (a .u .now) (a .s .now) (t .i) (c3 .loop-test .taken) (c9 .pre) (rw (
-        c5 .is .ensures,
-        c1 .is2 .ensures,
+      lines-apart (a .u .now) (a .s .now) (t .i) (at-loop-test .loop-test .taken) (start .pre) (rw (
+        at-is .is .ensures,
+        at-is2 .is2 .ensures,
       ) at (c .if1 .taken)) ∙ t .inv .1,
     ))
     (λ c. search needs)
@@ -48,46 +48,58 @@ walk-lines-spec =
     (λ c. search needs)
     (λ c κs. search needs)
     (λ c.
-    let c1 = c .before in
-    let c6 = c1 .before .before .before .before .before in
-    let c7 = c6 .before in
-    let c12 = c7 .before .before .before .before .before in
-    let a = c12 .args in
-    let b = lines-start (a .u .now) (a .s .now) (c7 .loop .i) (c6 .loop-test .taken) (c12 .pre) ((rw part-rest at (sym
-    (c1 .is-start .ensures))) ∙ c .if2 .taken) in
+    let at-is-start = c .before in
+    let at-loop-test = at-is-start .before .before .before .before .before in
+    let at-loop = at-loop-test .before in
+    let start = at-loop .before .before .before .before .before in
+    let a = start .args in
+    let b = lines-start (a .u .now) (a .s .now) (at-loop .loop .i) (at-loop-test .loop-test .taken) (start .pre) ((rw part-rest at (sym
+    (at-is-start .is-start .ensures))) ∙ c .if2 .taken) in
     omega (arith, b .0))
     (λ c.
-    let c1 = c .before in
-    let c6 = c1 .before .before .before .before .before in
-    let c7 = c6 .before in
-    let c12 = c7 .before .before .before .before .before in
-    let a = c12 .args in
-    let b = lines-start (a .u .now) (a .s .now) (c7 .loop .i) (c6 .loop-test .taken) (c12 .pre) ((rw part-rest at (sym
-    (c1 .is-start .ensures))) ∙ c .if2 .taken) in
-    omega (arith, b .0, c12 .pre, c6 .loop-test .taken))
+    let at-is-start = c .before in
+    let at-loop-test = at-is-start .before .before .before .before .before in
+    let at-loop = at-loop-test .before in
+    let start = at-loop .before .before .before .before .before in
+    let a = start .args in
+    let b = lines-start (a .u .now) (a .s .now) (at-loop .loop .i) (at-loop-test .loop-test .taken) (start .pre) ((rw part-rest at (sym
+    (at-is-start .is-start .ensures))) ∙ c .if2 .taken) in
+    omega (arith, b .0, start .pre, at-loop-test .loop-test .taken))
     (λ c.
-    let c1 = c .before in
-    let c6 = c1 .before .before .before .before .before in
-    let c7 = c6 .before in
-    let c12 = c7 .before .before .before .before .before in
-    let a = c12 .args in
-    let b = lines-start (a .u .now) (a .s .now) (c7 .loop .i) (c6 .loop-test .taken) (c12 .pre) ((rw part-rest at (sym
-    (c1 .is-start .ensures))) ∙ c .if2 .taken) in
-    (b .0, b .1 ∙ c7 .loop .inv .1))
+    let at-is-start = c .before in
+    let at-loop-test = at-is-start .before .before .before .before .before in
+    let at-loop = at-loop-test .before in
+    let start = at-loop .before .before .before .before .before in
+    let a = start .args in
+    let b = lines-start (a .u .now) (a .s .now) (at-loop .loop .i) (at-loop-test .loop-test .taken) (start .pre) ((rw part-rest at (sym
+    (at-is-start .is-start .ensures))) ∙ c .if2 .taken) in
+    (b .0, b .1 ∙ at-loop .loop .inv .1))
     (λ c. search needs)
     (λ c κs. search needs)
     (λ c.
-    let a = c .before .before .before .before .before .before .before .before .before .before .before .before .before .before .before .args in
-    let t = c .before .before .before .before .before .before .before .before .before .before .loop in
-    let k = c .before .before .before .before .before .before .before .before .before .loop-test .taken in
-    let f = (rw part-rest at (sym (c .before .before .before .before .is-start .ensures))) ∙ c .before .before .before .if2 .left in
-    lines-bad (a .u .now) (a .s .now) (t .i) k f (sym (c .before .is3 .ensures) ∙ not-true _ (c .if3 .taken)) ∙ t .inv .1)
+    let at-is3 = c .before in
+    let at-if2 = at-is3 .before .before in
+    let at-is-start = at-if2 .before in
+    let at-loop-test = at-is-start .before .before .before .before .before in
+    let at-loop = at-loop-test .before in
+    let start = at-loop .before .before .before .before .before in
+    let a = start .args in
+    let t = at-loop .loop in
+    let k = at-loop-test .loop-test .taken in
+    let f = (rw part-rest at (sym (at-is-start .is-start .ensures))) ∙ at-if2 .if2 .left in
+    lines-bad (a .u .now) (a .s .now) (t .i) k f (sym (at-is3 .is3 .ensures) ∙ not-true _ (c .if3 .taken)) ∙ t .inv .1)
     (λ c. search needs)
     (λ c. search needs)
     (λ c.
-    let a = c .before .before .before .before .before .before .before .before .before .before .before .before .before .before .before .args in
-    let t = c .before .before .before .before .before .before .before .before .before .before .loop in
-    let k = c .before .before .before .before .before .before .before .before .before .loop-test .taken in
-    let f = (rw part-rest at (sym (c .before .before .before .before .is-start .ensures))) ∙ c .before .before .before .if2 .left in
-    (search needs, lines-char (a .u .now) (a .s .now) (t .i) k f (sym (c .before .is3 .ensures) ∙ not-false _ (c .if3 .left)) ∙ t .inv .1))
+    let at-is3 = c .before in
+    let at-if2 = at-is3 .before .before in
+    let at-is-start = at-if2 .before in
+    let at-loop-test = at-is-start .before .before .before .before .before in
+    let at-loop = at-loop-test .before in
+    let start = at-loop .before .before .before .before .before in
+    let a = start .args in
+    let t = at-loop .loop in
+    let k = at-loop-test .loop-test .taken in
+    let f = (rw part-rest at (sym (at-is-start .is-start .ensures))) ∙ at-if2 .if2 .left in
+    (search needs, lines-char (a .u .now) (a .s .now) (t .i) k f (sym (at-is3 .is3 .ensures) ∙ not-false _ (c .if3 .left)) ∙ t .inv .1))
     (λ c. lines-over _ _ _ (c .loop-test .left) ∙ c .before .loop .inv .1))
