@@ -65,6 +65,10 @@ areaSize t u s = round4 (textSize t (sheetStrings u s))
 
 -- ---- what a sheet answers: 25 and 26 of its lines, then 27 "area too large", else the area's size
 
+-- "An area is at most 65,500 bytes"
+abbrev pub areaMost : ℕ
+areaMost = 65500
+
 abbrev pub sized : ℕ → Measured
 sized n = pick (ltb 65500 n) (measured.the-variants.Refused (refusal AreaSize File 0)) (Size n)
 

@@ -11,8 +11,12 @@ ghost use mathlib.Core.Path.{_≡_};
 ghost use Prim.Native.Nat.{_+_, _≤_};
 ghost use lib.ListN.{length};
 ghost use Rattle.sheet.specs.Lines.{lineLen, spaced, continues, lineJudged, lineStep};
-ghost use Rattle.sheet.specs.Area.{measuredOf};
+ghost use Rattle.sheet.specs.Area.{areaMost, measuredOf};
 ghost use Rattle.sheet.specs.Sizes.{lineCost, capped};
+
+// "An area is at most 65,500 bytes": `areaMost` of the definitions. Whatever is over it is counted as one more.
+pub const AREA: usize = 65500;
+const OVER: usize = 65501;
 
 // A step over one line: past it, with its length and its keyword's; or the refusal.
 pub enum Step {
@@ -97,24 +101,24 @@ fn step_at(s: &[u8], prev: &[u8], at: usize) -> Step
 
 // A sum that stops at the limit: whatever is over 65,500 counts as 65,501, so that no sheet is too long to be counted.
 fn add(n: usize, m: usize) -> usize
-    ensures { λ r. ⌜ (r ≡ capped (n + m)) × (r ≤ 65501) ⌝ }
+    ensures { λ r. ⌜ (r ≡ capped (n + m)) × (r ≤ areaMost + 1) ⌝ }
 {
-    if 65500 < n {
-        return 65501;
+    if AREA < n {
+        return OVER;
     }
-    if 65500 < m {
-        return 65501;
+    if AREA < m {
+        return OVER;
     }
     let s = n + m;
-    if 65500 < s {
-        return 65501;
+    if AREA < s {
+        return OVER;
     }
     s
 }
 
 // What a line adds to the area: its keyword has w bytes, its value v, the terminators t and u.
 fn grown(n: usize, more: bool, w: usize, v: usize, t: &[u8], u: &[u8]) -> usize
-    ensures { λ r. ⌜ (r ≡ capped (n + lineCost (now (t .entry)) (now (u .entry)) more w v)) × (r ≤ 65501) ⌝ }
+    ensures { λ r. ⌜ (r ≡ capped (n + lineCost (now (t .entry)) (now (u .entry)) more w v)) × (r ≤ areaMost + 1) ⌝ }
 {
     if more {
         return add(add(n, u.len()), v);
@@ -147,7 +151,7 @@ pub fn measure(sheet: &[u8], t: &[u8], u: &[u8]) -> Measured
         }
     }
     let size = word::round_up(n);
-    if 65500 < size {
+    if AREA < size {
         return Measured::Refused(refusal::of_file(Rule::AreaSize, 0));
     }
     Measured::Size(size)
