@@ -4,9 +4,10 @@ use mathlib.Core.Path.{_≡_, refl, sym, ap, _∙_}
 use mathlib.Core.Bool.{Bool, true, false, cond, _&&_}
 use mathlib.Core.List.{List, map}
 use Prim.Native.Nat.{ℕ, zero, suc, _+_, _-_, _*_, _/_, _%_, _^_, _≤_, _<_, min}
-use native.Mathlib.Nat.{zero-mul}
+use native.Mathlib.Nat.{zero-mul, lt-of-not-le}
+use native.Mathlib.Decide.{decLe}
 use native.Mathlib.Omega.{arith}
-use lib.IntN.{ℤ, pos, negsuc, negℤ, _-ℤ_, _*ℤ_, pos-*ℤ-pos, negsuc-*ℤ-pos, zero-*ℤ}
+use lib.IntN.{ℤ, pos, negsuc, negℤ, natAbs, _-ℤ_, _*ℤ_, pos-*ℤ-pos, negsuc-*ℤ-pos, zero-*ℤ}
 use lib.ListN.{length, take, length-take}
 use lib.Dec.{leb, eqb}
 use borrow.Author.Tests.{lt-ltb, le-ltb, le-leb, lt-leb, leb-true, leb-false, eq-eqb, ne-eqb, eqb-true}
@@ -33,17 +34,37 @@ twos-minus half n h k = simp (le-ltb n half h) (minus-more n (2 * half) k)
 -- ---- code 3
 
 -- a mantissa that is not negative, and one that is
+pub ones-plus : (m : ℕ) → m < 32768 → ones m ≡ pos m
+unfolding ones
+ones-plus m h = rw (lt-ltb m 32768 h)
+
+pub ones-minus : (m : ℕ) → 32768 ≤ m → ones m ≡ negℤ (pos (65535 - m))
+unfolding ones
+ones-minus m h = rw (le-ltb m 32768 h)
+
+-- 15 bits are left of it
+pub ones-small : (m : ℕ) → natAbs (ones m) < 32768
+ones-small m =
+    elim (decLe 32768 m) [
+      | yes h ↦ rw (ones-minus m h) (size (65535 - m) (omega arith))
+      | no h ↦ (let l = lt-of-not-le h in rw (ones-plus m l) l)
+    ]
+  where
+    size : (n : ℕ) → n < 32768 → natAbs (negℤ (pos n)) < 32768
+    size zero h = h
+    size (suc n) h = h
+
 pub scaled-plus : (e m : ℕ) → m < 32768 → scaled e m ≡ pos (m * 2 ^ e)
-unfolding scaled ones
-scaled-plus e m h = rw (lt-ltb m 32768 h) (pos-*ℤ-pos m (2 ^ e))
+unfolding scaled
+scaled-plus e m h = rw (ones-plus m h) (pos-*ℤ-pos m (2 ^ e))
 
 pub minus-times : (a b : ℕ) → negℤ (pos a) *ℤ pos b ≡ negℤ (pos (a * b))
 minus-times zero b = zero-*ℤ (pos b) ∙ ap (λ (n : ℕ). negℤ (pos n)) (sym (zero-mul b))
 minus-times (suc a) b = negsuc-*ℤ-pos a b
 
 pub scaled-minus : (e m : ℕ) → 32768 ≤ m → scaled e m ≡ negℤ (pos ((65535 - m) * 2 ^ e))
-unfolding scaled ones
-scaled-minus e m h = rw (le-ltb m 32768 h) (minus-times (65535 - m) (2 ^ e))
+unfolding scaled
+scaled-minus e m h = rw (ones-minus m h) (minus-times (65535 - m) (2 ^ e))
 
 -- sample i of the block is sample k of group g
 pub in-group : (high : Bool) (block : List ℕ) (i g k : ℕ) → i ≡ 4 * g + k → k < 4 → sampleOf 3 high block i ≡ groupSample high block (10 * g) k

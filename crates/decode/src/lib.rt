@@ -9,23 +9,23 @@ ghost use Rattle.word.specs.Put.{put};
 ghost use Rattle.word.specs.Word.{wordAt};
 ghost use Rattle.sample.specs.Needed.{needed};
 ghost use Rattle.sample.specs.Run.{valuesFrom};
-ghost use Rattle.decode.specs.Sample.{twos, exponentIn, scaled, groupSample, patternOf, sampleOf, integersThere, integersRead};
+ghost use Rattle.decode.specs.Sample.{twos, exponentIn, ones, scaled, groupSample, patternOf, sampleOf, integersThere, integersRead};
 ghost use Rattle.decode.specs.Sample.{classOf, bitsThere, patternsRead, classesRead};
 
 // The whole number of two bytes at a place.
-fn word_at(block: &[u8], high: bool, at: usize) -> usize
+fn word_at(block: &[u8], high: bool, at: usize) -> u16
     requires { ⌜ at + 2 ≤ length (now block) ⌝ }
-    ensures { λ r. ⌜ (r ≡ wordAt 2 high (now (block .entry)) at) × (r < 65536) ⌝ }
+    ensures { λ r. ⌜ r ≡ wordAt 2 high (now (block .entry)) at ⌝ }
 {
-    sample::turned(high, word::word2(block, false, at) as u16) as usize
+    sample::turned(high, word::word2(block, false, at) as u16)
 }
 
 // Of four bytes.
-fn word4_at(block: &[u8], high: bool, at: usize) -> usize
+fn word4_at(block: &[u8], high: bool, at: usize) -> u32
     requires { ⌜ at + 4 ≤ length (now block) ⌝ }
-    ensures { λ r. ⌜ (r ≡ wordAt 4 high (now (block .entry)) at) × (r < 4294967296) ⌝ }
+    ensures { λ r. ⌜ r ≡ wordAt 4 high (now (block .entry)) at ⌝ }
 {
-    sample::turned4(high, word::word4(block, false, at) as u32) as usize
+    sample::turned4(high, word::word4(block, false, at) as u32)
 }
 
 // Of eight bytes.
@@ -39,8 +39,7 @@ fn word8_at(block: &[u8], high: bool, at: usize) -> u64
 // ---- codes 1 and 2
 
 // Two's complement of 16 bits. Both arms are the same bits, so that nothing is left of the test in the machine's code.
-fn twos16(n: usize) -> i16
-    requires { ⌜ n < 65536 ⌝ }
+fn twos16(n: u16) -> i16
     ensures { λ r. ⌜ r ≡ twos 32768 n ⌝ }
 {
     if n < 32768 {
@@ -51,8 +50,7 @@ fn twos16(n: usize) -> i16
 }
 
 // Two's complement of 32 bits.
-fn twos32(n: usize) -> i32
-    requires { ⌜ n < 4294967296 ⌝ }
+fn twos32(n: u32) -> i32
     ensures { λ r. ⌜ r ≡ twos 2147483648 n ⌝ }
 {
     if n < 2147483648 {
@@ -97,51 +95,62 @@ pub fn read2(block: &[u8], high: bool, row: &mut [i32]) -> bool
 // ---- code 3
 
 // Exponent k out of the first word of a group: "sample 0 in bits 0-3, sample 3 in bits 12-15".
-fn exponent_in(word: usize, k: usize) -> usize
+fn exponent_in(word: u16, k: u16) -> u16
     requires { ⌜ k < 4 ⌝ }
     ensures { λ r. ⌜ (r ≡ exponentIn word k) × (r < 16) ⌝ }
 {
     word >> 4 * k & 15
 }
 
-// A one's complement mantissa, times 2 to the exponent.
-fn scaled(exponent: usize, mantissa: usize) -> i32
-    requires { ⌜ (exponent < 16) × (mantissa < 65536) ⌝ }
-    ensures { λ r. ⌜ r ≡ scaled exponent mantissa ⌝ }
+// A mantissa: one's complement of 16 bits.
+fn ones(mantissa: u16) -> i32
+    ensures { λ r. ⌜ r ≡ ones mantissa ⌝ }
 {
     if mantissa < 32768 {
-        (mantissa << exponent) as i32
+        mantissa as i32
     } else {
-        -((65535 - mantissa << exponent) as i32)
+        -((65535 - mantissa) as i32)
     }
 }
 
+// A mantissa, times 2 to the exponent. The sign comes in first, and one shift serves both.
+fn scaled(exponent: u16, mantissa: u16) -> i32
+    requires { ⌜ exponent < 16 ⌝ }
+    ensures { λ r. ⌜ r ≡ scaled exponent mantissa ⌝ }
+{
+    ones(mantissa) << exponent as i32
+}
+
 // Sample k of the group at a place, whose first word is at hand.
-fn group_sample(block: &[u8], high: bool, at: usize, exponents: usize, k: usize) -> i32
+fn group_sample(block: &[u8], high: bool, at: usize, exponents: u16, k: u16) -> i32
     requires { ⌜ (at + 10 ≤ length (now block)) × (exponents ≡ wordAt 2 high (now block) at) × (k < 4) ⌝ }
     ensures { λ r. ⌜ r ≡ groupSample high (now (block .entry)) at k ⌝ }
 {
     scaled(
         exponent_in(exponents, k),
-        word_at(block, high, at + 2 * (k + 1)),
+        word_at(block, high, at + 2 * (k as usize + 1)),
     )
 }
 
-// The four samples of group g, each taken from its words and stored before the next: no array is kept.
+// The four samples of group g: all are at hand before one is stored, so that a compiler can work them out together.
 fn read_group(block: &[u8], high: bool, g: usize, row: &mut [i32])
     requires { ⌜ (10 * g + 10 ≤ length (now block)) × (4 * g + 4 ≤ length (now row)) ⌝ }
     ensures { λ _. ⌜ now (row .exit) ≡ put (now (row .entry)) (4 * g) (valuesFrom (sampleOf 3 high (now (block .entry))) (4 * g) 4) ⌝ }
 {
     let at = 10 * g;
     let exponents = word_at(block, high, at);
+    let a = group_sample(block, high, at, exponents, 0);
+    let b = group_sample(block, high, at, exponents, 1);
+    let c = group_sample(block, high, at, exponents, 2);
+    let d = group_sample(block, high, at, exponents, 3);
     let i0 = 4 * g;
     let i1 = i0 + 1;
     let i2 = i1 + 1;
     let i3 = i2 + 1;
-    row[i0] = group_sample(block, high, at, exponents, 0);
-    row[i1] = group_sample(block, high, at, exponents, 1);
-    row[i2] = group_sample(block, high, at, exponents, 2);
-    row[i3] = group_sample(block, high, at, exponents, 3);
+    row[i0] = a;
+    row[i1] = b;
+    row[i2] = c;
+    row[i3] = d;
 }
 
 // All groups of a row.

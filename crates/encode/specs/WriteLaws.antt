@@ -7,11 +7,10 @@ use Prim.Native.Nat.{ℕ, zero, suc, _+_, _-_, _*_, _/_, _%_, _^_, _≤_, _<_}
 use native.Mathlib.Nat.{le-trans, le-of-eq, le-div-iff-mul-le, div-one, mul-suc, mul-add, mul-one}
 use native.Mathlib.Numerals.{add-one}
 use native.Mathlib.Omega.{arith, by-contra}
-use native.Mathlib.Decide.{decLe}
 use lib.IntN.{ℤ, pos, negsuc, negℤ, natAbs}
-use lib.Bits.{bitOr, or-shifted}
+use lib.Bits.{bitOr, or-shifted, or-add-and, and-mask}
 use lib.Signed.{ltZ}
-use lib.Count.{leadingZeros, leading-top, leading-of-zero}
+use lib.Count.{leadingZeros, leading-top}
 use lib.Dec.{leb}
 use lib.ListN.{length, getD, drop, replicate, length-append, length-replicate, drop-of-length-le}
 use lib.Pow.{pow-mono, pow-pos, pow-add, shr-lt, shr-shr, field, mod-mod-pow}
@@ -77,28 +76,29 @@ smallest-is (suc left) e n s r h k = go (leb (n / 2 ^ e) 32767) refl (λ l. smal
         let t : n / 2 ^ e ≤ 32767 = rw z (r .fits) in
         omega (arith, leb-false (n / 2 ^ e) 32767 q))))
 
--- the exponent that the leading zeros of n tell: n has 32 bits less its leading zeros, and 15 of them stay
-told : (n : ℕ) → n < 1073741824 → leadingZeros 32 n < 17 → Smallest n (17 - leadingZeros 32 n) × (2 ≤ leadingZeros 32 n)
-told zero h l = absurd (omega (arith, leading-of-zero 32))
-told (suc n) h l =
-    let z = leadingZeros 32 (suc n) in
-    let s = leading-top 32 (suc n) (omega arith) (omega arith) in
-    let low : s .0 < 30 = by-contra (suc (s .0)) 30 (λ m. (let p = pow-mono {i = 30} {j = s .0} (omega arith) in omega (arith, s .2))) in
-    let e : suc (s .0) ≡ 15 + (17 - z) = omega (arith, s .1) in (
-      record {
-        fits = (let r = shr-lt {n = suc n} 15 (17 - z) (rw e at (s .3)) in omega arith);
-        least = λ k m. le-div-iff-mul-le (pow-pos k) .1
-            (le-trans (le-of-eq (sym (pow-add 2 15 k))) (le-trans (pow-mono {i = 15 + k} {j = s .0} (omega arith)) (s .2)));
-      },
-      omega (arith, s .1),
-    )
+-- n with its low 15 bits set
+filled : (n : ℕ) → bitOr n 32767 ≡ n + 32767 - n % 32768
+filled n = omega (arith, or-add-and n 32767, and-mask n 15)
 
-none : (n : ℕ) → n < 1073741824 → 17 ≤ leadingZeros 32 n → Smallest n 0
-none zero h l = record { fits = omega arith; least = λ k m. absurd (omega arith) }
-none (suc n) h l =
-    let s = leading-top 32 (suc n) (omega arith) (omega arith) in
-    let p = pow-mono {i = suc (s .0)} {j = 15} (omega (arith, s .1)) in
-    record { fits = omega (arith, s .3); least = λ k m. absurd (omega arith) }
+-- the exponent that its leading zeros tell: it has 32 bits less them, and 15 stay
+told : (n : ℕ) → n < 1073741824
+    → Smallest n (17 - leadingZeros 32 (bitOr n 32767)) × ((2 ≤ leadingZeros 32 (bitOr n 32767)) × (leadingZeros 32 (bitOr n 32767) ≤ 17))
+told n h =
+    let m = n + 32767 - n % 32768 in
+    let s = leading-top 32 m (omega arith) (omega arith) in
+    let z = leadingZeros 32 m in
+    let low : s .0 < 30 = by-contra (suc (s .0)) 30 (λ q. (let p = pow-mono {i = 30} {j = s .0} (omega arith) in omega (arith, s .2))) in
+    let high : 14 ≤ s .0 = by-contra 14 (s .0) (λ q. (let p = pow-mono {i = suc (s .0)} {j = 14} (omega arith) in omega (arith, s .3))) in
+    let e : suc (s .0) ≡ 15 + (17 - z) = omega (arith, s .1) in
+    let below : n < 2 ^ suc (s .0) = omega (arith, s .3) in
+    rw (filled n) (
+      record {
+        fits = (let r = shr-lt {n = n} 15 (17 - z) (rw e at below) in omega arith);
+        least = λ k l. le-div-iff-mul-le (pow-pos k) .1
+            (let p = pow-mono {i = 15 + k} {j = s .0} (omega arith) in omega (arith, pow-add 2 15 k, s .2));
+      },
+      (omega (arith, s .1), omega (arith, s .1)),
+    )
 
 -- what the code answers of the leading zeros it counted
 pub record Told (n e : ℕ) : Type 0 where
@@ -106,25 +106,18 @@ pub record Told (n e : ℕ) : Type 0 where
   pub small : e < 16
   pub fits : n / 2 ^ e ≤ 32767
 
-pub exponent-told : (n : ℕ) → n < 1073741824 → leadingZeros 32 n < 17 → Told n (17 - leadingZeros 32 n)
-exponent-told n h l =
-    let r = told n h l in
-    let b : 2 ≤ leadingZeros 32 n = r .1 in
-    record { is = sym (smallest-is 15 0 n (17 - leadingZeros 32 n) (r .0) (omega arith) (omega arith)); small = omega arith; fits = r .0 .fits }
+pub zeros-most : (n : ℕ) → n < 1073741824 → leadingZeros 32 (bitOr n 32767) ≤ 17
+zeros-most n h = told n h .1 .1
 
-pub exponent-none : (n : ℕ) → n < 1073741824 → 17 ≤ leadingZeros 32 n → Told n 0
-exponent-none n h l =
-    let r = none n h l in
-    record { is = sym (smallest-is 15 0 n 0 r (omega arith) (omega arith)); small = omega arith; fits = r .fits }
+pub exponent-told : (n : ℕ) → n < 1073741824 → Told n (17 - leadingZeros 32 (bitOr n 32767))
+exponent-told n h =
+    let r = told n h in
+    let e : 17 - leadingZeros 32 (bitOr n 32767) < 16 = omega (arith, r .1 .0) in
+    record { is = sym (smallest-is 15 0 n (17 - leadingZeros 32 (bitOr n 32767)) (r .0) (omega arith) (omega arith)); small = e; fits = r .0 .fits }
 
 -- the exponent of a magnitude below 2^30 is the smallest that fits, and below 16
 pub exponent-of : (n : ℕ) → n < 1073741824 → Smallest n (smallest 15 0 n) × (smallest 15 0 n < 16)
-exponent-of n h =
-    elim (decLe 17 (leadingZeros 32 n)) [
-      | yes l ↦ (let e = exponent-none n h l .is in (rw (← e) (none n h l), rw (← e) (omega arith)))
-      | no l ↦ (let m : leadingZeros 32 n < 17 = by-contra (suc (leadingZeros 32 n)) 17 (λ q. l (omega arith)) in
-          let e = exponent-told n h m in (rw (← e .is) (told n h m .0), rw (← e .is) (e .small)))
-    ]
+exponent-of n h = let e = exponent-told n h in (rw (← e .is) (told n h .0), rw (← e .is) (e .small))
 
 pub exponent-smallest : (z : ℤ) → natAbs z < 1073741824 → Smallest (natAbs z) (exponentOf z)
 unfolding exponentOf

@@ -212,13 +212,13 @@ fn magnitude(v: i32) -> u32
     if v < 0 { (!v) as u32 + 1 } else { v as u32 }
 }
 
-// The smallest exponent that brings a magnitude to at most 32,767, found from its leading zeros: 17 of them leave 15 bits.
+// The smallest exponent that brings a magnitude to at most 32,767, found from its leading zeros: 17 of them leave 15 bits. The low 15 bits count as set,
+// so that a magnitude of fewer bits has 17 too, and no test is made.
 fn exponent(n: u32) -> u32
     requires { ⌜ n < 1073741824 ⌝ }
     ensures { λ r. ⌜ Told n r ⌝ }
 {
-    let zeros = u32::leading_zeros(n);
-    if zeros < 17 { 17 - zeros } else { 0 }
+    17 - u32::leading_zeros(n | 32767)
 }
 
 // A sample of code 3, as it is written.
@@ -295,8 +295,8 @@ fn write_group(row: &[i32], high: bool, g: usize, part: &mut [u8])
     );
 }
 
-// The data block of code 3: the groups, and zeros up to a multiple of 4.
-pub fn write3(row: &[i32], high: bool, part: &mut [u8])
+// The groups of a row, and zeros up to a multiple of 4.
+fn write_groups(row: &[i32], high: bool, part: &mut [u8])
     requires { ⌜ (room 3 (length (now row)) ≤ length (now part)) × (length (now row) % 4 ≡ 0) × (unfitIntegers 3 (now row) ≡ Fit.All) ⌝ }
     ensures { λ _. ⌜ now (part .exit) ≡ put (now (part .entry)) 0 (integersData 3 high (now (row .entry))) ⌝ }
 {
@@ -308,4 +308,16 @@ pub fn write3(row: &[i32], high: bool, part: &mut [u8])
     }
     let end = 10 * count;
     word::zeros(part, end, word::round_up(end));
+}
+
+// The data block of code 3. The order is settled outside of the loop, whose body is too long for the compiler to do so.
+pub fn write3(row: &[i32], high: bool, part: &mut [u8])
+    requires { ⌜ (room 3 (length (now row)) ≤ length (now part)) × (length (now row) % 4 ≡ 0) × (unfitIntegers 3 (now row) ≡ Fit.All) ⌝ }
+    ensures { λ _. ⌜ now (part .exit) ≡ put (now (part .entry)) 0 (integersData 3 high (now (row .entry))) ⌝ }
+{
+    if high {
+        write_groups(row, true, part);
+        return;
+    }
+    write_groups(row, false, part);
 }

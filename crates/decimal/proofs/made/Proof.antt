@@ -1,6 +1,7 @@
 -- `decimal::made` meets its contract: at most 18 digits fit 64 bits, and at most 2 stay below a hundred. Assumes nothing.
 use Prim.Native.Nat.{_<_}
 use native.Mathlib.Omega.{arith}
+use mir.Syntax.{w32}
 use Rattle.word.specs.Signed.{kept}
 use borrow.Author.Needs.{needs}
 use Rattle.decimal.specs.Number.{decimalOf, room-none, room-behind, two-digits}
@@ -23,7 +24,7 @@ made-spec =
     (λ c κs. (small c, omega arith))
     (λ c.
     rw (
-      kept (c .power .result) (c .power .ok),
+      kept w32 (c .power .result) (c .power .ok),
       c .power .ensures,
       c .before .value3 .ensures,
       c .before .before .value2 .ensures,

@@ -29,6 +29,7 @@ patterns4-spec =
     (λ c. search needs)
     (λ c. search needs)
     (λ c. search needs)
-    (λ c. fill-one (c .before .before .loop .inv) (omega arith) (c .word4-at .ensures .0))
+    (λ c. search needs)
+    (λ c. fill-one (c .before .before .loop .inv) (omega arith) (c .word4-at .ensures))
     (λ c. c .before .loop .inv .long)
     (λ c. fill-end (c .before .loop .inv) (omega arith)))

@@ -35,6 +35,6 @@ read1-spec =
     (λ c. search needs)
     (λ c. search needs)
     (λ c. search needs)
-    (λ c. fill-one (c .before .before .before .loop .inv) (omega arith) (kept16 (c .twos16 .result) (c .twos16 .ok) ∙ c .twos16 .ensures ∙ ap (twos 32768) (c .before .word-at .ensures .0)))
+    (λ c. fill-one (c .before .before .before .loop .inv) (omega arith) (kept16 (c .twos16 .result) (c .twos16 .ok) ∙ c .twos16 .ensures ∙ ap (twos 32768) (c .before .word-at .ensures)))
     (λ c. c .before .loop .inv .long)
     (λ c. all-read 1 _ _ _ _ (there 1 _ _ refl (omega arith)) (fill-end (c .before .loop .inv) (omega arith))))

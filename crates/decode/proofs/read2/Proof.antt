@@ -4,6 +4,7 @@ use Prim.Native.Nat.{_-_}
 use native.Mathlib.Omega.{arith}
 use lib.ListN.{length}
 use borrow.Author.Needs.{needs}
+use mir.Syntax.{w32}
 use Rattle.sample.specs.Needed.{needed, width}
 use Rattle.sample.specs.Run.{Filling, fill-start, fill-one, fill-end}
 use Rattle.decode.specs.Sample.{twos, patternOf, sampleOf}
@@ -34,6 +35,6 @@ read2-spec =
     (λ c. search needs)
     (λ c. search needs)
     (λ c. search needs)
-    (λ c. fill-one (c .before .before .before .loop .inv) (omega arith) (kept (c .twos32 .result) (c .twos32 .ok) ∙ c .twos32 .ensures ∙ ap (twos 2147483648) (c .before .word4-at .ensures .0)))
+    (λ c. fill-one (c .before .before .before .loop .inv) (omega arith) (kept w32 (c .twos32 .result) (c .twos32 .ok) ∙ c .twos32 .ensures ∙ ap (twos 2147483648) (c .before .word4-at .ensures)))
     (λ c. c .before .loop .inv .long)
     (λ c. all-read 2 _ _ _ _ (there 2 _ _ refl (omega arith)) (fill-end (c .before .loop .inv) (omega arith))))

@@ -2,6 +2,7 @@
 -- Assumes nothing.
 use mathlib.Core.Path.{sym}
 use native.Mathlib.Omega.{arith}
+use mir.Syntax.{w32}
 use Rattle.word.specs.Signed.{kept, sign, flips, minus-size, plus-size}
 use borrow.Author.Needs.{needs}
 use Rattle.double.proofs.magnitude.Statement.{statement}
@@ -14,17 +15,17 @@ magnitude-spec =
     (λ c.
     let z = c .before .args .z in
     let f = c .before .fits .z .sfits in
-    rw (flips z f (sign z f (c .if1 .taken))) (tt, record { fits = omega arith }))
+    rw (flips w32 z f (sign w32 z f (c .if1 .taken))) (tt, record { fits = omega arith }))
     (λ c.
     let z = c .before .args .z in
     let f = c .before .fits .z .sfits in
-    rw (flips z f (sign z f (c .if1 .taken))) (omega arith))
+    rw (flips w32 z f (sign w32 z f (c .if1 .taken))) (omega arith))
     (λ c.
     let z = c .before .args .z in
     let f = c .before .fits .z .sfits in
-    rw (kept z f) (plus-size z f (sign z f (c .if1 .left))))
+    rw (kept w32 z f) (plus-size w32 z f (sign w32 z f (c .if1 .left))))
     (λ c.
     let z = c .before .args .z in
     let f = c .before .fits .z .sfits in
-    rw (flips z f (sign z f (c .if1 .taken))) (sym (minus-size z (sign z f (c .if1 .taken)))))
+    rw (flips w32 z f (sign w32 z f (c .if1 .taken))) (sym (minus-size z (sign w32 z f (c .if1 .taken)))))
     (λ c. search needs))

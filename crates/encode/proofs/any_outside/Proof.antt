@@ -43,4 +43,4 @@ any-outside-spec =
     let t = c .before .loop in
     any-through _ (a .row .now) (t .i) (t .found) (c .loop-test .left)
     ∙ t .inv
-    ∙ ap₂ (λ (l h : ℤ). any (outside l h) (a .row .now)) (kept (a .low) (c .before .before .fits .low .sfits)) (kept (a .high) (c .before .before .fits .high .sfits))))
+    ∙ ap₂ (λ (l h : ℤ). any (outside l h) (a .row .now)) (kept w32 (a .low) (c .before .before .fits .low .sfits)) (kept w32 (a .high) (c .before .before .fits .high .sfits))))

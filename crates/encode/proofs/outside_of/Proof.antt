@@ -18,8 +18,8 @@ outside-of-spec =
     (λ c.
     let s = c .before .before .before in
     c .first-outside .ensures
-    ∙ ap₂ (λ (l h : ℤ). firstFrom (outside l h) 0 (s .args .row .now)) (kept (s .args .low) (s .fits .low .sfits)) (kept (s .args .high) (s .fits .high .sfits)))
+    ∙ ap₂ (λ (l h : ℤ). firstFrom (outside l h) 0 (s .args .row .now)) (kept w32 (s .args .low) (s .fits .low .sfits)) (kept w32 (s .args .high) (s .fits .high .sfits)))
     (λ c.
     let s = c .before .before in
     any-none (outside (toZ w32 (ofZ w32 (s .args .low))) (toZ w32 (ofZ w32 (s .args .high)))) 0 (s .args .row .now) (sym (c .before .any-outside .ensures) ∙ c .if1 .left)
-    ∙ ap₂ (λ (l h : ℤ). firstFrom (outside l h) 0 (s .args .row .now)) (kept (s .args .low) (s .fits .low .sfits)) (kept (s .args .high) (s .fits .high .sfits))))
+    ∙ ap₂ (λ (l h : ℤ). firstFrom (outside l h) 0 (s .args .row .now)) (kept w32 (s .args .low) (s .fits .low .sfits)) (kept w32 (s .args .high) (s .fits .high .sfits))))

@@ -5,6 +5,7 @@ use native.Mathlib.Omega.{arith}
 use lib.IntN.{pos}
 use lib.ListN.{length, getD, drop}
 use borrow.Author.Needs.{needs}
+use mir.Syntax.{w32}
 use Rattle.word.specs.WordLaws.{length-bytesOf}
 use Rattle.encode.specs.Write.{residue, flat, fixedBytes, integersData}
 use Rattle.sample.specs.Needed.{needed, room}
@@ -35,7 +36,7 @@ write1-spec =
     (λ c κs. omega arith)
     (λ c. search needs)
     (λ c. search needs)
-    (λ c. let z = getD (c .before .before .before .before .before .before .before .before .before .args .row .now) (c .before .before .before .before .before .before .before .loop .i) (pos 0) in let q : c .before .before .before .bits .result % 65536 ≡ residue 65536 z = ap (λ (n : ℕ). n % 65536) (c .before .before .before .bits .ensures ∙ ap (residue 4294967296) (kept z (c .before .before .before .before .bits-arg .given))) ∙ sym (residue-low z) in write-turn (fixedBytes 2 (c .before .before .before .before .before .before .before .before .before .args .high) z) (c .before .before .before .before .before .before .before .loop .inv) (flat-turn _ (pos 0) _ _ (c .before .before .before .before .before .before .loop-test .taken)) (length-bytesOf 2 _ _) (c .before .before .put2 .ensures ∙ rw q))
+    (λ c. let z = getD (c .before .before .before .before .before .before .before .before .before .args .row .now) (c .before .before .before .before .before .before .before .loop .i) (pos 0) in let q : c .before .before .before .bits .result % 65536 ≡ residue 65536 z = ap (λ (n : ℕ). n % 65536) (c .before .before .before .bits .ensures ∙ ap (residue 4294967296) (kept w32 z (c .before .before .before .before .bits-arg .given))) ∙ sym (residue-low z) in write-turn (fixedBytes 2 (c .before .before .before .before .before .before .before .before .before .args .high) z) (c .before .before .before .before .before .before .before .loop .inv) (flat-turn _ (pos 0) _ _ (c .before .before .before .before .before .before .loop-test .taken)) (length-bytesOf 2 _ _) (c .before .before .put2 .ensures ∙ rw q))
     (λ c. omega arith)
     (λ c κs. omega arith)
     (λ c κs. omega arith)

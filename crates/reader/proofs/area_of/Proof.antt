@@ -3,6 +3,7 @@ use mathlib.Core.Path.{sym, ap, _∙_}
 use native.Mathlib.Omega.{arith}
 use lib.IntN.{ℤ}
 use borrow.Author.Needs.{needs}
+use mir.Syntax.{w32}
 use Rattle.head.specs.Head.{countOf}
 use Rattle.reader.specs.Reach.{whose-trace, some-trace, pointer-slot, trace-pointed}
 use Rattle.reader.specs.Leaves.{area-whole, area-one}
@@ -48,7 +49,7 @@ area-of-spec =
     (λ c.
     let c2 = c .before .before in
     let c5 = c2 .before .before .before in
-    ap (λ (w : Whose). areaNamed (c5 .args .f .now) w) (sym (c .enum-told .given .1) ∙ handed (λ (z : ℤ). whoseOf z (countOf
+    ap (λ (w : Whose). areaNamed (c5 .args .f .now) w) (sym (c .enum-told .given .1) ∙ handed w32 (λ (z : ℤ). whoseOf z (countOf
     (c5 .args .f .now))) (c5 .args .part) (c5 .fits .part .sfits) (c2 .whose-in .ensures)))
     (λ c.
     let c1 = c .before in
@@ -57,7 +58,7 @@ area-of-spec =
     let c5 = c4 .before in
     let c7 = c5 .before .before in
     area-whole _ _ _ _ (c5 .is-high .ensures) (c1 .word2 .ensures .0) (c .pointer .ensures .0) ∙ ap (λ (w : Whose). areaNamed
-    (c7 .args .f .now) w) (sym (c2 .enum-told2 .given .1) ∙ handed (λ (z : ℤ). whoseOf z (countOf (c7 .args .f .now)))
+    (c7 .args .f .now) w) (sym (c2 .enum-told2 .given .1) ∙ handed w32 (λ (z : ℤ). whoseOf z (countOf (c7 .args .f .now)))
     (c7 .args .part) (c7 .fits .part .sfits) (c4 .whose-in .ensures)))
     (λ c.
     let c1 = c .before in
@@ -66,5 +67,5 @@ area-of-spec =
     let c6 = c5 .before in
     let c8 = c6 .before .before in
     area-one _ _ _ _ _ (c6 .is-high .ensures) (c1 .pointer2 .ensures .0) (c .word22 .ensures .0) ∙ ap (λ (w : Whose). areaNamed
-    (c8 .args .f .now) w) (sym (c3 .w .given .1) ∙ handed (λ (z : ℤ). whoseOf z (countOf (c8 .args .f .now))) (c8 .args .part)
+    (c8 .args .f .now) w) (sym (c3 .w .given .1) ∙ handed w32 (λ (z : ℤ). whoseOf z (countOf (c8 .args .f .now))) (c8 .args .part)
     (c8 .fits .part .sfits) (c5 .whose-in .ensures))))

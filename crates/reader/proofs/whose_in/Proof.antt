@@ -2,6 +2,7 @@
 use mathlib.Core.Path.{_∙_}
 use lib.IntN.{ℤ}
 use borrow.Author.Needs.{needs}
+use mir.Syntax.{w32}
 use Rattle.head.specs.HeadLaws.{count-read}
 use Rattle.head.specs.Head.{countOf}
 use Rattle.reader.specs.Questions.{whoseOf}
@@ -17,4 +18,4 @@ whose-in-spec =
     (λ c κs. search needs)
     (λ c. search needs)
     (λ c κs. search needs)
-    (λ c. handed (λ (z : ℤ). whoseOf z (countOf (c .before .before .before .before .args .f .now))) (c .before .before .before .before .args .part) (c .before .before .before .before .fits .part .sfits) (c .named .ensures ∙ rw (count-read _ _ (c .before .before .is-high .ensures) _ (c .before .word2 .ensures .0)))))
+    (λ c. handed w32 (λ (z : ℤ). whoseOf z (countOf (c .before .before .before .before .args .f .now))) (c .before .before .before .before .args .part) (c .before .before .before .before .fits .part .sfits) (c .named .ensures ∙ rw (count-read _ _ (c .before .before .is-high .ensures) _ (c .before .word2 .ensures .0)))))
