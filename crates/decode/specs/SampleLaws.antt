@@ -11,11 +11,12 @@ use lib.IntN.{ℤ, pos, negsuc, negℤ, natAbs, _-ℤ_, _*ℤ_, pos-*ℤ-pos, ne
 use lib.ListN.{length, take, length-take}
 use lib.Dec.{leb, eqb}
 use borrow.Author.Tests.{lt-ltb, le-ltb, le-leb, lt-leb, leb-true, leb-false, eq-eqb, ne-eqb, eqb-true}
-use Rattle.word.specs.Tests.{and-false}
+use Rattle.word.specs.Tests.{and-false, both}
 use Rattle.word.specs.WordLaws.{word-take}
 use Rattle.sample.specs.Needed.{needed, width}
-use Rattle.sample.specs.Run.{valuesFrom, run-same, run-map}
-use Rattle.decode.specs.Sample.{twos, ones, scaled, groupSample, patternOf, sampleOf, integersAsked, integersThere, integersRead, classOf, bitsAsked, bitsThere, patternsRead, classesRead}
+use Rattle.word.specs.Put.{put}
+use Rattle.sample.specs.Run.{valuesFrom, run-same, run-map, Filling, fill-some}
+use Rattle.decode.specs.Sample.{twos, ones, scaled, groupSample, patternOf, sampleOf, reach, integersAsked, integersThere, integersRead, classOf, bitsAsked, bitsThere, patternsRead, classesRead}
 
 -- ---- two's complement
 
@@ -73,6 +74,40 @@ in-group high block i g k e h =
     let q : i / 4 * 10 ≡ 10 * g = omega arith in
     let r : i % 4 ≡ k = omega arith in
     rw (q, r)
+
+-- one more group of a row that is filled
+pub fill-group : {f : ℕ → ℤ} {old row new : List ℤ} (g : ℕ) → Filling f old (4 * g) row → 4 * g + 4 ≤ length old
+    → new ≡ put row (4 * g) (valuesFrom f (4 * g) 4) → Filling f old (4 * (g + 1)) new
+fill-group g r h e = let n : 4 * (g + 1) ≡ 4 * g + 4 = omega arith in rw (n, e) (fill-some 4 r h)
+
+-- ---- one sample of those that are there
+
+-- a block with the needed bytes of s samples reaches each of them
+pub reached : (code s : ℕ) (block : List ℕ) (i : ℕ) → integersThere code s block ≡ true → i < s → reach code i ≤ length block
+unfolding integersThere reach needed
+reached zero s block i h l = omega arith
+reached (suc zero) s block i h l = omega (arith, leb-true (2 * s) (length block) h)
+reached (suc (suc zero)) s block i h l = omega (arith, leb-true (4 * s) (length block) h)
+reached (suc (suc (suc zero))) s block i h l =
+    let b = both (eqb (s % 4) 0) (leb (10 * s / 4) (length block)) h in
+    let w : s % 4 ≡ 0 = eqb-true (s % 4) 0 (b .0) in
+    let m : 10 * s / 4 ≡ 10 * (s / 4) = omega arith in
+    let g : i / 4 < s / 4 = omega arith in
+    omega (arith, leb-true (10 * s / 4) (length block) (b .1))
+reached (suc (suc (suc (suc zero)))) s block i h l = omega arith
+reached (suc (suc (suc (suc (suc zero))))) s block i h l = omega arith
+reached (suc (suc (suc (suc (suc (suc code)))))) s block i h l = omega arith
+
+-- no other code has a sample
+pub no-sample : (code : ℕ) (high : Bool) (block : List ℕ) (i : ℕ) → (code ≡ 1 → ⊥) → (code ≡ 2 → ⊥) → (code ≡ 3 → ⊥) → sampleOf code high block i ≡ pos 0
+unfolding sampleOf
+no-sample zero high block i h1 h2 h3 = refl
+no-sample (suc zero) high block i h1 h2 h3 = absurd (h1 refl)
+no-sample (suc (suc zero)) high block i h1 h2 h3 = absurd (h2 refl)
+no-sample (suc (suc (suc zero))) high block i h1 h2 h3 = absurd (h3 refl)
+no-sample (suc (suc (suc (suc zero)))) high block i h1 h2 h3 = refl
+no-sample (suc (suc (suc (suc (suc zero))))) high block i h1 h2 h3 = refl
+no-sample (suc (suc (suc (suc (suc (suc code)))))) high block i h1 h2 h3 = refl
 
 -- ---- only the needed bytes count: "D may exceed this; the rest is ignored" (document 01, "The trace block")
 

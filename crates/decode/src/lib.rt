@@ -2,14 +2,15 @@
 // Sample has the definitions, Classes holds the classes against IEEE 754. `high` says that the high byte comes first. Stands on `sample`, `word`.
 // The rules in words: docs/FORMAT.md, "Samples".
 ghost use mathlib.Core.Path.{_≡_};
+ghost use mathlib.Core.Bool.{true, false};
 ghost use mathlib.Core.List.{map};
-ghost use Prim.Native.Nat.{_+_, _*_, _%_, _≤_, _<_};
+ghost use Prim.Native.Nat.{_+_, _*_, _/_, _%_, _≤_, _<_};
 ghost use lib.ListN.{length};
 ghost use Rattle.word.specs.Put.{put};
 ghost use Rattle.word.specs.Word.{wordAt};
 ghost use Rattle.sample.specs.Needed.{needed};
 ghost use Rattle.sample.specs.Run.{valuesFrom};
-ghost use Rattle.decode.specs.Sample.{twos, exponentIn, ones, scaled, groupSample, patternOf, sampleOf, integersThere, integersRead};
+ghost use Rattle.decode.specs.Sample.{twos, exponentIn, ones, scaled, groupSample, patternOf, sampleOf, reach, integersThere, integersRead};
 ghost use Rattle.decode.specs.Sample.{classOf, bitsThere, patternsRead, classesRead};
 
 // The whole number of two bytes at a place.
@@ -60,6 +61,22 @@ fn twos32(n: u32) -> i32
     }
 }
 
+// Sample i of code 1.
+fn sample1(block: &[u8], high: bool, i: usize) -> i32
+    requires { ⌜ 2 * i + 2 ≤ length (now block) ⌝ }
+    ensures { λ r. ⌜ r ≡ sampleOf 1 high (now (block .entry)) i ⌝ }
+{
+    twos16(word_at(block, high, 2 * i)) as i32
+}
+
+// Of code 2.
+fn sample2(block: &[u8], high: bool, i: usize) -> i32
+    requires { ⌜ 4 * i + 4 ≤ length (now block) ⌝ }
+    ensures { λ r. ⌜ r ≡ sampleOf 2 high (now (block .entry)) i ⌝ }
+{
+    twos32(word4_at(block, high, 4 * i))
+}
+
 // Fills the row with samples of code 1. Where the block is too short for it: false, and nothing is written.
 pub fn read1(block: &[u8], high: bool, row: &mut [i32]) -> bool
     ensures answer { λ r. ⌜ r ≡ integersThere 1 (length (now (row .entry))) (now (block .entry)) ⌝ }
@@ -70,7 +87,7 @@ pub fn read1(block: &[u8], high: bool, row: &mut [i32]) -> bool
     }
     let mut i = 0;
     while i < row.len() {
-        row[i] = twos16(word_at(block, high, 2 * i)) as i32;
+        row[i] = sample1(block, high, i);
         i += 1;
     }
     true
@@ -86,7 +103,7 @@ pub fn read2(block: &[u8], high: bool, row: &mut [i32]) -> bool
     }
     let mut i = 0;
     while i < row.len() {
-        row[i] = twos32(word4_at(block, high, 4 * i));
+        row[i] = sample2(block, high, i);
         i += 1;
     }
     true
@@ -132,6 +149,16 @@ fn group_sample(block: &[u8], high: bool, at: usize, exponents: u16, k: u16) -> 
     )
 }
 
+// Sample i of code 3, in its group.
+fn sample3(block: &[u8], high: bool, i: usize) -> i32
+    requires { ⌜ i / 4 * 10 + 10 ≤ length (now block) ⌝ }
+    ensures { λ r. ⌜ r ≡ sampleOf 3 high (now (block .entry)) i ⌝ }
+{
+    let at = i / 4 * 10;
+    let exponents = word_at(block, high, at);
+    group_sample(block, high, at, exponents, (i % 4) as u16)
+}
+
 // The four samples of group g: all are at hand before one is stored, so that a compiler can work them out together.
 fn read_group(block: &[u8], high: bool, g: usize, row: &mut [i32])
     requires { ⌜ (10 * g + 10 ≤ length (now block)) × (4 * g + 4 ≤ length (now row)) ⌝ }
@@ -153,21 +180,34 @@ fn read_group(block: &[u8], high: bool, g: usize, row: &mut [i32])
     row[i3] = d;
 }
 
-// All groups of a row.
-fn read_groups(block: &[u8], high: bool, row: &mut [i32])
+// All groups of a row, low byte first. There is a loop for each order: what is known of the order in its body is settled when it is compiled, where
+// the body of one loop for both is too long for the compiler to do so.
+fn read_low(block: &[u8], row: &mut [i32])
     requires { ⌜ (length (now row) % 4 ≡ 0) × (needed 3 (length (now row)) ≤ length (now block)) ⌝ }
-    ensures { λ _. ⌜ now (row .exit) ≡ valuesFrom (sampleOf 3 high (now (block .entry))) 0 (length (now (row .entry))) ⌝ }
+    ensures { λ _. ⌜ now (row .exit) ≡ valuesFrom (sampleOf 3 false (now (block .entry))) 0 (length (now (row .entry))) ⌝ }
 {
     let count = row.len() / 4;
     let mut g = 0;
     while g < count {
-        read_group(block, high, g, row);
+        read_group(block, false, g, row);
         g += 1;
     }
 }
 
-// The same of code 3. A row that is no number of whole groups is refused as well. The order is settled outside of the loop, whose body is too long for
-// the compiler to do so.
+// High byte first.
+fn read_high(block: &[u8], row: &mut [i32])
+    requires { ⌜ (length (now row) % 4 ≡ 0) × (needed 3 (length (now row)) ≤ length (now block)) ⌝ }
+    ensures { λ _. ⌜ now (row .exit) ≡ valuesFrom (sampleOf 3 true (now (block .entry))) 0 (length (now (row .entry))) ⌝ }
+{
+    let count = row.len() / 4;
+    let mut g = 0;
+    while g < count {
+        read_group(block, true, g, row);
+        g += 1;
+    }
+}
+
+// The same of code 3. A row that is no number of whole groups is refused as well.
 pub fn read3(block: &[u8], high: bool, row: &mut [i32]) -> bool
     ensures answer { λ r. ⌜ r ≡ integersThere 3 (length (now (row .entry))) (now (block .entry)) ⌝ }
     ensures filled { λ _. ⌜ now (row .exit) ≡ integersRead 3 high (now (block .entry)) (now (row .entry)) ⌝ }
@@ -179,11 +219,24 @@ pub fn read3(block: &[u8], high: bool, row: &mut [i32]) -> bool
         return false;
     }
     if high {
-        read_groups(block, true, row);
+        read_high(block, row);
         return true;
     }
-    read_groups(block, false, row);
+    read_low(block, row);
     true
+}
+
+// One sample by the code, of those that the block reaches (`reached` says which). 0 for a code of bits, and for what is no code.
+pub fn sample_at(code: u8, block: &[u8], high: bool, i: usize) -> i32
+    requires { ⌜ reach code i ≤ length (now block) ⌝ }
+    ensures { λ r. ⌜ r ≡ sampleOf code high (now (block .entry)) i ⌝ }
+{
+    match code {
+        1 => sample1(block, high, i),
+        2 => sample2(block, high, i),
+        3 => sample3(block, high, i),
+        _ => 0,
+    }
 }
 
 // Integers by the code: false for a code of bits, and for what is no code.

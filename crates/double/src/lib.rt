@@ -9,7 +9,7 @@ use refusal::Refusal;
 use refusal::Rule;
 ghost use mathlib.Core.Path.{_≡_};
 ghost use Prim.Native.Nat.{_^_, _<_, _≤_};
-ghost use lib.IntN.{pos, natAbs};
+ghost use lib.IntN.{pos};
 ghost use lib.ListN.{length};
 ghost use lib.Signed.{ltZ};
 ghost use Rattle.decimal.specs.Run.{isOf};
@@ -82,13 +82,7 @@ fn with_sign(minus: bool, x: f64) -> f64
     if minus { -x } else { x }
 }
 
-// How far a power is from 0, and whether it is below.
-fn magnitude(z: i32) -> u32
-    ensures { λ r. ⌜ r ≡ natAbs z ⌝ }
-{
-    if z < 0 { (!z) as u32 + 1 } else { z as u32 }
-}
-
+// Whether a power is below 0.
 fn below_zero(z: i32) -> bool
     ensures { λ r. ⌜ r ≡ ltZ z (pos 0) ⌝ }
 {
@@ -119,7 +113,7 @@ fn double_from(n: Decimal) -> DoubleAnswer
     if 9007199254740991 < c {
         return no_double();
     }
-    let k = magnitude(power) as usize;
+    let k = word::magnitude(power) as usize;
     if 15 < k {
         return no_double();
     }

@@ -253,15 +253,22 @@ write-turn {left} {w} {old} {i} {part} {new} bs r e l q =
       rest = ap₂ (λ (p : List ℕ) (k : ℕ). put p k (left (i + 1))) q m ∙ s ∙ r .rest;
     }
 
--- nothing is left, and zeros follow up to a multiple of 4
+-- nothing is left
+pub write-over : {left : ℕ → List ℕ} {w : ℕ} {old : List ℕ} {i : ℕ} {part : List ℕ} → Writing left w old i part → left i ≡ [] → part ≡ put old 0 (left 0)
+write-over {left} {w} {old} {i} {part} r e = sym (put-none part (w * i)) ∙ ap (put part (w * i)) (sym e) ∙ r .rest
+
+-- zeros follow up to a multiple of 4
+pub zeros-end : {part : List ℕ} (old bs : List ℕ) (end to : ℕ) → part ≡ put old 0 bs → length bs ≡ end → to ≡ round4 end
+    → put part end (replicate (to - end) 0) ≡ put old 0 (filledUp bs)
+unfolding filledUp
+zeros-end old bs end to p l t =
+    let z : 0 + length bs ≡ length bs = omega arith in
+    rw (t, ← l, put-append bs (replicate (round4 (length bs) - length bs) 0) old 0, z, ← p)
+
 pub write-end : {left : ℕ → List ℕ} {w : ℕ} {old : List ℕ} {i : ℕ} {part : List ℕ} (end to : ℕ)
     → Writing left w old i part → left i ≡ [] → length (left 0) ≡ end → to ≡ round4 end
     → put part end (replicate (to - end) 0) ≡ put old 0 (filledUp (left 0))
-unfolding filledUp
-write-end {left} {w} {old} {i} {part} end to r e l t =
-    let p : part ≡ put old 0 (left 0) = sym (put-none part (w * i)) ∙ ap (put part (w * i)) (sym e) ∙ r .rest in
-    let z : 0 + length (left 0) ≡ length (left 0) = omega arith in
-    rw (t, ← l, put-append (left 0) (replicate (round4 (length (left 0)) - length (left 0)) 0) old 0, z, ← p)
+write-end {left} {w} {old} end to r e l t = zeros-end old (left 0) end to (write-over r e) l t
 
 -- what is left of a row, sample by sample and group by group
 pub flat-turn : {A : Type 0} (f : A → List ℕ) (d : A) (xs : List A) (i : ℕ) → i < length xs → flat f (drop i xs) ≡ f (getD xs i d) ++ flat f (drop (i + 1) xs)

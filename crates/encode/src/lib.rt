@@ -2,6 +2,7 @@
 // Unfit and Write have the definitions; Back and Cut say what is read back: the samples, or code 3's nearest towards 0. Stands on `decode`, `sample`, `word`.
 // The rules in words: docs/FORMAT.md, "Samples".
 ghost use mathlib.Core.Path.{_≡_};
+ghost use mathlib.Core.Bool.{true, false};
 ghost use Prim.Native.Nat.{_+_, _*_, _%_, _≤_, _<_};
 ghost use lib.IntN.{natAbs};
 ghost use lib.ListN.{length};
@@ -10,7 +11,7 @@ ghost use Rattle.word.specs.Word.{bytesOf};
 ghost use Rattle.sample.specs.Needed.{room};
 ghost use Rattle.encode.specs.Unfit.{firstFrom, any, outside, unfitIntegers, unfitPattern, unfitPatterns};
 ghost use Rattle.encode.specs.WriteLaws.{Told, Coded};
-ghost use Rattle.encode.specs.Write.{residue, wordsOf, groupOf, integersData, bitsData};
+ghost use Rattle.encode.specs.Write.{residue, wordsOf, groupOf, groups, integersData, bitsData};
 
 // ---- the sample that a code cannot hold
 
@@ -205,13 +206,6 @@ pub fn write5(row: &[u64], high: bool, part: &mut [u8])
     word::zeros(part, end, word::round_up(end));
 }
 
-// How far a sample is from 0.
-fn magnitude(v: i32) -> u32
-    ensures { λ r. ⌜ r ≡ natAbs v ⌝ }
-{
-    if v < 0 { (!v) as u32 + 1 } else { v as u32 }
-}
-
 // The smallest exponent that brings a magnitude to at most 32,767, found from its leading zeros: 17 of them leave 15 bits. The low 15 bits count as set,
 // so that a magnitude of fewer bits has 17 too, and no test is made.
 fn exponent(n: u32) -> u32
@@ -232,7 +226,7 @@ fn float20_of(v: i32) -> Float20
     requires { ⌜ natAbs v < 1073741824 ⌝ }
     ensures { λ r. ⌜ Coded v (r .exponent) (r .mantissa) ⌝ }
 {
-    let n = magnitude(v);
+    let n = word::magnitude(v);
     let e = exponent(n);
     let t = (n >> e) as u16;
     if v < 0 {
@@ -295,29 +289,49 @@ fn write_group(row: &[i32], high: bool, g: usize, part: &mut [u8])
     );
 }
 
-// The groups of a row, and zeros up to a multiple of 4.
-fn write_groups(row: &[i32], high: bool, part: &mut [u8])
+// The groups of a row, low byte first. There is a loop for each order, as `decode` has it.
+fn write_low(row: &[i32], part: &mut [u8])
     requires { ⌜ (room 3 (length (now row)) ≤ length (now part)) × (length (now row) % 4 ≡ 0) × (unfitIntegers 3 (now row) ≡ Fit.All) ⌝ }
-    ensures { λ _. ⌜ now (part .exit) ≡ put (now (part .entry)) 0 (integersData 3 high (now (row .entry))) ⌝ }
+    ensures { λ _. ⌜ now (part .exit) ≡ put (now (part .entry)) 0 (groups false (now (row .entry))) ⌝ }
 {
     let count = row.len() / 4;
     let mut g = 0;
     while g < count {
-        write_group(row, high, g, part);
+        write_group(row, false, g, part);
         g += 1;
     }
-    let end = 10 * count;
-    word::zeros(part, end, word::round_up(end));
 }
 
-// The data block of code 3. The order is settled outside of the loop, whose body is too long for the compiler to do so.
+// High byte first.
+fn write_high(row: &[i32], part: &mut [u8])
+    requires { ⌜ (room 3 (length (now row)) ≤ length (now part)) × (length (now row) % 4 ≡ 0) × (unfitIntegers 3 (now row) ≡ Fit.All) ⌝ }
+    ensures { λ _. ⌜ now (part .exit) ≡ put (now (part .entry)) 0 (groups true (now (row .entry))) ⌝ }
+{
+    let count = row.len() / 4;
+    let mut g = 0;
+    while g < count {
+        write_group(row, true, g, part);
+        g += 1;
+    }
+}
+
+fn write_groups(row: &[i32], high: bool, part: &mut [u8])
+    requires { ⌜ (room 3 (length (now row)) ≤ length (now part)) × (length (now row) % 4 ≡ 0) × (unfitIntegers 3 (now row) ≡ Fit.All) ⌝ }
+    ensures { λ _. ⌜ now (part .exit) ≡ put (now (part .entry)) 0 (groups high (now (row .entry))) ⌝ }
+{
+    if high {
+        write_high(row, part);
+        return;
+    }
+    write_low(row, part);
+}
+
+// The data block of code 3: the groups, and zeros up to a multiple of 4.
 pub fn write3(row: &[i32], high: bool, part: &mut [u8])
     requires { ⌜ (room 3 (length (now row)) ≤ length (now part)) × (length (now row) % 4 ≡ 0) × (unfitIntegers 3 (now row) ≡ Fit.All) ⌝ }
     ensures { λ _. ⌜ now (part .exit) ≡ put (now (part .entry)) 0 (integersData 3 high (now (row .entry))) ⌝ }
 {
-    if high {
-        write_groups(row, true, part);
-        return;
-    }
-    write_groups(row, false, part);
+    write_groups(row, high, part);
+    let end = 10 * (row.len() / 4);
+    word::zeros(part, end, word::round_up(end));
 }

@@ -87,3 +87,29 @@ shifts w (negsuc n) e h =
 pub minus-size : (z : ℤ) → ltZ z (pos 0) ≡ true → natAbs z ≡ mag z + 1
 minus-size (pos n) t = let l = ltb-true n 0 t in omega arith
 minus-size (negsuc n) t = omega arith
+
+-- ---- the same at 64 bits, with its numbers written out: a sum of samples is such a number
+
+kept64 : (z : ℤ) → mag z < 9223372036854775808 → toZ w64 (ofZ w64 z) ≡ z
+kept64 = kept w64
+
+handed64 : (z y : ℤ) → mag z < 9223372036854775808 → y ≡ negℤ (toZ w64 (ofZ w64 z)) → y ≡ negℤ z
+handed64 z y = handed w64 negℤ z
+
+sign64 : (z : ℤ) → mag z < 9223372036854775808 → ltZ (toZ w64 (ofZ w64 z)) (pos 0) ≡ true → ltZ z (pos 0) ≡ true
+sign64 z = sign w64 z
+
+flips64 : (z : ℤ) → mag z < 9223372036854775808 → ltZ z (pos 0) ≡ true → toZ w64 (18446744073709551615 - ofZ w64 z) ≡ pos (mag z)
+flips64 = flips w64
+
+plus-size64 : (z : ℤ) → mag z < 9223372036854775808 → ltZ z (pos 0) ≡ false → T (nonNeg z) × Fits w64 (natAbs z)
+plus-size64 = plus-size w64
+
+negates64 : (n : ℕ) → n < 9223372036854775808 → SFits w64 (pos 0 -ℤ toZ w64 n)
+negates64 = negates w64
+
+negated64 : (n : ℕ) → n < 9223372036854775808 → toZ w64 (ofZ w64 (pos 0 -ℤ toZ w64 n)) ≡ negℤ (pos n)
+negated64 = negated w64
+
+shifts64 : (z : ℤ) (e : ℕ) → natAbs z * 2 ^ e < 9223372036854775808 → toZ w64 (ofZ w64 z * 2 ^ e % 18446744073709551616) ≡ z *ℤ pos (2 ^ e)
+shifts64 = shifts w64

@@ -1,15 +1,22 @@
--- `encode::write3` meets its contract. Each order is written by itself. Assumes nothing.
+-- `encode::write3` meets its contract. Zeros follow the groups. Assumes nothing.
+use mathlib.Core.Path.{_∙_}
+use native.Mathlib.Omega.{arith}
 use borrow.Author.Needs.{needs}
+use Rattle.word.specs.Put.{length-put}
+use Rattle.sample.specs.Needed.{needed, room}
+use Rattle.encode.specs.Write.{groups, integersData}
+use Rattle.encode.specs.WriteLaws.{zeros-end, length-groups}
 use Rattle.encode.proofs.write3.Statement.{statement}
 use Rattle.encode.proofs.write3.Tie as tie
 
 pub write3-spec : {M : Type 1} → statement M
+unfolding room needed integersData
 write3-spec =
     tie.close
     (tie.spec
     (λ c κs. search needs)
     (λ c. search needs)
-    (λ c. rw (c .before .before .before .before .if1 .taken) (c .before .before .write-groups .ensures))
     (λ c κs. search needs)
+    (λ c κs. rw (c .before .before .before .before .write-groups .ensures, length-put) (omega arith))
     (λ c. search needs)
-    (λ c. rw (c .before .before .before .before .if1 .left) (c .before .before .write-groups2 .ensures)))
+    (λ c. c .before .before .zeros .ensures ∙ zeros-end _ (groups _ _) _ _ (c .before .before .before .before .before .before .before .write-groups .ensures) (length-groups _ _) (c .before .before .before .round-up .ensures)))

@@ -1,12 +1,12 @@
--- `double::magnitude` meets its contract. Below zero, the flipped bits are one less than the magnitude, for the least number too.
+-- `word::magnitude` meets its contract. Below zero, the flipped bits are one less than the magnitude, for the least number too.
 -- Assumes nothing.
 use mathlib.Core.Path.{sym}
 use native.Mathlib.Omega.{arith}
 use mir.Syntax.{w32}
 use Rattle.word.specs.Signed.{kept, sign, flips, minus-size, plus-size}
 use borrow.Author.Needs.{needs}
-use Rattle.double.proofs.magnitude.Statement.{statement}
-use Rattle.double.proofs.magnitude.Tie as tie
+use Rattle.word.proofs.magnitude.Statement.{statement}
+use Rattle.word.proofs.magnitude.Tie as tie
 
 pub magnitude-spec : {M : Type 1} → statement M
 magnitude-spec =
