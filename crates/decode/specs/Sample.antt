@@ -47,8 +47,8 @@ sampleOf code high block i =
     byCode (twos 32768 (patternOf 1 high block i)) (twos 2147483648 (patternOf 2 high block i)) (groupSample high block (i / 4 * 10) (i % 4)) (pos 0) (pos 0) (pos 0) code
 
 -- where the bytes end that sample i is made of; under code 3 they are its group's
-unfoldable pub reach : ℕ → ℕ → ℕ
-reach code i = byCode (2 * i + 2) (4 * i + 4) (i / 4 * 10 + 10) 0 0 0 code
+unfoldable pub sampleEnd : ℕ → ℕ → ℕ
+sampleEnd code i = byCode (2 * i + 2) (4 * i + 4) (i / 4 * 10 + 10) 0 0 0 code
 
 -- s samples can be asked for as integers: the code is one of integers, and under code 3 they are whole groups
 abbrev pub integersAsked : ℕ → ℕ → Bool

@@ -16,7 +16,7 @@ use Rattle.word.specs.WordLaws.{word-take}
 use Rattle.sample.specs.Needed.{needed, width}
 use Rattle.word.specs.Put.{put}
 use Rattle.sample.specs.Run.{valuesFrom, run-same, run-map, Filling, fill-some}
-use Rattle.decode.specs.Sample.{twos, ones, scaled, groupSample, patternOf, sampleOf, reach, integersAsked, integersThere, integersRead, classOf, bitsAsked, bitsThere, patternsRead, classesRead}
+use Rattle.decode.specs.Sample.{twos, ones, scaled, groupSample, patternOf, sampleOf, sampleEnd, integersAsked, integersThere, integersRead, classOf, bitsAsked, bitsThere, patternsRead, classesRead}
 
 -- ---- two's complement
 
@@ -82,21 +82,21 @@ fill-group g r h e = let n : 4 * (g + 1) ≡ 4 * g + 4 = omega arith in rw (n, e
 
 -- ---- one sample of those that are there
 
--- a block with the needed bytes of s samples reaches each of them
-pub reached : (code s : ℕ) (block : List ℕ) (i : ℕ) → integersThere code s block ≡ true → i < s → reach code i ≤ length block
-unfolding integersThere reach needed
-reached zero s block i h l = omega arith
-reached (suc zero) s block i h l = omega (arith, leb-true (2 * s) (length block) h)
-reached (suc (suc zero)) s block i h l = omega (arith, leb-true (4 * s) (length block) h)
-reached (suc (suc (suc zero))) s block i h l =
+-- a block with the needed bytes of s samples has those of each
+pub sample-inside : (code s : ℕ) (block : List ℕ) (i : ℕ) → integersThere code s block ≡ true → i < s → sampleEnd code i ≤ length block
+unfolding integersThere sampleEnd needed
+sample-inside zero s block i h l = omega arith
+sample-inside (suc zero) s block i h l = omega (arith, leb-true (2 * s) (length block) h)
+sample-inside (suc (suc zero)) s block i h l = omega (arith, leb-true (4 * s) (length block) h)
+sample-inside (suc (suc (suc zero))) s block i h l =
     let b = both (eqb (s % 4) 0) (leb (10 * s / 4) (length block)) h in
     let w : s % 4 ≡ 0 = eqb-true (s % 4) 0 (b .0) in
     let m : 10 * s / 4 ≡ 10 * (s / 4) = omega arith in
     let g : i / 4 < s / 4 = omega arith in
     omega (arith, leb-true (10 * s / 4) (length block) (b .1))
-reached (suc (suc (suc (suc zero)))) s block i h l = omega arith
-reached (suc (suc (suc (suc (suc zero))))) s block i h l = omega arith
-reached (suc (suc (suc (suc (suc (suc code)))))) s block i h l = omega arith
+sample-inside (suc (suc (suc (suc zero)))) s block i h l = omega arith
+sample-inside (suc (suc (suc (suc (suc zero))))) s block i h l = omega arith
+sample-inside (suc (suc (suc (suc (suc (suc code)))))) s block i h l = omega arith
 
 -- no other code has a sample
 pub no-sample : (code : ℕ) (high : Bool) (block : List ℕ) (i : ℕ) → (code ≡ 1 → ⊥) → (code ≡ 2 → ⊥) → (code ≡ 3 → ⊥) → sampleOf code high block i ≡ pos 0

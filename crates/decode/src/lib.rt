@@ -10,7 +10,7 @@ ghost use Rattle.word.specs.Put.{put};
 ghost use Rattle.word.specs.Word.{wordAt};
 ghost use Rattle.sample.specs.Needed.{needed};
 ghost use Rattle.sample.specs.Run.{valuesFrom};
-ghost use Rattle.decode.specs.Sample.{twos, exponentIn, ones, scaled, groupSample, patternOf, sampleOf, reach, integersThere, integersRead};
+ghost use Rattle.decode.specs.Sample.{twos, exponentIn, ones, scaled, groupSample, patternOf, sampleOf, sampleEnd, integersThere, integersRead};
 ghost use Rattle.decode.specs.Sample.{classOf, bitsThere, patternsRead, classesRead};
 
 // The whole number of two bytes at a place.
@@ -226,9 +226,9 @@ pub fn read3(block: &[u8], high: bool, row: &mut [i32]) -> bool
     true
 }
 
-// One sample by the code, of those that the block reaches (`reached` says which). 0 for a code of bits, and for what is no code.
+// One sample by the code, of those that lie in the block (`sample-inside` says which). 0 for a code of bits, and for what is no code.
 pub fn sample_at(code: u8, block: &[u8], high: bool, i: usize) -> i32
-    requires { ⌜ reach code i ≤ length (now block) ⌝ }
+    requires { ⌜ sampleEnd code i ≤ length (now block) ⌝ }
     ensures { λ r. ⌜ r ≡ sampleOf code high (now (block .entry)) i ⌝ }
 {
     match code {

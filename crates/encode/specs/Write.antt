@@ -29,10 +29,14 @@ fixedBytes w high z = bytesOf w high (residue (256 ^ w) z)
 
 -- ---- code 3
 
--- the first exponent from e on that brings n to at most 32,767; where `left` more are not enough, the last of them
+-- the greatest mantissa: "at most 32,767"
+abbrev pub mantissaMost : ℕ
+mantissaMost = 32767
+
+-- the first exponent from e on that brings n to it; where `left` more are not enough, the last of them
 unfoldable pub smallest : ℕ → ℕ → ℕ → ℕ
 smallest zero e n = e
-smallest (suc left) e n = cond (leb (n / 2 ^ e) 32767) e (smallest left (e + 1) n)
+smallest (suc left) e n = cond (leb (n / 2 ^ e) mantissaMost) e (smallest left (e + 1) n)
 
 -- "the exponent is the smallest .. that brings it to at most 32,767; low bits are cut toward zero"
 unfoldable pub exponentOf : ℤ → ℕ

@@ -21,7 +21,7 @@ use Rattle.word.specs.Round.{round4}
 use Rattle.word.specs.Word.{lowBytes, bytesOf}
 use Rattle.word.specs.WordLaws.{length-bytesOf}
 use Rattle.encode.specs.Unfit.{unfitInteger, unfitIntegers, all-good}
-use Rattle.encode.specs.Write.{flat, residue, smallest, exponentOf, mantissaOf, onesBits, exponentsOf, wordsOf, groupBytes, groupOf, groups, filledUp}
+use Rattle.encode.specs.Write.{flat, residue, mantissaMost, smallest, exponentOf, mantissaOf, onesBits, exponentsOf, wordsOf, groupBytes, groupOf, groups, filledUp}
 use Rattle.encode.specs.declared.Fit.the-variants.{All}
 
 -- ---- two's complement
@@ -52,29 +52,29 @@ bytes-low4 false n = low4 n
 
 -- ---- the exponent
 
--- e is the smallest exponent that brings n to at most 32,767
+-- e is the smallest exponent that brings n to at most the greatest mantissa
 pub record Smallest (n e : ℕ) : Type 0 where
-  pub fits : n / 2 ^ e ≤ 32767
-  pub least : (k : ℕ) → k < e → 32767 < n / 2 ^ k
+  pub fits : n / 2 ^ e ≤ mantissaMost
+  pub least : (k : ℕ) → k < e → mantissaMost < n / 2 ^ k
 
-pub no-less : (n a b : ℕ) → n / 2 ^ a ≤ 32767 → ((k : ℕ) → k < b → 32767 < n / 2 ^ k) → b ≤ a
+pub no-less : (n a b : ℕ) → n / 2 ^ a ≤ mantissaMost → ((k : ℕ) → k < b → mantissaMost < n / 2 ^ k) → b ≤ a
 no-less n a b f g = by-contra b a (λ l. (let r = g a l in omega arith))
 
 -- the search finds it, if it is among those that are looked at
 smallest-is : (left e n s : ℕ) → Smallest n s → e ≤ s → s ≤ e + left → smallest left e n ≡ s
 unfolding smallest
 smallest-is zero e n s r h k = omega arith
-smallest-is (suc left) e n s r h k = go (leb (n / 2 ^ e) 32767) refl (λ l. smallest-is left (e + 1) n s r l (omega arith))
+smallest-is (suc left) e n s r h k = go (leb (n / 2 ^ e) mantissaMost) refl (λ l. smallest-is left (e + 1) n s r l (omega arith))
   where
-    go : (t : Bool) → leb (n / 2 ^ e) 32767 ≡ t → (e + 1 ≤ s → smallest left (e + 1) n ≡ s) → cond t e (smallest left (e + 1) n) ≡ s
-    go true q f = let l = no-less n e s (leb-true (n / 2 ^ e) 32767 q) (r .least) in omega arith
+    go : (t : Bool) → leb (n / 2 ^ e) mantissaMost ≡ t → (e + 1 ≤ s → smallest left (e + 1) n ≡ s) → cond t e (smallest left (e + 1) n) ≡ s
+    go true q f = let l = no-less n e s (leb-true (n / 2 ^ e) mantissaMost q) (r .least) in omega arith
     go false q f =
         f
         (by-contra (e + 1) s
         (λ m.
         (let z : e ≡ s = omega arith in
-        let t : n / 2 ^ e ≤ 32767 = rw z (r .fits) in
-        omega (arith, leb-false (n / 2 ^ e) 32767 q))))
+        let t : n / 2 ^ e ≤ mantissaMost = rw z (r .fits) in
+        omega (arith, leb-false (n / 2 ^ e) mantissaMost q))))
 
 -- n with its low 15 bits set
 filled : (n : ℕ) → bitOr n 32767 ≡ n + 32767 - n % 32768
@@ -104,7 +104,7 @@ told n h =
 pub record Told (n e : ℕ) : Type 0 where
   pub is : e ≡ smallest 15 0 n
   pub small : e < 16
-  pub fits : n / 2 ^ e ≤ 32767
+  pub fits : n / 2 ^ e ≤ mantissaMost
 
 pub zeros-most : (n : ℕ) → n < 1073741824 → leadingZeros 32 (bitOr n 32767) ≤ 17
 zeros-most n h = told n h .1 .1

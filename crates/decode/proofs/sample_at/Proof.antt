@@ -3,13 +3,13 @@ use mathlib.Core.Path.{sym, _∙_}
 use borrow.Author.Needs.{needs}
 use mir.Syntax.{w32}
 use Rattle.word.specs.Signed.{kept}
-use Rattle.decode.specs.Sample.{reach}
+use Rattle.decode.specs.Sample.{sampleEnd}
 use Rattle.decode.specs.SampleLaws.{no-sample}
 use Rattle.decode.proofs.sample_at.Statement.{statement}
 use Rattle.decode.proofs.sample_at.Tie as tie
 
 pub sample-at-spec : {M : Type 1} → statement M
-unfolding reach
+unfolding sampleEnd
 sample-at-spec =
     tie.close
     (tie.spec
