@@ -44,11 +44,13 @@ pub one-at-most : (b : Bool) → boolByte b ≤ 1
 one-at-most true = omega arith
 one-at-most false = omega arith
 
--- how many of four bounds m has passed: 0, the largest fraction f - 1, the largest number t - 1, and t, which is infinity
+-- how many of four bounds m has passed: 0, the largest fraction f - 1, the largest number t - 1, and t, which is
+-- infinity
 abbrev pub passed : ℕ → ℕ → ℕ → ℕ
 passed f t m = boolByte (ltb 0 m) + boolByte (ltb (f - 1) m) + boolByte (ltb (t - 1) m) + boolByte (ltb t m)
 
--- the bits behind the sign are one number, the exponent x above a fraction y that is below f; o is the exponent whose bits are all 1. For any width
+-- the bits behind the sign are one number, the exponent x above a fraction y that is below f; o is the exponent whose
+-- bits are all 1. For any width
 module _ (o f x y m : ℕ) (some : 0 < o) (fraction : y < f) (most : x ≤ o) (e : m ≡ x * f + y) where
   low-exponent : x ≡ 0 → passed f (o * f) m ≡ classBy o x y
   unfolding classBy
@@ -56,7 +58,10 @@ module _ (o f x y m : ℕ) (some : 0 < o) (fraction : y < f) (most : x ≤ o) (e
       let one : 1 * f ≤ o * f = mul-le-mul-right f some in
       let z : x * f ≡ 0 = rw h (omega arith) in
       rw (le-ltb (f - 1) m (omega arith), le-ltb (o * f - 1) m (omega arith), le-ltb (o * f) m (omega arith), eq-eqb x 0 h)
-      (elim (decLe y 0) [ yes k ↦ rw (le-ltb 0 m (omega arith), eq-eqb y 0 (omega arith)) | no k ↦ (let l = lt-of-not-le k in rw (lt-ltb 0 m (omega arith), ne-eqb y 0 (omega arith))) ])
+      (elim (decLe y 0) [
+        | yes k ↦ rw (le-ltb 0 m (omega arith), eq-eqb y 0 (omega arith))
+        | no k ↦ (let l = lt-of-not-le k in rw (lt-ltb 0 m (omega arith), ne-eqb y 0 (omega arith)))
+      ])
 
   between : 0 < x → x < o → passed f (o * f) m ≡ classBy o x y
   unfolding classBy
@@ -79,8 +84,14 @@ module _ (o f x y m : ℕ) (some : 0 < o) (fraction : y < f) (most : x ≤ o) (e
       let one : 1 * f ≤ o * f = mul-le-mul-right f some in
       let same : x * f ≡ o * f = rw h in
       rw (lt-ltb 0 m (omega arith), lt-ltb (f - 1) m (omega arith), lt-ltb (o * f - 1) m (omega arith), ne-eqb x 0 (omega arith), eq-eqb x o h)
-      (elim (decLe y 0) [ yes k ↦ rw (le-ltb (o * f) m (omega arith), eq-eqb y 0 (omega arith)) | no k ↦ (let l = lt-of-not-le k in rw (lt-ltb (o * f) m (omega arith), ne-eqb y 0 (omega arith))) ])
+      (elim (decLe y 0) [
+        | yes k ↦ rw (le-ltb (o * f) m (omega arith), eq-eqb y 0 (omega arith))
+        | no k ↦ (let l = lt-of-not-le k in rw (lt-ltb (o * f) m (omega arith), ne-eqb y 0 (omega arith)))
+      ])
 
   pub class-passed : passed f (o * f) m ≡ classBy o x y
   class-passed =
-      elim (decLe x 0) [ yes h ↦ low-exponent (omega arith) | no h ↦ elim (decLe o x) [ yes k ↦ all-ones (omega arith) | no k ↦ between (lt-of-not-le h) (lt-of-not-le k) ] ]
+      elim (decLe x 0) [
+        | yes h ↦ low-exponent (omega arith)
+        | no h ↦ elim (decLe o x) [ yes k ↦ all-ones (omega arith) | no k ↦ between (lt-of-not-le h) (lt-of-not-le k) ]
+      ]

@@ -1,5 +1,6 @@
-// The five sample codes read, on a data block alone (document 01, "Samples"): integers of codes 1 to 3, patterns and classes of codes 4 and 5.
-// Sample has the definitions, Classes holds the classes against IEEE 754. `high` says that the high byte comes first. Stands on `sample`, `word`.
+// The five sample codes read, on a data block alone (document 01, "Samples"): integers of codes 1 to 3, patterns and
+// classes of codes 4 and 5. Sample has the definitions, Classes holds the classes against IEEE 754. `high` says that
+// the high byte comes first. Stands on `sample`, `word`.
 // The rules in words: docs/FORMAT.md, "Samples".
 ghost use mathlib.Core.Path.{_≡_};
 ghost use mathlib.Core.Bool.{true, false};
@@ -180,8 +181,8 @@ fn read_group(block: &[u8], high: bool, g: usize, row: &mut [i32])
     row[i3] = d;
 }
 
-// All groups of a row, low byte first. There is a loop for each order: what is known of the order in its body is settled when it is compiled, where
-// the body of one loop for both is too long for the compiler to do so.
+// All groups of a row, low byte first. There is a loop for each order: what is known of the order in its body is
+// settled when it is compiled, where the body of one loop for both is too long for the compiler to do so.
 fn read_low(block: &[u8], row: &mut [i32])
     requires { ⌜ (length (now row) % 4 ≡ 0) × (needed 3 (length (now row)) ≤ length (now block)) ⌝ }
     ensures { λ _. ⌜ now (row .exit) ≡ valuesFrom (sampleOf 3 false (now (block .entry))) 0 (length (now (row .entry))) ⌝ }
@@ -226,7 +227,8 @@ pub fn read3(block: &[u8], high: bool, row: &mut [i32]) -> bool
     true
 }
 
-// One sample by the code, of those that lie in the block (`sample-inside` says which). 0 for a code of bits, and for what is no code.
+// One sample by the code, of those that lie in the block (`sample-inside` says which). 0 for a code of bits, and for
+// what is no code.
 pub fn sample_at(code: u8, block: &[u8], high: bool, i: usize) -> i32
     requires { ⌜ sampleEnd code i ≤ length (now block) ⌝ }
     ensures { λ r. ⌜ r ≡ sampleOf code high (now (block .entry)) i ⌝ }
@@ -254,8 +256,9 @@ pub fn read_integers(code: u8, block: &[u8], high: bool, row: &mut [i32]) -> boo
 
 // ---- codes 4 and 5
 
-// The class that the exponent bits and the fraction bits tell (the paper's table of special cases): 0 zero, 1 underflow, 2 number, 3 infinity,
-// 4 not a number. It is how many of four bounds the bits behind the sign have passed as one number, which asks for no branch.
+// The class that the exponent bits and the fraction bits tell (the paper's table of special cases): 0 zero, 1
+// underflow, 2 number, 3 infinity, 4 not a number. It is how many of four bounds the bits behind the sign have passed
+// as one number, which asks for no branch.
 fn class4(pattern: u64) -> u8
     ensures { λ r. ⌜ r ≡ classOf 4 pattern ⌝ }
 {
@@ -319,8 +322,8 @@ fn classes5(row: &[u64], classes: &mut [u8])
     }
 }
 
-// Fills the row with the patterns of code 4, and `classes` with their classes. Where the two differ in length, or the block is too short: false, and
-// nothing is written.
+// Fills the row with the patterns of code 4, and `classes` with their classes. Where the two differ in length, or the
+// block is too short: false, and nothing is written.
 pub fn read4(block: &[u8], high: bool, row: &mut [u64], classes: &mut [u8]) -> bool
     ensures answer { λ r. ⌜ r ≡ bitsThere 4 (length (now (row .entry))) (length (now (classes .entry))) (now (block .entry)) ⌝ }
     ensures filled { λ _. ⌜ now (row .exit) ≡ patternsRead 4 high (now (block .entry)) (now (row .entry)) (now (classes .entry)) ⌝ }

@@ -1,5 +1,5 @@
--- "Rounded once": the coefficient and ten to the absolute power are exact doubles, and the double of a number is its decimal value, rounded once
--- to the nearest by IEEE 754.
+-- "Rounded once": the coefficient and ten to the absolute power are exact doubles, and the double of a number is its
+-- decimal value, rounded once to the nearest by IEEE 754.
 -- Assumes nothing.
 use mathlib.Core.Path.{_≡_, refl, sym, ap, ap₂, _∙_}
 use mathlib.Core.Bool.{Bool, true, false, not, cond}
@@ -38,7 +38,7 @@ whole-exact (negsuc n) h = round-whole binary64 true (suc n) h
 pub ten-exact : (k : ℕ) → k ≤ 15 → HasValue (exact (10 ^ k)) false (10 ^ k) 1
 ten-exact k h = whole-exact (pos (10 ^ k)) (le-trans (pow-le-pow-right {n = 10} (omega arith) {i = k} {j = 15} h) (omega arith))
 
--- ---- one operation on two doubles rounds the exact result, once. Here x is a / p in size and y is b / q, each of either sign
+-- ---- one operation on two doubles rounds the exact result, once: x is a / p in size and y is b / q, of either sign
 
 pub mul-once : (f : Format) (x y : Float) (s t : Bool) (a b p q : ℕ) → 0 < p → 0 < q → HasValue x s a p → HasValue y t b q
     → mul f x y ≡ round f (unlike s t) (a * b) (p * q)

@@ -1,5 +1,6 @@
-// A number as a double, rounded once, and locations of one or three doubles (document 01, "As a double" and "Numbers in values", rows 22 and 23).
-// Double, Values and Location have the definitions, Rounded the proof that a double is the decimal value rounded once. Stands on `decimal`, `text`, `refusal`.
+// A number as a double, rounded once, and locations of one or three doubles (document 01, "As a double" and "Numbers in
+// values", rows 22 and 23). Double, Values and Location have the definitions, Rounded the proof that a double is the
+// decimal value rounded once. Stands on `decimal`, `text`, `refusal`.
 // The rules in words: docs/FORMAT.md, "Numbers in values".
 use decimal::Decimal;
 use decimal::Kind;
@@ -103,8 +104,8 @@ fn no_double() -> DoubleAnswer
     })
 }
 
-// The double of a number: up to 2^53 - 1 the coefficient, and up to 10^15 the power of ten, are doubles exactly, so the one operation on them is the
-// only rounding.
+// The double of a number: up to 2^53 - 1 the coefficient, and up to 10^15 the power of ten, are doubles exactly, so the
+// one operation on them is the only rounding.
 fn double_from(n: Decimal) -> DoubleAnswer
     ensures { λ r. ⌜ r ≡ doubleFrom n ⌝ }
 {
@@ -157,7 +158,8 @@ fn value_count() -> LocationAnswer
     })
 }
 
-// The refusal of an answer that is no double, passed up with the place where the value starts. (Of a double it is never asked.)
+// The refusal of an answer that is no double, passed up with the place where the value starts. (Of a double it is never
+// asked.)
 fn passed(at: usize, answer: DoubleAnswer) -> LocationAnswer
     ensures { λ r. ⌜ r ≡ passed at answer ⌝ }
 {
@@ -227,7 +229,8 @@ fn over(kind: Kind, text: &[u8], i: usize) -> usize
     i + decimal::run(kind, decimal::behind(text, i))
 }
 
-// The location that a text is (document 01, "Numbers in values"): how many values there are is judged before any of them.
+// The location that a text is (document 01, "Numbers in values"): how many values there are is judged before any of
+// them.
 pub fn location(text: &[u8]) -> LocationAnswer
     ensures { λ r. ⌜ r ≡ locationOf (now (text .entry)) ⌝ }
 {

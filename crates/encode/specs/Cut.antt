@@ -1,5 +1,5 @@
--- What code 3 keeps of a sample: its leading bits. "So the value read differs by less than 2 to the exponent, and by nothing up to 32,767"
--- (document 01, "Samples").
+-- What code 3 keeps of a sample: its leading bits. "So the value read differs by less than 2 to the exponent, and by
+-- nothing up to 32,767" (document 01, "Samples").
 -- Assumes nothing.
 use mathlib.Core.Path.{_≡_, refl, sym, ap, _∙_}
 use mathlib.Core.Bool.{Bool, true, false, cond}

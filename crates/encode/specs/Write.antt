@@ -1,5 +1,5 @@
--- The data bytes of a row of samples (document 01, "Samples" and "What we write"). Every definition is for any row; that what is read back is what was
--- written holds of the rows that the code can hold.
+-- The data bytes of a row of samples (document 01, "Samples" and "What we write"). Every definition is for any row;
+-- that what is read back is what was written holds of the rows that the code can hold.
 -- Assumes nothing.
 use mathlib.Core.Bool.{Bool, cond}
 use mathlib.Core.List.{List, [], _∷_, _++_}
@@ -19,7 +19,8 @@ flat f (x ∷ xs) = f x ++ flat f xs
 
 -- ---- codes 1 and 2
 
--- the number below m that z differs from by a multiple of m. Two's complement of b bits is the residue at 2^b: "(a) + (-a) = 2^16" (paper, appendix B)
+-- the number below m that z differs from by a multiple of m. Two's complement of b bits is the residue at 2^b: "(a) +
+-- (-a) = 2^16" (paper, appendix B)
 unfoldable pub residue : ℕ → ℤ → ℕ
 residue m (pos n) = n % m
 residue m (negsuc n) = m - 1 - n % m

@@ -1,4 +1,5 @@
--- The laws of writing: how long the bytes are, the exponent that the leading zeros tell, and a loop that writes one piece behind the other.
+-- The laws of writing: how long the bytes are, the exponent that the leading zeros tell, and a loop that writes one
+-- piece behind the other.
 -- Assumes nothing.
 use mathlib.Core.Path.{_≡_, refl, sym, ap, ap₂, _∙_}
 use mathlib.Core.Bool.{Bool, true, false, cond}
@@ -278,6 +279,17 @@ flat-turn f d xs i h = rw (add-one i, drop-cons xs i d h)
 pub flat-over : {A : Type 0} (f : A → List ℕ) (xs : List A) (i : ℕ) → length xs ≤ i → flat f (drop i xs) ≡ []
 unfolding flat
 flat-over f xs i h = rw (drop-of-length-le xs {i = i} h)
+
+-- a row of samples of w bytes each: one more is written; all are, and zeros follow
+pub row-turn : {A : Type 0} (f : A → List ℕ) {w : ℕ} {old part new : List ℕ} {i : ℕ} (d : A) (xs : List A) → ((x : A) → length (f x) ≡ w)
+    → Writing (λ k. flat f (drop k xs)) w old i part → i < length xs → new ≡ put part (w * i) (f (getD xs i d))
+    → Writing (λ k. flat f (drop k xs)) w old (i + 1) new
+row-turn f {i = i} d xs l r h q = write-turn (f (getD xs i d)) r (flat-turn f d xs i h) (l (getD xs i d)) q
+
+pub row-end : {A : Type 0} (f : A → List ℕ) {w : ℕ} {old part : List ℕ} {i : ℕ} (xs : List A) (to : ℕ) → ((x : A) → length (f x) ≡ w)
+    → Writing (λ k. flat f (drop k xs)) w old i part → length xs ≤ i → to ≡ round4 (w * length xs)
+    → put part (w * length xs) (replicate (to - w * length xs) 0) ≡ put old 0 (filledUp (flat f xs))
+row-end f {w} {i = i} xs to l r h t = write-end (w * length xs) to r (flat-over f xs i h) (length-flat f w l xs) t
 
 pub groups-turn : (high : Bool) (xs : List ℤ) (g : ℕ) → 4 * g + 4 ≤ length xs
     → groups high (drop (4 * g) xs)

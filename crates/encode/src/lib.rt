@@ -1,5 +1,6 @@
-// The five sample codes written, on a data block alone (document 01, "Samples", refusal 29): the first sample that a code cannot hold, and the block.
-// Unfit and Write have the definitions; Back and Cut say what is read back: the samples, or code 3's nearest towards 0. Stands on `decode`, `sample`, `word`.
+// The five sample codes written, on a data block alone (document 01, "Samples", refusal 29): the first sample that a
+// code cannot hold, and the block. Unfit and Write have the definitions; Back and Cut say what is read back: the
+// samples, or code 3's nearest towards 0. Stands on `decode`, `sample`, `word`.
 // The rules in words: docs/FORMAT.md, "Samples".
 ghost use mathlib.Core.Path.{_≡_};
 ghost use mathlib.Core.Bool.{true, false};
@@ -36,7 +37,8 @@ fn first_outside(row: &[i32], low: i32, high: i32) -> Fit
     Fit::All
 }
 
-// Whether any sample is not from `low` to `high`. The loop has no early way out, so that a compiler can test many at a time.
+// Whether any sample is not from `low` to `high`. The loop has no early way out, so that a compiler can test many at a
+// time.
 fn any_outside(row: &[i32], low: i32, high: i32) -> bool
     ensures { λ r. ⌜ r ≡ any (outside low high) (now (row .entry)) ⌝ }
 {
@@ -206,8 +208,8 @@ pub fn write5(row: &[u64], high: bool, part: &mut [u8])
     word::zeros(part, end, word::round_up(end));
 }
 
-// The smallest exponent that brings a magnitude to at most 32,767, found from its leading zeros: 17 of them leave 15 bits. The low 15 bits count as set,
-// so that a magnitude of fewer bits has 17 too, and no test is made.
+// The smallest exponent that brings a magnitude to at most 32,767, found from its leading zeros: 17 of them leave 15
+// bits. The low 15 bits count as set, so that a magnitude of fewer bits has 17 too, and no test is made.
 fn exponent(n: u32) -> u32
     requires { ⌜ n < 1073741824 ⌝ }
     ensures { λ r. ⌜ Told n r ⌝ }

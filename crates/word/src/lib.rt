@@ -1,5 +1,6 @@
-// Whole numbers of 2, 4 and 8 bytes in either order, at a place of a slice; bytes stored from a place on; magnitudes; rounding up to 4.
-// Word, Put and Part have the definitions; Tests and Signed the laws of tests and of signed numbers that all crates use. Stands on nothing.
+// Whole numbers of 2, 4 and 8 bytes in either order, at a place of a slice; bytes stored from a place on; magnitudes;
+// rounding up to 4. Word, Put and Part have the definitions; Tests and Signed the laws of tests and of signed numbers
+// that all crates use. Stands on nothing.
 // `high` says that the high byte comes first (document 01, "The file block").
 // The rules in words: docs/FORMAT.md, "The file block".
 ghost use mathlib.Core.Path.{_≡_};

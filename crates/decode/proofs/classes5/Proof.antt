@@ -1,4 +1,5 @@
--- `decode::classes5` meets its contract. The invariant: what is left to store, stored, makes the whole row. Assumes nothing.
+-- `decode::classes5` meets its contract. The invariant: what is left to store, stored, makes the whole row. Assumes
+-- nothing.
 use mathlib.Core.Path.{refl, _∙_, ap}
 use Prim.Native.Nat.{ℕ, _-_}
 use native.Mathlib.Omega.{arith}

@@ -1,4 +1,5 @@
--- `decode::group_sample` meets its contract. The exponent comes out of the first word, the mantissa is k words behind it and one. Assumes nothing.
+-- `decode::group_sample` meets its contract. The exponent comes out of the first word, the mantissa is k words behind
+-- it and one. Assumes nothing.
 use mathlib.Core.Path.{ap, ap₂, _∙_}
 use Prim.Native.Nat.{ℕ}
 use borrow.Author.Needs.{needs}
@@ -19,4 +20,9 @@ group-sample-spec =
     (λ c. search needs)
     (λ c κs. search needs)
     (λ c κs. search needs)
-    (λ c. kept w32 (c .scaled .result) (c .scaled .ok) ∙ c .scaled .ensures ∙ ap₂ scaled (c .before .before .exponent-in .ensures .0 ∙ ap (λ (w : ℕ). exponentIn w (c .before .before .before .before .args .k)) (c .before .before .before .before .pre .1)) (c .before .word-at .ensures)))
+    (λ c.
+    let at-word-at = c .before in
+    let at-exponent-in = at-word-at .before in
+    let start = at-exponent-in .before .before in
+    kept w32 (c .scaled .result) (c .scaled .ok) ∙ c .scaled .ensures ∙ ap₂ scaled
+    (at-exponent-in .exponent-in .ensures .0 ∙ ap (λ (w : ℕ). exponentIn w (start .args .k)) (start .pre .1)) (at-word-at .word-at .ensures)))

@@ -1,4 +1,5 @@
--- `decode::read2` meets its contract. The invariant: what is left to store, stored, makes the whole row. Assumes nothing.
+-- `decode::read2` meets its contract. The invariant: what is left to store, stored, makes the whole row. Assumes
+-- nothing.
 use mathlib.Core.Path.{refl, _∙_}
 use Prim.Native.Nat.{_-_}
 use native.Mathlib.Omega.{arith}

@@ -48,11 +48,15 @@ read-group-spec =
     (λ c. simp length-set (omega arith))
     (λ c. search needs)
     (λ c.
-    let at-a = c .before .before .before .group-sample in
-    let at-b = c .before .before .group-sample2 in
-    let at-c = c .before .group-sample3 in
+    let at-group-sample3 = c .before in
+    let at-group-sample2 = at-group-sample3 .before in
+    let at-group-sample = at-group-sample2 .before in
+    let start = at-group-sample .before .before .before in
+    let at-a = at-group-sample .group-sample in
+    let at-b = at-group-sample2 .group-sample2 in
+    let at-c = at-group-sample3 .group-sample3 in
     let at-d = c .group-sample4 in
-    let g = c .before .before .before .before .before .before .args .g in
+    let g = start .args .g in
     rw (
       stored _ _ g 0 (4 * g) (at-a .result) (at-a .ok) (at-a .ensures) (omega arith) (omega arith),
       stored _ _ g 1 (4 * g + 1) (at-b .result) (at-b .ok) (at-b .ensures) (omega arith) (omega arith),

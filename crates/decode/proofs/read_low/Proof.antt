@@ -1,4 +1,5 @@
--- `decode::read_low` meets its contract. The invariant is that of a row of which 4 * g places are filled. Assumes nothing.
+-- `decode::read_low` meets its contract. The invariant is that of a row of which 4 * g places are filled. Assumes
+-- nothing.
 use mathlib.Core.Bool.{false}
 use Prim.Native.Nat.{_-_, _*_, _/_}
 use native.Mathlib.Omega.{arith}
@@ -28,6 +29,8 @@ read-low-spec =
     (λ c κs. search needs)
     (λ c. search needs)
     (λ c. search needs)
-    (λ c. let at-loop = c .before .before .before .before .loop in fill-group (at-loop .g) (at-loop .inv) (omega arith) (c .before .read-group .ensures))
+    (λ c.
+    let at-loop = c .before .before .before .before .loop in
+    fill-group (at-loop .g) (at-loop .inv) (omega arith) (c .before .read-group .ensures))
     (λ c. c .before .loop .inv .long)
     (λ c. fill-end (c .before .loop .inv) (omega arith)))

@@ -1,4 +1,5 @@
--- `encode::bits` meets its contract. A number that is not negative is its own bits; of minus k and one they are the bits of k turned over. Assumes nothing.
+-- `encode::bits` meets its contract. A number that is not negative is its own bits; of minus k and one they are the
+-- bits of k turned over. Assumes nothing.
 use mathlib.Core.Path.{sym}
 use Prim.Native.Nat.{_-_}
 use native.Mathlib.Omega.{arith}
@@ -12,7 +13,13 @@ pub bits-spec : {M : Type 1} → statement M
 bits-spec =
     tie.close
     (tie.spec
-    (λ c. let v = c .before .args .v in let f = c .before .fits .v .sfits in rw (flips w32 v f (sign w32 v f (c .if1 .taken))) (tt, record { fits = omega arith }))
+    (λ c.
+    let v = c .before .args .v in
+    let f = c .before .fits .v .sfits in
+    rw (flips w32 v f (sign w32 v f (c .if1 .taken))) (tt, record { fits = omega arith }))
     (λ c. let v = c .before .args .v in let f = c .before .fits .v .sfits in rw (kept w32 v f) (plus-size w32 v f (sign w32 v f (c .if1 .left))))
-    (λ c. let v = c .before .args .v in let f = c .before .fits .v .sfits in rw (flips w32 v f (sign w32 v f (c .if1 .taken))) (sym (minus-bits v f (sign w32 v f (c .if1 .taken)))))
+    (λ c.
+    let v = c .before .args .v in
+    let f = c .before .fits .v .sfits in
+    rw (flips w32 v f (sign w32 v f (c .if1 .taken))) (sym (minus-bits v f (sign w32 v f (c .if1 .taken)))))
     (λ c. let v = c .before .args .v in let f = c .before .fits .v .sfits in rw (kept w32 v f) (sym (plus-bits v f (sign w32 v f (c .if1 .left))))))

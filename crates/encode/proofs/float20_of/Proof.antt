@@ -14,11 +14,29 @@ float20-of-spec =
     tie.close
     (tie.spec
     (λ c κs. search needs)
-    (λ c κs. let v = c .before .args .v in let f = c .before .fits .v .sfits in let q : c .magnitude .result ≡ natAbs v = c .magnitude .ensures ∙ ap natAbs (kept w32 v f) in omega arith)
+    (λ c κs.
+    let v = c .before .args .v in
+    let f = c .before .fits .v .sfits in
+    let q : c .magnitude .result ≡ natAbs v = c .magnitude .ensures ∙ ap natAbs (kept w32 v f) in
+    omega arith)
     (λ c. search needs)
     (λ c. search needs)
     (λ c. search needs)
     (λ c. search needs)
     (λ c. search needs)
-    (λ c. let v = c .before .before .before .args .v in let f = c .before .before .before .fits .v .sfits in let q : c .before .before .magnitude .result ≡ natAbs v = c .before .before .magnitude .ensures ∙ ap natAbs (kept w32 v f) in coded-minus v _ _ (c .before .before .before .pre) (sign w32 v f (c .if1 .taken)) (rw q at (c .before .exponent .ensures)) (rw q))
-    (λ c. let v = c .before .before .before .args .v in let f = c .before .before .before .fits .v .sfits in let q : c .before .before .magnitude .result ≡ natAbs v = c .before .before .magnitude .ensures ∙ ap natAbs (kept w32 v f) in coded-plus v _ _ (sign w32 v f (c .if1 .left)) (rw q at (c .before .exponent .ensures)) (rw q)))
+    (λ c.
+    let at-exponent = c .before in
+    let at-magnitude = at-exponent .before in
+    let start = at-magnitude .before in
+    let v = start .args .v in
+    let f = start .fits .v .sfits in
+    let q : at-magnitude .magnitude .result ≡ natAbs v = at-magnitude .magnitude .ensures ∙ ap natAbs (kept w32 v f) in
+    coded-minus v _ _ (start .pre) (sign w32 v f (c .if1 .taken)) (rw q at (at-exponent .exponent .ensures)) (rw q))
+    (λ c.
+    let at-exponent = c .before in
+    let at-magnitude = at-exponent .before in
+    let start = at-magnitude .before in
+    let v = start .args .v in
+    let f = start .fits .v .sfits in
+    let q : at-magnitude .magnitude .result ≡ natAbs v = at-magnitude .magnitude .ensures ∙ ap natAbs (kept w32 v f) in
+    coded-plus v _ _ (sign w32 v f (c .if1 .left)) (rw q at (at-exponent .exponent .ensures)) (rw q)))

@@ -19,4 +19,9 @@ write3-spec =
     (λ c κs. search needs)
     (λ c κs. rw (c .before .before .before .before .write-groups .ensures, length-put) (omega arith))
     (λ c. search needs)
-    (λ c. c .before .before .zeros .ensures ∙ zeros-end _ (groups _ _) _ _ (c .before .before .before .before .before .before .before .write-groups .ensures) (length-groups _ _) (c .before .before .before .round-up .ensures)))
+    (λ c.
+    let at-zeros = c .before .before in
+    let at-round-up = at-zeros .before in
+    let at-write-groups = at-round-up .before .before .before .before in
+    at-zeros .zeros .ensures ∙ zeros-end _ (groups _ _) _ _ (at-write-groups .write-groups .ensures) (length-groups _ _)
+    (at-round-up .round-up .ensures)))

@@ -1,4 +1,5 @@
--- `encode::write_low` meets its contract. The invariant: what is left to write, written, makes the whole. Assumes nothing.
+-- `encode::write_low` meets its contract. The invariant: what is left to write, written, makes the whole. Assumes
+-- nothing.
 use mathlib.Core.Bool.{false}
 use Prim.Native.Nat.{ℕ, _-_, _*_, _/_}
 use native.Mathlib.Omega.{arith}
@@ -28,9 +29,13 @@ write-low-spec =
     (λ c. search needs)
     (λ c. search needs)
     (λ c.
-    let at-loop = c .before .before .before .before .before .loop in
-    let row = c .before .before .before .before .before .before .before .args .row .now in
-    write-turn (groupOf _ row (at-loop .g)) (at-loop .inv) (groups-turn _ row (at-loop .g) (omega arith)) (length-groupOf _ _ _) (c .before .before .write-group .ensures))
+    let at-write-group = c .before .before in
+    let at-loop2 = at-write-group .before .before .before in
+    let start = at-loop2 .before .before in
+    let at-loop = at-loop2 .loop in
+    let row = start .args .row .now in
+    write-turn (groupOf _ row (at-loop .g)) (at-loop .inv) (groups-turn _ row (at-loop .g) (omega arith)) (length-groupOf _ _ _)
+    (at-write-group .write-group .ensures))
     (λ c. search needs)
     (λ c.
     let at-loop = c .before .loop in

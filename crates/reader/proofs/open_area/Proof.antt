@@ -37,7 +37,8 @@ open-area-spec =
     let args = start .args in
     rw (
       (sym (at-check .check .ensures) ∙ at-enum-told .enum-told .given .1),
-      (sym (handed w32 (λ (z : ℤ). areaAsked (take (args .n) (args .buffer .now)) z) (args .part) (start .fits .part .sfits) (at-area-of .area-of .ensures))
+      (sym (handed w32 (λ (z : ℤ). areaAsked (take (args .n) (args .buffer .now)) z)
+          (args .part) (start .fits .part .sfits) (at-area-of .area-of .ensures))
           ∙ c .before .enum-told2 .given .1),
       c .no-trace .ensures,
     ))
@@ -49,6 +50,7 @@ open-area-spec =
     let args = start .args in
     rw (
       (sym (at-check .check .ensures) ∙ at-enum-told .enum-told .given .1),
-      (sym (handed w32 (λ (z : ℤ). areaAsked (take (args .n) (args .buffer .now)) z) (args .part) (start .fits .part .sfits) (at-area-of .area-of .ensures))
+      (sym (handed w32 (λ (z : ℤ). areaAsked (take (args .n) (args .buffer .now)) z)
+          (args .part) (start .fits .part .sfits) (at-area-of .area-of .ensures))
           ∙ c .before .w .given .1),
     )))

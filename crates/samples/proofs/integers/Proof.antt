@@ -23,7 +23,8 @@ integers-spec =
     let at-trace-block = at-a2 .before .before in
     let start = at-trace-block .before .before in
     let args = start .args in
-    let h = told _ _ _ _ _ (sym (handed w32 (λ (z : ℤ). traceAnswer (args .how) (args .buffer .now) (args .n) z) (args .trace) (start .fits .trace .sfits)
+    let h = told _ _ _ _ _ (sym (handed w32 (λ (z : ℤ). traceAnswer (args .how) (args .buffer .now) (args .n) z)
+    (args .trace) (start .fits .trace .sfits)
     (at-trace-block .trace-block .ensures)) ∙ at-a2 .a2 .given .1) in
     sym (h .known .size))
     (λ c κs.
@@ -31,14 +32,16 @@ integers-spec =
     let at-trace-block = at-a2 .before .before in
     let start = at-trace-block .before .before in
     let args = start .args in
-    let h = told _ _ _ _ _ (sym (handed w32 (λ (z : ℤ). traceAnswer (args .how) (args .buffer .now) (args .n) z) (args .trace) (start .fits .trace .sfits)
+    let h = told _ _ _ _ _ (sym (handed w32 (λ (z : ℤ). traceAnswer (args .how) (args .buffer .now) (args .n) z)
+    (args .trace) (start .fits .trace .sfits)
     (at-trace-block .trace-block .ensures)) ∙ at-a2 .a2 .given .1) in
     (omega (arith, h .known .size, h .known .least), told-fits _ _ _ _ _ h))
     (λ c.
     let at-trace-block = c .before .before .before in
     let start = at-trace-block .before .before in
     let args = start .args in
-    integers-bad _ _ _ _ _ (sym (handed w32 (λ (z : ℤ). traceAnswer (args .how) (args .buffer .now) (args .n) z) (args .trace) (start .fits .trace .sfits)
+    integers-bad _ _ _ _ _ (sym (handed w32 (λ (z : ℤ). traceAnswer (args .how) (args .buffer .now) (args .n) z)
+    (args .trace) (start .fits .trace .sfits)
     (at-trace-block .trace-block .ensures)) ∙ c .before .a .given .1) _)
     (λ c. search needs)
     (λ c.
@@ -46,6 +49,7 @@ integers-spec =
     let at-trace-block = at-a2 .before .before in
     let start = at-trace-block .before .before in
     let args = start .args in
-    let h = told _ _ _ _ _ (sym (handed w32 (λ (z : ℤ). traceAnswer (args .how) (args .buffer .now) (args .n) z) (args .trace) (start .fits .trace .sfits)
+    let h = told _ _ _ _ _ (sym (handed w32 (λ (z : ℤ). traceAnswer (args .how) (args .buffer .now) (args .n) z)
+    (args .trace) (start .fits .trace .sfits)
     (at-trace-block .trace-block .ensures)) ∙ at-a2 .a2 .given .1) in
     (c .before .integers-of .ensures .0 ∙ integers-answer _ _ _ _ _ h _, c .before .integers-of .ensures .1 ∙ integers-left _ _ _ _ _ h _)))

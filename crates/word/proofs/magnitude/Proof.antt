@@ -1,4 +1,5 @@
--- `word::magnitude` meets its contract. Below zero, the flipped bits are one less than the magnitude, for the least number too.
+-- `word::magnitude` meets its contract. Below zero, the flipped bits are one less than the magnitude, for the least
+-- number too.
 -- Assumes nothing.
 use mathlib.Core.Path.{sym}
 use native.Mathlib.Omega.{arith}
