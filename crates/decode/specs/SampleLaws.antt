@@ -8,14 +8,14 @@ use native.Mathlib.Nat.{zero-mul, lt-of-not-le}
 use native.Mathlib.Decide.{decLe}
 use native.Mathlib.Omega.{arith}
 use lib.IntN.{ℤ, pos, negsuc, negℤ, natAbs, _-ℤ_, _*ℤ_, pos-*ℤ-pos, negsuc-*ℤ-pos, zero-*ℤ}
-use lib.ListN.{length, take, length-take}
+use lib.ListN.{length, getD, take, length-take}
 use lib.Dec.{leb, eqb}
 use borrow.Author.Tests.{lt-ltb, le-ltb, le-leb, lt-leb, leb-true, leb-false, eq-eqb, ne-eqb, eqb-true}
 use Rattle.word.specs.Tests.{and-false, both}
 use Rattle.word.specs.WordLaws.{word-take}
 use Rattle.sample.specs.Needed.{needed, width}
 use Rattle.word.specs.Put.{put}
-use Rattle.sample.specs.Run.{valuesFrom, run-same, run-map, Filling, fill-some}
+use Rattle.sample.specs.Run.{valuesFrom, run-same, run-map, run-of, Filling, fill-some, fill-end}
 use Rattle.decode.specs.Sample.{twos, ones, scaled, groupSample, patternOf, sampleOf, sampleEnd, integersAsked, integersThere, integersRead, classOf, bitsAsked, bitsThere, patternsRead, classesRead}
 
 -- ---- two's complement
@@ -213,6 +213,11 @@ pub bits-there : (code s t : ℕ) (block : List ℕ) → bitsAsked code ≡ true
     → bitsThere code s t block ≡ true
 unfolding bitsThere
 bits-there code s t block h e k = rw (h, eq-eqb t s e, le-leb (needed code s) (length block) k)
+
+-- a row of which every class was stored has the classes of the patterns
+pub classes-end : (code : ℕ) {old classes : List ℕ} {i : ℕ} (row : List ℕ) → Filling (λ k. classOf code (getD row k 0)) old i classes
+    → length old ≤ i → length old ≡ length row → classes ≡ map (classOf code) row
+classes-end code row r h e = fill-end r h ∙ ap (valuesFrom _ 0) e ∙ run-of _ (classOf code) 0 row (λ i l. refl)
 
 pub no-bits-read : (code : ℕ) (high : Bool) (block row classes : List ℕ) → bitsThere code (length row) (length classes) block ≡ false
     → (false ≡ bitsThere code (length row) (length classes) block)
