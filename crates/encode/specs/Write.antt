@@ -34,7 +34,7 @@ fixedBytes w high z = bytesOf w high (residue (256 ^ w) z)
 abbrev pub mantissaMost : ℕ
 mantissaMost = 32767
 
--- the first exponent from e on that brings n to it; where `left` more are not enough, the last of them
+-- the first exponent from e on that brings n to at most that; where `left` more are not enough, the last of them
 unfoldable pub smallest : ℕ → ℕ → ℕ → ℕ
 smallest zero e n = e
 smallest (suc left) e n = cond (leb (n / 2 ^ e) mantissaMost) e (smallest left (e + 1) n)
