@@ -6,16 +6,17 @@ use Prim.Native.Nat.{ℕ, suc, _+_, _-_, _*_, _%_, _^_, _≤_, _<_}
 use native.Mathlib.Nat.{lt-of-lt-of-le, lt-of-not-le, mul-le-mul-right, suc-mul}
 use native.Mathlib.Decide.{decLe}
 use native.Mathlib.Omega.{arith}
-use lib.IntN.{ℤ, pos, negsuc, negℤ, _-ℤ_}
+use lib.IntN.{ℤ, negsuc, natAbs}
 use lib.Dec.{ltb}
 use lib.Signed.{mag}
-use lib.Pow.{shl-lt, shl-exact, pow-mono}
+use lib.Pow.{shl-lt, pow-mono}
 use borrow.Author.Tests.{lt-ltb, le-ltb, eq-eqb, ne-eqb}
 use mir.Syntax.{w16, w32}
 use mir.Val.{toZ, ofZ, boolByte, SFits}
-use mir.Facts.{toZ-pos, toZ-neg, toZ-ofZ}
-use Rattle.decode.specs.Sample.{classBy}
-use Rattle.word.specs.Signed.{kept, negates, negated}
+use mir.Facts.{toZ-neg, toZ-ofZ}
+use Rattle.decode.specs.Sample.{ones, scaled, classBy}
+use Rattle.decode.specs.SampleLaws.{ones-small}
+use Rattle.word.specs.Signed.{kept, shifts}
 
 -- `!k` of a k that is not negative
 pub flipped : (k : ℕ) → k < 2147483648 → toZ w32 (4294967295 - k) ≡ negsuc k
@@ -29,28 +30,13 @@ pub fits16 : (z : ℤ) → mag z < 32768 → SFits w32 (toZ w16 (ofZ w16 z))
 fits16 z h = rw (toZ-ofZ {w = w16} {z = z} (record { sfits = h })) (record { sfits = omega arith })
 
 pub kept16 : (z : ℤ) → mag z < 32768 → toZ w32 (ofZ w32 (toZ w16 (ofZ w16 z))) ≡ z
-kept16 z h = rw (toZ-ofZ {w = w16} {z = z} (record { sfits = h })) (kept z (omega arith))
+kept16 z h = rw (toZ-ofZ {w = w16} {z = z} (record { sfits = h })) (kept w32 z (omega arith))
 
--- 15 bits, shifted up by at most 15: nothing is lost, and what comes out fits, with either sign
-shifted : (m e : ℕ) → m < 32768 → e < 16 → (m * 2 ^ e) % 18446744073709551616 ≡ m * 2 ^ e
-shifted m e h l = shl-exact {a = m} 15 e 64 h (omega arith)
-
-shifted-small : (m e : ℕ) → m < 32768 → e < 16 → m * 2 ^ e < 2147483648
-shifted-small m e h l = lt-of-lt-of-le (shl-lt {a = m} 15 e h) (pow-mono {i = 15 + e} {j = 31} (omega arith))
-
-pub shift-fits : (m e : ℕ) → m < 32768 → e < 16 → SFits w32 (pos ((m * 2 ^ e) % 18446744073709551616))
-shift-fits m e h l = rw (shifted m e h l) (record { sfits = shifted-small m e h l })
-
-pub shift-plus : (m e : ℕ) → m < 32768 → e < 16 → toZ w32 ((m * 2 ^ e) % 18446744073709551616) ≡ pos (m * 2 ^ e)
-shift-plus m e h l = rw (shifted m e h l) (toZ-pos w32 {n = m * 2 ^ e} (shifted-small m e h l))
-
-pub shift-minus-fits : (m e : ℕ) → m < 32768 → e < 16 → SFits w32 (pos 0 -ℤ toZ w32 ((m * 2 ^ e) % 18446744073709551616))
-shift-minus-fits m e h l =
-    rw (shifted m e h l) (negates (m * 2 ^ e) (shifted-small m e h l))
-
-pub shift-minus : (m e : ℕ) → m < 32768 → e < 16 → toZ w32 (ofZ w32 (pos 0 -ℤ toZ w32 ((m * 2 ^ e) % 18446744073709551616))) ≡ negℤ (pos (m * 2 ^ e))
-shift-minus m e h l =
-    rw (shifted m e h l) (negated (m * 2 ^ e) (shifted-small m e h l))
+-- a mantissa has 15 bits: shifted up by at most 15, nothing of it is lost
+pub mantissa-shifts : (m e : ℕ) → e < 16 → toZ w32 (ofZ w32 (ones m) * 2 ^ e % 4294967296) ≡ scaled e m
+unfolding scaled
+mantissa-shifts m e l =
+    shifts w32 (ones m) e (lt-of-lt-of-le (shl-lt {a = natAbs (ones m)} 15 e (ones-small m)) (pow-mono {i = 15 + e} {j = 31} (omega arith)))
 
 -- ---- the class of a pattern, counted
 
@@ -58,11 +44,13 @@ pub one-at-most : (b : Bool) → boolByte b ≤ 1
 one-at-most true = omega arith
 one-at-most false = omega arith
 
--- how many of four bounds m has passed: 0, the largest fraction f - 1, the largest number t - 1, and t, which is infinity
+-- how many of four bounds m has passed: 0, the largest fraction f - 1, the largest number t - 1, and t, which is
+-- infinity
 abbrev pub passed : ℕ → ℕ → ℕ → ℕ
 passed f t m = boolByte (ltb 0 m) + boolByte (ltb (f - 1) m) + boolByte (ltb (t - 1) m) + boolByte (ltb t m)
 
--- the bits behind the sign are one number, the exponent x above a fraction y that is below f; o is the exponent whose bits are all 1. For any width
+-- the bits behind the sign are one number, the exponent x above a fraction y that is below f; o is the exponent whose
+-- bits are all 1. For any width
 module _ (o f x y m : ℕ) (some : 0 < o) (fraction : y < f) (most : x ≤ o) (e : m ≡ x * f + y) where
   low-exponent : x ≡ 0 → passed f (o * f) m ≡ classBy o x y
   unfolding classBy
@@ -70,7 +58,10 @@ module _ (o f x y m : ℕ) (some : 0 < o) (fraction : y < f) (most : x ≤ o) (e
       let one : 1 * f ≤ o * f = mul-le-mul-right f some in
       let z : x * f ≡ 0 = rw h (omega arith) in
       rw (le-ltb (f - 1) m (omega arith), le-ltb (o * f - 1) m (omega arith), le-ltb (o * f) m (omega arith), eq-eqb x 0 h)
-      (elim (decLe y 0) [ yes k ↦ rw (le-ltb 0 m (omega arith), eq-eqb y 0 (omega arith)) | no k ↦ (let l = lt-of-not-le k in rw (lt-ltb 0 m (omega arith), ne-eqb y 0 (omega arith))) ])
+      (elim (decLe y 0) [
+        | yes k ↦ rw (le-ltb 0 m (omega arith), eq-eqb y 0 (omega arith))
+        | no k ↦ (let l = lt-of-not-le k in rw (lt-ltb 0 m (omega arith), ne-eqb y 0 (omega arith)))
+      ])
 
   between : 0 < x → x < o → passed f (o * f) m ≡ classBy o x y
   unfolding classBy
@@ -93,8 +84,14 @@ module _ (o f x y m : ℕ) (some : 0 < o) (fraction : y < f) (most : x ≤ o) (e
       let one : 1 * f ≤ o * f = mul-le-mul-right f some in
       let same : x * f ≡ o * f = rw h in
       rw (lt-ltb 0 m (omega arith), lt-ltb (f - 1) m (omega arith), lt-ltb (o * f - 1) m (omega arith), ne-eqb x 0 (omega arith), eq-eqb x o h)
-      (elim (decLe y 0) [ yes k ↦ rw (le-ltb (o * f) m (omega arith), eq-eqb y 0 (omega arith)) | no k ↦ (let l = lt-of-not-le k in rw (lt-ltb (o * f) m (omega arith), ne-eqb y 0 (omega arith))) ])
+      (elim (decLe y 0) [
+        | yes k ↦ rw (le-ltb (o * f) m (omega arith), eq-eqb y 0 (omega arith))
+        | no k ↦ (let l = lt-of-not-le k in rw (lt-ltb (o * f) m (omega arith), ne-eqb y 0 (omega arith)))
+      ])
 
   pub class-passed : passed f (o * f) m ≡ classBy o x y
   class-passed =
-      elim (decLe x 0) [ yes h ↦ low-exponent (omega arith) | no h ↦ elim (decLe o x) [ yes k ↦ all-ones (omega arith) | no k ↦ between (lt-of-not-le h) (lt-of-not-le k) ] ]
+      elim (decLe x 0) [
+        | yes h ↦ low-exponent (omega arith)
+        | no h ↦ elim (decLe o x) [ yes k ↦ all-ones (omega arith) | no k ↦ between (lt-of-not-le h) (lt-of-not-le k) ]
+      ]

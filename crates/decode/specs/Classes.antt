@@ -1,5 +1,6 @@
--- The classes of codes 4 and 5 are those of IEEE 754: the class that a pattern's bits tell is the class of the number that the pattern is in the
--- logic's own account of the standard (`lib.Ieee`), which is what Rattle's `f32` and `f64` mean.
+-- The classes of codes 4 and 5 are those of IEEE 754: the class that a pattern's bits tell is the class of the number
+-- that the pattern is in the logic's own account of the standard (`lib.Ieee`), which is what Rattle's `f32` and `f64`
+-- mean.
 -- Assumes nothing.
 use mathlib.Core.Path.{_≡_, refl, sym, ap, _∙_}
 use mathlib.Core.Bool.{Bool, true, false, cond}
@@ -14,8 +15,8 @@ use lib.Ieee.Fits.{up-pos, down-pos}
 use borrow.Author.Tests.{lt-ltb, le-ltb, ltb-true, ltb-false, ne-eqb}
 use Rattle.decode.specs.Sample.{classBy, classOf}
 
--- the class of a number: not a number 4, infinity 3, zero 0, and of the others 1 where it is less in size than the least number with a leading bit,
--- which is 2 ^ - (emax - 1), and else 2
+-- the class of a number: not a number 4, infinity 3, zero 0, and of the others 1 where it is less in size than the
+-- least number with a leading bit, which is 2 ^ - (emax - 1), and else 2
 unfoldable pub valueClass : Format → Float → ℕ
 valueClass f nan = 4
 valueClass f (inf s) = 3

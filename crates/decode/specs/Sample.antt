@@ -1,5 +1,6 @@
--- What the samples of a data block are, as figures B-1 to B-5 of the paper show (document 01, "Samples"). A block is a list of bytes and nothing of the
--- file; sample i of it is counted from 0, and `high` says that the high byte comes first.
+-- What the samples of a data block are, as figures B-1 to B-5 of the paper show (document 01, "Samples"). A block is a
+-- list of bytes and nothing of the file; sample i of it is counted from 0, and `high` says that the high byte comes
+-- first.
 -- Assumes nothing.
 use mathlib.Core.Bool.{Bool, true, false, cond, _&&_}
 use mathlib.Core.List.{List}
@@ -17,7 +18,8 @@ use Rattle.sample.specs.Run.{valuesFrom}
 unfoldable pub patternOf : ℕ → Bool → List ℕ → ℕ → ℕ
 patternOf code high block i = wordAt (width code) high block (width code * i)
 
--- two's complement (figures B-1 and B-2): the sign bit weighs `half`, and where it is set the number is less by twice that than its bits say
+-- two's complement (figures B-1 and B-2): the sign bit weighs `half`, and where it is set the number is less by twice
+-- that than its bits say
 unfoldable pub twos : ℕ → ℕ → ℤ
 twos half n = cond (ltb n half) (pos n) (pos n -ℤ pos (2 * half))
 
@@ -27,7 +29,8 @@ twos half n = cond (ltb n half) (pos n) (pos n -ℤ pos (2 * half))
 unfoldable pub exponentIn : ℕ → ℕ → ℕ
 exponentIn word k = word / 2 ^ (4 * k) % 16
 
--- one's complement of 16 bits: where the sign bit is set, minus the number whose bits are the others. So FFFFh is minus 0, which is 0
+-- one's complement of 16 bits: where the sign bit is set, minus the number whose bits are the others. So FFFFh is minus
+-- 0, which is 0
 unfoldable pub ones : ℕ → ℤ
 ones n = cond (ltb n 32768) (pos n) (negℤ (pos (65535 - n)))
 
@@ -35,7 +38,8 @@ ones n = cond (ltb n 32768) (pos n) (negℤ (pos (65535 - n)))
 unfoldable pub scaled : ℕ → ℕ → ℤ
 scaled exponent mantissa = ones mantissa *ℤ pos (2 ^ exponent)
 
--- sample k of the group at place g: the exponents' word is the first of the group's five, and mantissa k is k words behind it and one
+-- sample k of the group at place g: the exponents' word is the first of the group's five, and mantissa k is k words
+-- behind it and one
 unfoldable pub groupSample : Bool → List ℕ → ℕ → ℕ → ℤ
 groupSample high block g k = scaled (exponentIn (wordAt 2 high block g) k) (wordAt 2 high block (g + 2 * (k + 1)))
 
@@ -45,6 +49,10 @@ groupSample high block g k = scaled (exponentIn (wordAt 2 high block g) k) (word
 unfoldable pub sampleOf : ℕ → Bool → List ℕ → ℕ → ℤ
 sampleOf code high block i =
     byCode (twos 32768 (patternOf 1 high block i)) (twos 2147483648 (patternOf 2 high block i)) (groupSample high block (i / 4 * 10) (i % 4)) (pos 0) (pos 0) (pos 0) code
+
+-- where the bytes end that sample i is made of; under code 3 they are its group's
+unfoldable pub sampleEnd : ℕ → ℕ → ℕ
+sampleEnd code i = byCode (2 * i + 2) (4 * i + 4) (i / 4 * 10 + 10) 0 0 0 code
 
 -- s samples can be asked for as integers: the code is one of integers, and under code 3 they are whole groups
 abbrev pub integersAsked : ℕ → ℕ → Bool
@@ -60,8 +68,8 @@ integersRead code high block row = cond (integersThere code (length row) block) 
 
 -- ---- the bits of a block (figures B-4 and B-5)
 
--- the class of a pattern, by its exponent bits and its fraction bits: 0 zero, 1 underflow, 2 number, 3 infinity, 4 not a number (document 01, "Samples";
--- the paper's table under figure B-5). `ones` is the exponent whose bits are all 1
+-- the class of a pattern, by its exponent bits and its fraction bits: 0 zero, 1 underflow, 2 number, 3 infinity, 4 not
+-- a number (document 01, "Samples"; the paper's table under figure B-5). `ones` is the exponent whose bits are all 1
 unfoldable pub classBy : ℕ → ℕ → ℕ → ℕ
 classBy ones exponent fraction = cond (eqb exponent 0) (cond (eqb fraction 0) 0 1) (cond (eqb exponent ones) (cond (eqb fraction 0) 3 4) 2)
 
@@ -73,7 +81,8 @@ classOf code n = byCode 0 0 0 (classBy 255 (n / 2 ^ 23 % 2 ^ 8) (n % 2 ^ 23)) (c
 abbrev pub bitsAsked : ℕ → Bool
 bitsAsked code = byCode false false false true true false code
 
--- s patterns and t classes can be read: the code is one of bits, there are as many of the one as of the other, and the block has the needed bytes
+-- s patterns and t classes can be read: the code is one of bits, there are as many of the one as of the other, and the
+-- block has the needed bytes
 unfoldable pub bitsThere : ℕ → ℕ → ℕ → List ℕ → Bool
 bitsThere code s t block = bitsAsked code && (eqb t s && leb (needed code s) (length block))
 

@@ -4,17 +4,19 @@ use mathlib.Core.Path.{_≡_, refl, sym, ap, _∙_}
 use mathlib.Core.Bool.{Bool, true, false, cond, _&&_}
 use mathlib.Core.List.{List, map}
 use Prim.Native.Nat.{ℕ, zero, suc, _+_, _-_, _*_, _/_, _%_, _^_, _≤_, _<_, min}
-use native.Mathlib.Nat.{zero-mul}
+use native.Mathlib.Nat.{zero-mul, lt-of-not-le}
+use native.Mathlib.Decide.{decLe}
 use native.Mathlib.Omega.{arith}
-use lib.IntN.{ℤ, pos, negsuc, negℤ, _-ℤ_, _*ℤ_, pos-*ℤ-pos, negsuc-*ℤ-pos, zero-*ℤ}
-use lib.ListN.{length, take, length-take}
+use lib.IntN.{ℤ, pos, negsuc, negℤ, natAbs, _-ℤ_, _*ℤ_, pos-*ℤ-pos, negsuc-*ℤ-pos, zero-*ℤ}
+use lib.ListN.{length, getD, take, length-take}
 use lib.Dec.{leb, eqb}
 use borrow.Author.Tests.{lt-ltb, le-ltb, le-leb, lt-leb, leb-true, leb-false, eq-eqb, ne-eqb, eqb-true}
-use Rattle.word.specs.Tests.{and-false}
+use Rattle.word.specs.Tests.{and-false, both}
 use Rattle.word.specs.WordLaws.{word-take}
 use Rattle.sample.specs.Needed.{needed, width}
-use Rattle.sample.specs.Run.{valuesFrom, run-same, run-map}
-use Rattle.decode.specs.Sample.{twos, ones, scaled, groupSample, patternOf, sampleOf, integersAsked, integersThere, integersRead, classOf, bitsAsked, bitsThere, patternsRead, classesRead}
+use Rattle.word.specs.Put.{put}
+use Rattle.sample.specs.Run.{valuesFrom, run-same, run-map, run-of, Filling, fill-some, fill-end}
+use Rattle.decode.specs.Sample.{twos, ones, scaled, groupSample, patternOf, sampleOf, sampleEnd, integersAsked, integersThere, integersRead, classOf, bitsAsked, bitsThere, patternsRead, classesRead}
 
 -- ---- two's complement
 
@@ -33,17 +35,37 @@ twos-minus half n h k = simp (le-ltb n half h) (minus-more n (2 * half) k)
 -- ---- code 3
 
 -- a mantissa that is not negative, and one that is
+pub ones-plus : (m : ℕ) → m < 32768 → ones m ≡ pos m
+unfolding ones
+ones-plus m h = rw (lt-ltb m 32768 h)
+
+pub ones-minus : (m : ℕ) → 32768 ≤ m → ones m ≡ negℤ (pos (65535 - m))
+unfolding ones
+ones-minus m h = rw (le-ltb m 32768 h)
+
+-- 15 bits are left of it
+pub ones-small : (m : ℕ) → natAbs (ones m) < 32768
+ones-small m =
+    elim (decLe 32768 m) [
+      | yes h ↦ rw (ones-minus m h) (size (65535 - m) (omega arith))
+      | no h ↦ (let l = lt-of-not-le h in rw (ones-plus m l) l)
+    ]
+  where
+    size : (n : ℕ) → n < 32768 → natAbs (negℤ (pos n)) < 32768
+    size zero h = h
+    size (suc n) h = h
+
 pub scaled-plus : (e m : ℕ) → m < 32768 → scaled e m ≡ pos (m * 2 ^ e)
-unfolding scaled ones
-scaled-plus e m h = rw (lt-ltb m 32768 h) (pos-*ℤ-pos m (2 ^ e))
+unfolding scaled
+scaled-plus e m h = rw (ones-plus m h) (pos-*ℤ-pos m (2 ^ e))
 
 pub minus-times : (a b : ℕ) → negℤ (pos a) *ℤ pos b ≡ negℤ (pos (a * b))
 minus-times zero b = zero-*ℤ (pos b) ∙ ap (λ (n : ℕ). negℤ (pos n)) (sym (zero-mul b))
 minus-times (suc a) b = negsuc-*ℤ-pos a b
 
 pub scaled-minus : (e m : ℕ) → 32768 ≤ m → scaled e m ≡ negℤ (pos ((65535 - m) * 2 ^ e))
-unfolding scaled ones
-scaled-minus e m h = rw (le-ltb m 32768 h) (minus-times (65535 - m) (2 ^ e))
+unfolding scaled
+scaled-minus e m h = rw (ones-minus m h) (minus-times (65535 - m) (2 ^ e))
 
 -- sample i of the block is sample k of group g
 pub in-group : (high : Bool) (block : List ℕ) (i g k : ℕ) → i ≡ 4 * g + k → k < 4 → sampleOf 3 high block i ≡ groupSample high block (10 * g) k
@@ -52,6 +74,40 @@ in-group high block i g k e h =
     let q : i / 4 * 10 ≡ 10 * g = omega arith in
     let r : i % 4 ≡ k = omega arith in
     rw (q, r)
+
+-- one more group of a row that is filled
+pub fill-group : {f : ℕ → ℤ} {old row new : List ℤ} (g : ℕ) → Filling f old (4 * g) row → 4 * g + 4 ≤ length old
+    → new ≡ put row (4 * g) (valuesFrom f (4 * g) 4) → Filling f old (4 * (g + 1)) new
+fill-group g r h e = let n : 4 * (g + 1) ≡ 4 * g + 4 = omega arith in rw (n, e) (fill-some 4 r h)
+
+-- ---- one sample of those that are there
+
+-- a block with the needed bytes of s samples has those of each
+pub sample-inside : (code s : ℕ) (block : List ℕ) (i : ℕ) → integersThere code s block ≡ true → i < s → sampleEnd code i ≤ length block
+unfolding integersThere sampleEnd needed
+sample-inside zero s block i h l = omega arith
+sample-inside (suc zero) s block i h l = omega (arith, leb-true (2 * s) (length block) h)
+sample-inside (suc (suc zero)) s block i h l = omega (arith, leb-true (4 * s) (length block) h)
+sample-inside (suc (suc (suc zero))) s block i h l =
+    let b = both (eqb (s % 4) 0) (leb (10 * s / 4) (length block)) h in
+    let w : s % 4 ≡ 0 = eqb-true (s % 4) 0 (b .0) in
+    let m : 10 * s / 4 ≡ 10 * (s / 4) = omega arith in
+    let g : i / 4 < s / 4 = omega arith in
+    omega (arith, leb-true (10 * s / 4) (length block) (b .1))
+sample-inside (suc (suc (suc (suc zero)))) s block i h l = omega arith
+sample-inside (suc (suc (suc (suc (suc zero))))) s block i h l = omega arith
+sample-inside (suc (suc (suc (suc (suc (suc code)))))) s block i h l = omega arith
+
+-- no other code has a sample
+pub no-sample : (code : ℕ) (high : Bool) (block : List ℕ) (i : ℕ) → (code ≡ 1 → ⊥) → (code ≡ 2 → ⊥) → (code ≡ 3 → ⊥) → sampleOf code high block i ≡ pos 0
+unfolding sampleOf
+no-sample zero high block i h1 h2 h3 = refl
+no-sample (suc zero) high block i h1 h2 h3 = absurd (h1 refl)
+no-sample (suc (suc zero)) high block i h1 h2 h3 = absurd (h2 refl)
+no-sample (suc (suc (suc zero))) high block i h1 h2 h3 = absurd (h3 refl)
+no-sample (suc (suc (suc (suc zero)))) high block i h1 h2 h3 = refl
+no-sample (suc (suc (suc (suc (suc zero))))) high block i h1 h2 h3 = refl
+no-sample (suc (suc (suc (suc (suc (suc code)))))) high block i h1 h2 h3 = refl
 
 -- ---- only the needed bytes count: "D may exceed this; the rest is ignored" (document 01, "The trace block")
 
@@ -157,6 +213,11 @@ pub bits-there : (code s t : ℕ) (block : List ℕ) → bitsAsked code ≡ true
     → bitsThere code s t block ≡ true
 unfolding bitsThere
 bits-there code s t block h e k = rw (h, eq-eqb t s e, le-leb (needed code s) (length block) k)
+
+-- a row of which every class was stored has the classes of the patterns
+pub classes-end : (code : ℕ) {old classes : List ℕ} {i : ℕ} (row : List ℕ) → Filling (λ k. classOf code (getD row k 0)) old i classes
+    → length old ≤ i → length old ≡ length row → classes ≡ map (classOf code) row
+classes-end code row r h e = fill-end r h ∙ ap (valuesFrom _ 0) e ∙ run-of _ (classOf code) 0 row (λ i l. refl)
 
 pub no-bits-read : (code : ℕ) (high : Bool) (block row classes : List ℕ) → bitsThere code (length row) (length classes) block ≡ false
     → (false ≡ bitsThere code (length row) (length classes) block)

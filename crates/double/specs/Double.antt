@@ -1,4 +1,5 @@
--- Numbers as doubles (document 01, "As a double"), in the logic's account of IEEE 754: two exact doubles, and one operation on them.
+-- Numbers as doubles (document 01, "As a double"), in the logic's account of IEEE 754: two exact doubles, and one
+-- operation on them.
 -- Assumes nothing.
 use mathlib.Core.Bool.{Bool}
 use mathlib.Core.List.{List, [], _∷_}

@@ -1,4 +1,5 @@
--- Locations (document 01, "Numbers in values"): x alone or x, y and z, each a double, and how many there were. 23 first, then value by value.
+-- Locations (document 01, "Numbers in values"): x alone or x, y and z, each a double, and how many there were. 23
+-- first, then value by value.
 -- Assumes nothing.
 use mathlib.Core.Path.{_≡_, refl, sym, ap, subst, _∙_}
 use mathlib.Core.Bool.{Bool, false}

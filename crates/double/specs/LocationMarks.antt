@@ -1,4 +1,5 @@
--- What never is a double or a location: a text with any byte but blanks and those of numbers. So a comma is refused there too, wherever it stands.
+-- What never is a double or a location: a text with any byte but blanks and those of numbers. So a comma is refused
+-- there too, wherever it stands.
 -- Assumes nothing.
 use mathlib.Core.Path.{_≡_, refl, sym, _∙_}
 use mathlib.Core.Bool.{Bool, true, false, _||_}

@@ -1,16 +1,16 @@
--- "Rounded once": the coefficient and ten to the absolute power are exact doubles, and the double of a number is its decimal value, rounded once
--- to the nearest by IEEE 754.
+-- "Rounded once": the coefficient and ten to the absolute power are exact doubles, and the double of a number is its
+-- decimal value, rounded once to the nearest by IEEE 754.
 -- Assumes nothing.
 use mathlib.Core.Path.{_≡_, refl, sym, ap, ap₂, _∙_}
-use mathlib.Core.Bool.{Bool, true, false, cond}
+use mathlib.Core.Bool.{Bool, true, false, not, cond}
 use mathlib.Core.List.{List, [], _∷_}
 use Prim.Native.Nat.{ℕ, zero, suc, _+_, _*_, _^_, _≤_, _<_}
-use native.Mathlib.Nat.{mul-mul-mul-comm, mul-one, mul-pos, mul-comm, mul-assoc, le-trans, pow-le-pow-right, one-le-pow}
+use native.Mathlib.Nat.{mul-mul-mul-comm, mul-one, one-mul, zero-mul, mul-pos, mul-comm, le-trans, pow-le-pow-right, one-le-pow}
 use native.Mathlib.Omega.{arith}
 use lib.Dec.{ltb, eqb·suc-zero}
 use lib.IntN.{ℤ, pos, negsuc, natAbs}
-use lib.Signed.{ltZ}
-use lib.Ieee.{Float, nan, inf, fin, Format, binary64, low, prec, emax, up, down, odd, units, round, neg, mul, div, ofInt}
+use lib.Signed.{ltZ, nonNeg}
+use lib.Ieee.{Float, nan, inf, fin, Format, binary64, low, prec, emax, up, down, odd, units, round, neg, mul, div, ofInt, unlike}
 use lib.Ieee.Exact.{HasValue}
 use lib.Ieee.Back.{round-whole}
 use lib.Ieee.Scale.{round-same}
@@ -30,42 +30,45 @@ use Rattle.decimal.specs.Meaning.{raise, lower, numerator, denominator, denomin
 
 -- ---- whole numbers up to 2^53, and the powers of ten that are used, are doubles exactly
 
-pub whole-exact : (n : ℕ) → n ≤ 9007199254740992 → HasValue (exact n) false n 1
+pub whole-exact : (z : ℤ) → natAbs z ≤ 9007199254740992 → HasValue (ofInt binary64 z) (not (nonNeg z)) (natAbs z) 1
 unfolding ofInt
-whole-exact n h = round-whole binary64 false n h
+whole-exact (pos n) h = round-whole binary64 false n h
+whole-exact (negsuc n) h = round-whole binary64 true (suc n) h
 
 pub ten-exact : (k : ℕ) → k ≤ 15 → HasValue (exact (10 ^ k)) false (10 ^ k) 1
-ten-exact k h = whole-exact (10 ^ k) (le-trans (pow-le-pow-right {n = 10} (omega arith) {i = k} {j = 15} h) (omega arith))
+ten-exact k h = whole-exact (pos (10 ^ k)) (le-trans (pow-le-pow-right {n = 10} (omega arith) {i = k} {j = 15} h) (omega arith))
 
--- ---- one operation on two exact doubles rounds the exact result, once
+-- ---- one operation on two doubles rounds the exact result, once: x is a / p in size and y is b / q, of either sign
 
-pub mul-once : (f : Format) (x y : Float) (a b : ℕ) → HasValue x false a 1 → HasValue y false b 1 → mul f x y ≡ round f false (a * b) 1
+pub mul-once : (f : Format) (x y : Float) (s t : Bool) (a b p q : ℕ) → 0 < p → 0 < q → HasValue x s a p → HasValue y t b q
+    → mul f x y ≡ round f (unlike s t) (a * b) (p * q)
 unfolding mul
-mul-once f nan y a b v w = absurd v
-mul-once f (inf s) y a b v w = absurd v
-mul-once f (fin s m e) nan a b v w = absurd w
-mul-once f (fin s m e) (inf t) a b v w = absurd w
-mul-once f (fin s m e) (fin t n d) a b v w =
+mul-once f nan y s t a b p q hp hq v w = absurd v
+mul-once f (inf i) y s t a b p q hp hq v w = absurd v
+mul-once f (fin i m e) nan s t a b p q hp hq v w = absurd w
+mul-once f (fin i m e) (inf j) s t a b p q hp hq v w = absurd w
+mul-once f (fin i m e) (fin j n d) s t a b p q hp hq v w =
     rw (v .0, w .0)
-    (round-same f false (m * up e * (n * up d)) (down e * down d) (a * b) 1 (mul-pos (down-pos e) (down-pos d)) (omega arith)
-    (mul-one (m * up e * (n * up d))
-    ∙ ap₂ (λ (p q : ℕ). p * q) (sym (mul-one (m * up e)) ∙ v .1) (sym (mul-one (n * up d)) ∙ w .1)
-    ∙ mul-mul-mul-comm a (down e) b (down d)))
+    (round-same f _ (m * up e * (n * up d)) (down e * down d) (a * b) (p * q) (mul-pos (down-pos e) (down-pos d)) (mul-pos hp hq)
+    (mul-mul-mul-comm (m * up e) (n * up d) p q ∙ ap₂ (λ (i j : ℕ). i * j) (v .1) (w .1) ∙ mul-mul-mul-comm a (down e) b (down d)))
 
-pub div-once : (f : Format) (x y : Float) (a b : ℕ) → 0 < b → HasValue x false a 1 → HasValue y false b 1 → div f x y ≡ round f false a b
+pub div-once : (f : Format) (x y : Float) (s t : Bool) (a b p q : ℕ) → 0 < b → 0 < p → 0 < q → HasValue x s a p → HasValue y t b q
+    → div f x y ≡ round f (unlike s t) (a * q) (p * b)
 unfolding div
-div-once f nan y a b h v w = absurd v
-div-once f (inf s) y a b h v w = absurd v
-div-once f (fin s m e) nan a b h v w = absurd w
-div-once f (fin s m e) (inf t) a b h v w = absurd w
-div-once f (fin s m e) (fin t zero d) a b h v w = absurd (omega (arith, w .1, mul-pos h (down-pos d)))
-div-once f (fin s m e) (fin t (suc n) d) a b h v w =
-    let u : m * up e ≡ a * down e = sym (mul-one (m * up e)) ∙ v .1 in
-    let g : suc n * up d ≡ b * down d = sym (mul-one (suc n * up d)) ∙ w .1 in
+div-once f nan y s t a b p q h hp hq v w = absurd v
+div-once f (inf i) y s t a b p q h hp hq v w = absurd v
+div-once f (fin i m e) nan s t a b p q h hp hq v w = absurd w
+div-once f (fin i m e) (inf j) s t a b p q h hp hq v w = absurd w
+div-once f (fin i m e) (fin j zero d) s t a b p q h hp hq v w =
+    let z : 0 * up d * q ≡ 0 = rw (zero-mul (up d)) (zero-mul q) in
+    absurd (omega (arith, z, w .1, mul-pos h (down-pos d)))
+div-once f (fin i m e) (fin j (suc n) d) s t a b p q h hp hq v w =
     rw (v .0, w .0, eqb·suc-zero n)
-    (round-same f false (m * up e * down d) (suc n * up d * down e) a b (mul-pos (mul-pos (omega arith) (up-pos d)) (down-pos e)) h
-    (ap (λ (p : ℕ). p * down d * b) u ∙ mul-assoc (a * down e) (down d) b ∙ mul-assoc a (down e) (down d * b)
-    ∙ ap (λ (p : ℕ). a * p) (mul-comm (down e) (down d * b) ∙ ap (λ (p : ℕ). p * down e) (mul-comm (down d) b ∙ sym g))))
+    (round-same f _ (m * up e * down d) (suc n * up d * down e) (a * q) (p * b) (mul-pos (mul-pos (omega arith) (up-pos d)) (down-pos e)) (mul-pos hp h)
+    (mul-mul-mul-comm (m * up e) (down d) p b
+    ∙ ap₂ (λ (i j : ℕ). i * j) (v .1) (mul-comm (down d) b ∙ sym (w .1) ∙ mul-comm (suc n * up d) q)
+    ∙ mul-mul-mul-comm a (down e) q (suc n * up d)
+    ∙ ap (λ (i : ℕ). a * q * i) (mul-comm (down e) (suc n * up d))))
 
 -- ---- negation after rounding is rounding with a minus
 
@@ -103,9 +106,12 @@ scaled-once true c zero h l = refl
 scaled-once false c zero h l = ap (λ (a : ℕ). round binary64 false a 1) (sym (mul-one c))
 scaled-once true c (suc k) h l =
     rw (eqb·suc-zero k)
-    (div-once binary64 (exact c) (exact (10 ^ suc k)) c (10 ^ suc k) (one-le-pow (suc k) 10 (omega arith)) (whole-exact c (omega arith)) (ten-exact (suc k) l))
+    (div-once binary64 (exact c) (exact (10 ^ suc k)) false false c (10 ^ suc k) 1 1 (one-le-pow (suc k) 10 (omega arith)) (omega arith) (omega arith)
+    (whole-exact (pos c) (omega arith)) (ten-exact (suc k) l)
+    ∙ ap₂ (round binary64 false) (mul-one c) (one-mul (10 ^ suc k)))
 scaled-once false c (suc k) h l =
-    rw (eqb·suc-zero k) (mul-once binary64 (exact c) (exact (10 ^ suc k)) c (10 ^ suc k) (whole-exact c (omega arith)) (ten-exact (suc k) l))
+    rw (eqb·suc-zero k)
+    (mul-once binary64 (exact c) (exact (10 ^ suc k)) false false c (10 ^ suc k) 1 1 (omega arith) (omega arith) (whole-exact (pos c) (omega arith)) (ten-exact (suc k) l))
 
 numerator-is : (z : ℤ) (c : ℕ) → pick (ltZ z (pos 0)) c (c * 10 ^ natAbs z) ≡ c * 10 ^ raise z
 numerator-is (pos k) c = rw (le-ltb k 0 (omega arith))

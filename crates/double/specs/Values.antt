@@ -1,5 +1,5 @@
--- The values of a text, parted by spaces or tabs, with the place where each starts; separators at either end are dropped (document 01, "Numbers
--- in values", locations).
+-- The values of a text, parted by spaces or tabs, with the place where each starts; separators at either end are
+-- dropped (document 01, "Numbers in values", locations).
 -- Assumes nothing.
 use mathlib.Core.Path.{_≡_, refl, sym, ap, ap₂, subst, subst₂, _∙_}
 use mathlib.Core.Bool.{Bool, true, false, not}
@@ -77,7 +77,8 @@ value-first at b bs e =
     let n = run-yes solid b bs (rw e) in
     rw (cut-is at (b ∷ bs)) (joined-some at (run solid (b ∷ bs)) b bs _ (omega arith))
 
--- ---- the split is the paper's: a text is blanks and values in turn, the values not empty, without a blank, and ended by a blank or the text's end
+-- ---- the split is the paper's: a text is blanks and values in turn, the values not empty, without a blank, and
+-- ended by a blank or the text's end
 
 pub record Solid (v : List ℕ) : Type 0 where
   pub some : 0 < length v
@@ -98,7 +99,8 @@ split-blanks at t e =
     let z : valuesFrom at t ≡ [] = blanks-passed at t ∙ ap (λ (r : List ℕ). valuesFrom (at + run blank t) r) e ∙ values-none (at + run blank t) in
     rw z (blanks (rw u at (front-all blank t)))
 
--- every text has such a split, the definition's; n bounds its length, and r is what is left behind the blanks at its front
+-- every text has such a split, the definition's; n bounds its length, and r is what is left behind the blanks at its
+-- front
 split : (n at : ℕ) (t r : List ℕ) → behind blank t ≡ r → length t ≤ n → Parted at t (valuesFrom at t)
 split zero at t [] e h = split-blanks at t e
 split zero at t (b ∷ bs) e h = let l = ap length e in let m = length-drop (run blank t) t in absurd (omega arith)

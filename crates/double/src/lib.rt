@@ -1,5 +1,6 @@
-// A number as a double, rounded once, and locations of one or three doubles (document 01, "As a double" and "Numbers in values", rows 22 and 23).
-// Double, Values and Location have the definitions, Rounded the proof that a double is the decimal value rounded once. Stands on `decimal`, `text`, `refusal`.
+// A number as a double, rounded once, and locations of one or three doubles (document 01, "As a double" and "Numbers in
+// values", rows 22 and 23). Double, Values and Location have the definitions, Rounded the proof that a double is the
+// decimal value rounded once. Stands on `decimal`, `text`, `refusal`.
 // The rules in words: docs/FORMAT.md, "Numbers in values".
 use chars::Kind;
 use decimal::Decimal;
@@ -9,7 +10,7 @@ use refusal::Refusal;
 use refusal::Rule;
 ghost use mathlib.Core.Path.{_≡_};
 ghost use Prim.Native.Nat.{_^_, _<_, _≤_};
-ghost use lib.IntN.{pos, natAbs};
+ghost use lib.IntN.{pos};
 ghost use lib.ListN.{length};
 ghost use lib.Signed.{ltZ};
 ghost use Rattle.chars.specs.Chars.{isOf};
@@ -82,13 +83,7 @@ fn with_sign(minus: bool, x: f64) -> f64
     if minus { -x } else { x }
 }
 
-// How far a power is from 0, and whether it is below.
-fn magnitude(z: i32) -> u32
-    ensures { λ r. ⌜ r ≡ natAbs z ⌝ }
-{
-    if z < 0 { (!z) as u32 + 1 } else { z as u32 }
-}
-
+// Whether a power is below 0.
 fn below_zero(z: i32) -> bool
     ensures { λ r. ⌜ r ≡ ltZ z (pos 0) ⌝ }
 {
@@ -109,8 +104,8 @@ fn no_double() -> DoubleAnswer
     })
 }
 
-// The double of a number: up to 2^53 - 1 the coefficient, and up to 10^15 the power of ten, are doubles exactly, so the one operation on them is the
-// only rounding.
+// The double of a number: up to 2^53 - 1 the coefficient, and up to 10^15 the power of ten, are doubles exactly, so the
+// one operation on them is the only rounding.
 fn double_from(n: Decimal) -> DoubleAnswer
     ensures { λ r. ⌜ r ≡ doubleFrom n ⌝ }
 {
@@ -119,7 +114,7 @@ fn double_from(n: Decimal) -> DoubleAnswer
     if 9007199254740991 < c {
         return no_double();
     }
-    let k = magnitude(power) as usize;
+    let k = word::magnitude(power) as usize;
     if 15 < k {
         return no_double();
     }
@@ -163,7 +158,8 @@ fn value_count() -> LocationAnswer
     })
 }
 
-// The refusal of an answer that is no double, passed up with the place where the value starts. (Of a double it is never asked.)
+// The refusal of an answer that is no double, passed up with the place where the value starts. (Of a double it is never
+// asked.)
 fn passed(at: usize, answer: DoubleAnswer) -> LocationAnswer
     ensures { λ r. ⌜ r ≡ passed at answer ⌝ }
 {
@@ -233,7 +229,8 @@ fn over(kind: Kind, text: &[u8], i: usize) -> usize
     i + chars::run(kind, decimal::behind(text, i))
 }
 
-// The location that a text is (document 01, "Numbers in values"): how many values there are is judged before any of them.
+// The location that a text is (document 01, "Numbers in values"): how many values there are is judged before any of
+// them.
 pub fn location(text: &[u8]) -> LocationAnswer
     ensures { λ r. ⌜ r ≡ locationOf (now (text .entry)) ⌝ }
 {

@@ -24,6 +24,7 @@ plus-bits (pos n) h t = omega arith
 plus-bits (negsuc n) h t = absurd (let z : _≡_ {A = ℕ} 0 1 = cc in omega arith)
 
 -- the test whether v lies outside of two bounds, as the machine makes it
-pub tested : (low high v : ℤ) {b : Bool} → mag v < 2147483648 → (ltZ (toZ w32 (ofZ w32 v)) low || ltZ high (toZ w32 (ofZ w32 v))) ≡ b → outside low high v ≡ b
+pub tested : (low high v : ℤ) {b : Bool} → mag v < 2147483648 → (ltZ (toZ w32 (ofZ w32 v)) low || ltZ high (toZ w32 (ofZ w32 v))) ≡ b
+    → outside low high v ≡ b
 unfolding outside
-tested low high v k e = (rw (kept v k) at e)
+tested low high v k e = (rw (kept w32 v k) at e)

@@ -131,7 +131,8 @@ pub fit-reach : (row : List ℤ) → unfitIntegers 1 row ≡ All → (k : ℕ) �
 unfolding unfitIntegers reach
 fit-reach row h k l = inside (getD row k (pos 0)) (all-good (unfitInteger 1) (pos 0) 0 row h k l)
 
--- "written then read gives what was given": codes 1 and 2, for every row within their reach (only the empty row is within the reach of another code)
+-- "written then read gives what was given": codes 1 and 2, for every row within their reach (only the empty row is
+-- within the reach of another code)
 nothing-held : (f : ℕ → ℤ) (row : List ℤ) → ((k : ℕ) → k < length row → mag (getD row k (pos 0)) < 0) → valuesFrom f 0 (length row) ≡ row
 unfolding valuesFrom
 nothing-held f [] h = refl

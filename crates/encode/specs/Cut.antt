@@ -1,5 +1,5 @@
--- What code 3 keeps of a sample: its leading bits. "So the value read differs by less than 2 to the exponent, and by nothing up to 32,767"
--- (document 01, "Samples").
+-- What code 3 keeps of a sample: its leading bits. "So the value read differs by less than 2 to the exponent, and by
+-- nothing up to 32,767" (document 01, "Samples").
 -- Assumes nothing.
 use mathlib.Core.Path.{_≡_, refl, sym, ap, _∙_}
 use mathlib.Core.Bool.{Bool, true, false, cond}
@@ -20,7 +20,7 @@ use Rattle.sample.specs.Run.{valuesFrom, run-same, run-map, run-of}
 use Rattle.decode.specs.Sample.{exponentIn, ones, scaled, groupSample, sampleOf, integersThere, integersRead}
 use Rattle.decode.specs.SampleLaws.{minus-times, scaled-plus, scaled-minus, in-group, all-read}
 use Rattle.encode.specs.Unfit.{unfitIntegers}
-use Rattle.encode.specs.Write.{flat, smallest, exponentOf, mantissaOf, onesBits, exponentsOf, wordsOf, groupBytes, groups, filledUp, integersData}
+use Rattle.encode.specs.Write.{mantissaMost, flat, smallest, exponentOf, mantissaOf, onesBits, exponentsOf, wordsOf, groupBytes, groups, filledUp, integersData}
 use Rattle.encode.specs.WriteLaws.{no-less, exponent-of, exponent-smallest, exponent-small, fit-magnitude, length-group}
 use Rattle.encode.specs.Back.{word-flat, written-there}
 use Rattle.encode.specs.declared.Fit.the-variants.{All}
@@ -100,19 +100,19 @@ kept-neg zero h = kept-pos 0 h
 kept-neg (suc n) h = cut-neg n ∙ ap (λ (k : ℕ). negℤ (pos k)) h
 
 -- "and by nothing up to 32,767"
-small-whole : (n : ℕ) → n ≤ 32767 → n / 2 ^ smallest 15 0 n * 2 ^ smallest 15 0 n ≡ n
+small-whole : (n : ℕ) → n ≤ mantissaMost → n / 2 ^ smallest 15 0 n * 2 ^ smallest 15 0 n ≡ n
 small-whole n h =
     let r = exponent-of n (omega arith) in
     let z : smallest 15 0 n ≤ 0 = no-less n 0 (smallest 15 0 n) (omega arith) (r .0 .least) in
     let e : smallest 15 0 n ≡ 0 = omega arith in
     rw e (omega arith)
 
-pub cut-exact : (z : ℤ) → natAbs z ≤ 32767 → cut z ≡ z
+pub cut-exact : (z : ℤ) → natAbs z ≤ mantissaMost → cut z ≡ z
 cut-exact (pos n) h = kept-pos n (small-whole n h)
 cut-exact (negsuc n) h = kept-neg (suc n) (small-whole (suc n) h)
 
 -- every value that code 3 can say, it can write: an exponent and a mantissa say a number that fits and is kept
-said-whole : (t e : ℕ) → t ≤ 32767 → e < 16 → (t * 2 ^ e / 2 ^ smallest 15 0 (t * 2 ^ e) * 2 ^ smallest 15 0 (t * 2 ^ e) ≡ t * 2 ^ e) × (t * 2 ^ e < 1073741824)
+said-whole : (t e : ℕ) → t ≤ mantissaMost → e < 16 → (t * 2 ^ e / 2 ^ smallest 15 0 (t * 2 ^ e) * 2 ^ smallest 15 0 (t * 2 ^ e) ≡ t * 2 ^ e) × (t * 2 ^ e < 1073741824)
 said-whole t e h k =
     let n = t * 2 ^ e in
     let small : n < 1073741824 = lt-of-lt-of-le (shl-lt {a = t} 15 e (omega arith)) (pow-mono {i = 15 + e} {j = 30} (omega arith)) in
@@ -151,7 +151,7 @@ sample-kept high block i b =
 
 -- ---- read after write
 
-ones-back : (m : ℤ) → natAbs m ≤ 32767 → ones (onesBits m) ≡ m
+ones-back : (m : ℤ) → natAbs m ≤ mantissaMost → ones (onesBits m) ≡ m
 unfolding ones onesBits
 ones-back (pos n) h = rw (lt-ltb n 32768 (omega arith))
 ones-back (negsuc n) h = let e : 65535 - (65535 - suc n) ≡ suc n = omega arith in rw (le-ltb (65535 - suc n) 32768 (omega arith), e)
@@ -165,10 +165,10 @@ size-mantissa (negsuc n) = size-neg (suc n / 2 ^ exponentOf (negsuc n))
 coded-back : (z : ℤ) → natAbs z < 1073741824 → scaled (exponentOf z) (onesBits (mantissaOf z)) ≡ cut z
 unfolding scaled cut
 coded-back z h =
-    let f : natAbs (mantissaOf z) ≤ 32767 = rw (size-mantissa z) (exponent-smallest z h .fits) in
+    let f : natAbs (mantissaOf z) ≤ mantissaMost = rw (size-mantissa z) (exponent-smallest z h .fits) in
     rw (ones-back (mantissaOf z) f)
 
-bits-small : (m : ℤ) → natAbs m ≤ 32767 → onesBits m < 65536
+bits-small : (m : ℤ) → natAbs m ≤ mantissaMost → onesBits m < 65536
 unfolding onesBits
 bits-small (pos n) h = omega arith
 bits-small (negsuc n) h = omega arith

@@ -1,5 +1,5 @@
--- Which samples a code cannot hold: "29 sample outside code 1's range, of magnitude 2^30 or more under code 3, or a pattern over 32 bits under code 4
--- (first index)" (document 01, "Refusal numbers").
+-- Which samples a code cannot hold: "29 sample outside code 1's range, of magnitude 2^30 or more under code 3, or a
+-- pattern over 32 bits under code 4 (first index)" (document 01, "Refusal numbers").
 -- Assumes nothing.
 use mathlib.Core.Path.{_≡_, refl, sym, ap, _∙_}
 use mathlib.Core.Bool.{Bool, true, false, cond, _||_}

@@ -1,5 +1,5 @@
--- The data bytes of a row of samples (document 01, "Samples" and "What we write"). Every definition is for any row; that what is read back is what was
--- written holds of the rows that the code can hold.
+-- The data bytes of a row of samples (document 01, "Samples" and "What we write"). Every definition is for any row;
+-- that what is read back is what was written holds of the rows that the code can hold.
 -- Assumes nothing.
 use mathlib.Core.Bool.{Bool, cond}
 use mathlib.Core.List.{List, [], _∷_, _++_}
@@ -19,7 +19,8 @@ flat f (x ∷ xs) = f x ++ flat f xs
 
 -- ---- codes 1 and 2
 
--- the number below m that z differs from by a multiple of m. Two's complement of b bits is the residue at 2^b: "(a) + (-a) = 2^16" (paper, appendix B)
+-- the number below m that z differs from by a multiple of m. Two's complement of b bits is the residue at 2^b: "(a) +
+-- (-a) = 2^16" (paper, appendix B)
 unfoldable pub residue : ℕ → ℤ → ℕ
 residue m (pos n) = n % m
 residue m (negsuc n) = m - 1 - n % m
@@ -29,10 +30,14 @@ fixedBytes w high z = bytesOf w high (residue (256 ^ w) z)
 
 -- ---- code 3
 
--- the first exponent from e on that brings n to at most 32,767; where `left` more are not enough, the last of them
+-- the greatest mantissa: "at most 32,767"
+abbrev pub mantissaMost : ℕ
+mantissaMost = 32767
+
+-- the first exponent from e on that brings n to at most that; where `left` more are not enough, the last of them
 unfoldable pub smallest : ℕ → ℕ → ℕ → ℕ
 smallest zero e n = e
-smallest (suc left) e n = cond (leb (n / 2 ^ e) 32767) e (smallest left (e + 1) n)
+smallest (suc left) e n = cond (leb (n / 2 ^ e) mantissaMost) e (smallest left (e + 1) n)
 
 -- "the exponent is the smallest .. that brings it to at most 32,767; low bits are cut toward zero"
 unfoldable pub exponentOf : ℤ → ℕ

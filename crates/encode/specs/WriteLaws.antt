@@ -1,4 +1,5 @@
--- The laws of writing: how long the bytes are, the exponent that the leading zeros tell, and a loop that writes one piece behind the other.
+-- The laws of writing: how long the bytes are, the exponent that the leading zeros tell, and a loop that writes one
+-- piece behind the other.
 -- Assumes nothing.
 use mathlib.Core.Path.{_≡_, refl, sym, ap, ap₂, _∙_}
 use mathlib.Core.Bool.{Bool, true, false, cond}
@@ -7,11 +8,10 @@ use Prim.Native.Nat.{ℕ, zero, suc, _+_, _-_, _*_, _/_, _%_, _^_, _≤_, _<_}
 use native.Mathlib.Nat.{le-trans, le-of-eq, le-div-iff-mul-le, div-one, mul-suc, mul-add, mul-one}
 use native.Mathlib.Numerals.{add-one}
 use native.Mathlib.Omega.{arith, by-contra}
-use native.Mathlib.Decide.{decLe}
 use lib.IntN.{ℤ, pos, negsuc, negℤ, natAbs}
-use lib.Bits.{bitOr, or-shifted}
+use lib.Bits.{bitOr, or-shifted, or-add-and, and-mask}
 use lib.Signed.{ltZ}
-use lib.Count.{leadingZeros, leading-top, leading-of-zero}
+use lib.Count.{leadingZeros, leading-top}
 use lib.Dec.{leb}
 use lib.ListN.{length, getD, drop, replicate, length-append, length-replicate, drop-of-length-le}
 use lib.Pow.{pow-mono, pow-pos, pow-add, shr-lt, shr-shr, field, mod-mod-pow}
@@ -22,7 +22,7 @@ use Rattle.word.specs.Round.{round4}
 use Rattle.word.specs.Word.{lowBytes, bytesOf}
 use Rattle.word.specs.WordLaws.{length-bytesOf}
 use Rattle.encode.specs.Unfit.{unfitInteger, unfitIntegers, all-good}
-use Rattle.encode.specs.Write.{flat, residue, smallest, exponentOf, mantissaOf, onesBits, exponentsOf, wordsOf, groupBytes, groupOf, groups, filledUp}
+use Rattle.encode.specs.Write.{flat, residue, mantissaMost, smallest, exponentOf, mantissaOf, onesBits, exponentsOf, wordsOf, groupBytes, groupOf, groups, filledUp}
 use Rattle.encode.specs.declared.Fit.the-variants.{All}
 
 -- ---- two's complement
@@ -53,78 +53,72 @@ bytes-low4 false n = low4 n
 
 -- ---- the exponent
 
--- e is the smallest exponent that brings n to at most 32,767
+-- e is the smallest exponent that brings n to at most the greatest mantissa
 pub record Smallest (n e : ℕ) : Type 0 where
-  pub fits : n / 2 ^ e ≤ 32767
-  pub least : (k : ℕ) → k < e → 32767 < n / 2 ^ k
+  pub fits : n / 2 ^ e ≤ mantissaMost
+  pub least : (k : ℕ) → k < e → mantissaMost < n / 2 ^ k
 
-pub no-less : (n a b : ℕ) → n / 2 ^ a ≤ 32767 → ((k : ℕ) → k < b → 32767 < n / 2 ^ k) → b ≤ a
+pub no-less : (n a b : ℕ) → n / 2 ^ a ≤ mantissaMost → ((k : ℕ) → k < b → mantissaMost < n / 2 ^ k) → b ≤ a
 no-less n a b f g = by-contra b a (λ l. (let r = g a l in omega arith))
 
 -- the search finds it, if it is among those that are looked at
 smallest-is : (left e n s : ℕ) → Smallest n s → e ≤ s → s ≤ e + left → smallest left e n ≡ s
 unfolding smallest
 smallest-is zero e n s r h k = omega arith
-smallest-is (suc left) e n s r h k = go (leb (n / 2 ^ e) 32767) refl (λ l. smallest-is left (e + 1) n s r l (omega arith))
+smallest-is (suc left) e n s r h k = go (leb (n / 2 ^ e) mantissaMost) refl (λ l. smallest-is left (e + 1) n s r l (omega arith))
   where
-    go : (t : Bool) → leb (n / 2 ^ e) 32767 ≡ t → (e + 1 ≤ s → smallest left (e + 1) n ≡ s) → cond t e (smallest left (e + 1) n) ≡ s
-    go true q f = let l = no-less n e s (leb-true (n / 2 ^ e) 32767 q) (r .least) in omega arith
+    go : (t : Bool) → leb (n / 2 ^ e) mantissaMost ≡ t → (e + 1 ≤ s → smallest left (e + 1) n ≡ s) → cond t e (smallest left (e + 1) n) ≡ s
+    go true q f = let l = no-less n e s (leb-true (n / 2 ^ e) mantissaMost q) (r .least) in omega arith
     go false q f =
         f
         (by-contra (e + 1) s
         (λ m.
         (let z : e ≡ s = omega arith in
-        let t : n / 2 ^ e ≤ 32767 = rw z (r .fits) in
-        omega (arith, leb-false (n / 2 ^ e) 32767 q))))
+        let t : n / 2 ^ e ≤ mantissaMost = rw z (r .fits) in
+        omega (arith, leb-false (n / 2 ^ e) mantissaMost q))))
 
--- the exponent that the leading zeros of n tell: n has 32 bits less its leading zeros, and 15 of them stay
-told : (n : ℕ) → n < 1073741824 → leadingZeros 32 n < 17 → Smallest n (17 - leadingZeros 32 n) × (2 ≤ leadingZeros 32 n)
-told zero h l = absurd (omega (arith, leading-of-zero 32))
-told (suc n) h l =
-    let z = leadingZeros 32 (suc n) in
-    let s = leading-top 32 (suc n) (omega arith) (omega arith) in
-    let low : s .0 < 30 = by-contra (suc (s .0)) 30 (λ m. (let p = pow-mono {i = 30} {j = s .0} (omega arith) in omega (arith, s .2))) in
-    let e : suc (s .0) ≡ 15 + (17 - z) = omega (arith, s .1) in (
+-- n with its low 15 bits set
+filled : (n : ℕ) → bitOr n 32767 ≡ n + 32767 - n % 32768
+filled n = omega (arith, or-add-and n 32767, and-mask n 15)
+
+-- the exponent that its leading zeros tell: it has 32 bits less them, and 15 stay
+told : (n : ℕ) → n < 1073741824
+    → Smallest n (17 - leadingZeros 32 (bitOr n 32767)) × ((2 ≤ leadingZeros 32 (bitOr n 32767)) × (leadingZeros 32 (bitOr n 32767) ≤ 17))
+told n h =
+    let m = n + 32767 - n % 32768 in
+    let s = leading-top 32 m (omega arith) (omega arith) in
+    let z = leadingZeros 32 m in
+    let low : s .0 < 30 = by-contra (suc (s .0)) 30 (λ q. (let p = pow-mono {i = 30} {j = s .0} (omega arith) in omega (arith, s .2))) in
+    let high : 14 ≤ s .0 = by-contra 14 (s .0) (λ q. (let p = pow-mono {i = suc (s .0)} {j = 14} (omega arith) in omega (arith, s .3))) in
+    let e : suc (s .0) ≡ 15 + (17 - z) = omega (arith, s .1) in
+    let below : n < 2 ^ suc (s .0) = omega (arith, s .3) in
+    rw (filled n) (
       record {
-        fits = (let r = shr-lt {n = suc n} 15 (17 - z) (rw e at (s .3)) in omega arith);
-        least = λ k m. le-div-iff-mul-le (pow-pos k) .1
-            (le-trans (le-of-eq (sym (pow-add 2 15 k))) (le-trans (pow-mono {i = 15 + k} {j = s .0} (omega arith)) (s .2)));
+        fits = (let r = shr-lt {n = n} 15 (17 - z) (rw e at below) in omega arith);
+        least = λ k l. le-div-iff-mul-le (pow-pos k) .1
+            (let p = pow-mono {i = 15 + k} {j = s .0} (omega arith) in omega (arith, pow-add 2 15 k, s .2));
       },
-      omega (arith, s .1),
+      (omega (arith, s .1), omega (arith, s .1)),
     )
-
-none : (n : ℕ) → n < 1073741824 → 17 ≤ leadingZeros 32 n → Smallest n 0
-none zero h l = record { fits = omega arith; least = λ k m. absurd (omega arith) }
-none (suc n) h l =
-    let s = leading-top 32 (suc n) (omega arith) (omega arith) in
-    let p = pow-mono {i = suc (s .0)} {j = 15} (omega (arith, s .1)) in
-    record { fits = omega (arith, s .3); least = λ k m. absurd (omega arith) }
 
 -- what the code answers of the leading zeros it counted
 pub record Told (n e : ℕ) : Type 0 where
   pub is : e ≡ smallest 15 0 n
   pub small : e < 16
-  pub fits : n / 2 ^ e ≤ 32767
+  pub fits : n / 2 ^ e ≤ mantissaMost
 
-pub exponent-told : (n : ℕ) → n < 1073741824 → leadingZeros 32 n < 17 → Told n (17 - leadingZeros 32 n)
-exponent-told n h l =
-    let r = told n h l in
-    let b : 2 ≤ leadingZeros 32 n = r .1 in
-    record { is = sym (smallest-is 15 0 n (17 - leadingZeros 32 n) (r .0) (omega arith) (omega arith)); small = omega arith; fits = r .0 .fits }
+pub zeros-most : (n : ℕ) → n < 1073741824 → leadingZeros 32 (bitOr n 32767) ≤ 17
+zeros-most n h = told n h .1 .1
 
-pub exponent-none : (n : ℕ) → n < 1073741824 → 17 ≤ leadingZeros 32 n → Told n 0
-exponent-none n h l =
-    let r = none n h l in
-    record { is = sym (smallest-is 15 0 n 0 r (omega arith) (omega arith)); small = omega arith; fits = r .fits }
+pub exponent-told : (n : ℕ) → n < 1073741824 → Told n (17 - leadingZeros 32 (bitOr n 32767))
+exponent-told n h =
+    let r = told n h in
+    let e : 17 - leadingZeros 32 (bitOr n 32767) < 16 = omega (arith, r .1 .0) in
+    record { is = sym (smallest-is 15 0 n (17 - leadingZeros 32 (bitOr n 32767)) (r .0) (omega arith) (omega arith)); small = e; fits = r .0 .fits }
 
 -- the exponent of a magnitude below 2^30 is the smallest that fits, and below 16
 pub exponent-of : (n : ℕ) → n < 1073741824 → Smallest n (smallest 15 0 n) × (smallest 15 0 n < 16)
-exponent-of n h =
-    elim (decLe 17 (leadingZeros 32 n)) [
-      | yes l ↦ (let e = exponent-none n h l .is in (rw (← e) (none n h l), rw (← e) (omega arith)))
-      | no l ↦ (let m : leadingZeros 32 n < 17 = by-contra (suc (leadingZeros 32 n)) 17 (λ q. l (omega arith)) in
-          let e = exponent-told n h m in (rw (← e .is) (told n h m .0), rw (← e .is) (e .small)))
-    ]
+exponent-of n h = let e = exponent-told n h in (rw (← e .is) (told n h .0), rw (← e .is) (e .small))
 
 pub exponent-smallest : (z : ℤ) → natAbs z < 1073741824 → Smallest (natAbs z) (exponentOf z)
 unfolding exponentOf
@@ -260,15 +254,22 @@ write-turn {left} {w} {old} {i} {part} {new} bs r e l q =
       rest = ap₂ (λ (p : List ℕ) (k : ℕ). put p k (left (i + 1))) q m ∙ s ∙ r .rest;
     }
 
--- nothing is left, and zeros follow up to a multiple of 4
+-- nothing is left
+pub write-over : {left : ℕ → List ℕ} {w : ℕ} {old : List ℕ} {i : ℕ} {part : List ℕ} → Writing left w old i part → left i ≡ [] → part ≡ put old 0 (left 0)
+write-over {left} {w} {old} {i} {part} r e = sym (put-none part (w * i)) ∙ ap (put part (w * i)) (sym e) ∙ r .rest
+
+-- zeros follow up to a multiple of 4
+pub zeros-end : {part : List ℕ} (old bs : List ℕ) (end to : ℕ) → part ≡ put old 0 bs → length bs ≡ end → to ≡ round4 end
+    → put part end (replicate (to - end) 0) ≡ put old 0 (filledUp bs)
+unfolding filledUp
+zeros-end old bs end to p l t =
+    let z : 0 + length bs ≡ length bs = omega arith in
+    rw (t, ← l, put-append bs (replicate (round4 (length bs) - length bs) 0) old 0, z, ← p)
+
 pub write-end : {left : ℕ → List ℕ} {w : ℕ} {old : List ℕ} {i : ℕ} {part : List ℕ} (end to : ℕ)
     → Writing left w old i part → left i ≡ [] → length (left 0) ≡ end → to ≡ round4 end
     → put part end (replicate (to - end) 0) ≡ put old 0 (filledUp (left 0))
-unfolding filledUp
-write-end {left} {w} {old} {i} {part} end to r e l t =
-    let p : part ≡ put old 0 (left 0) = sym (put-none part (w * i)) ∙ ap (put part (w * i)) (sym e) ∙ r .rest in
-    let z : 0 + length (left 0) ≡ length (left 0) = omega arith in
-    rw (t, ← l, put-append (left 0) (replicate (round4 (length (left 0)) - length (left 0)) 0) old 0, z, ← p)
+write-end {left} {w} {old} end to r e l t = zeros-end old (left 0) end to (write-over r e) l t
 
 -- what is left of a row, sample by sample and group by group
 pub flat-turn : {A : Type 0} (f : A → List ℕ) (d : A) (xs : List A) (i : ℕ) → i < length xs → flat f (drop i xs) ≡ f (getD xs i d) ++ flat f (drop (i + 1) xs)
@@ -278,6 +279,17 @@ flat-turn f d xs i h = rw (add-one i, drop-cons xs i d h)
 pub flat-over : {A : Type 0} (f : A → List ℕ) (xs : List A) (i : ℕ) → length xs ≤ i → flat f (drop i xs) ≡ []
 unfolding flat
 flat-over f xs i h = rw (drop-of-length-le xs {i = i} h)
+
+-- a row of samples of w bytes each: one more is written; all are, and zeros follow
+pub row-turn : {A : Type 0} (f : A → List ℕ) {w : ℕ} {old part new : List ℕ} {i : ℕ} (d : A) (xs : List A) → ((x : A) → length (f x) ≡ w)
+    → Writing (λ k. flat f (drop k xs)) w old i part → i < length xs → new ≡ put part (w * i) (f (getD xs i d))
+    → Writing (λ k. flat f (drop k xs)) w old (i + 1) new
+row-turn f {i = i} d xs l r h q = write-turn (f (getD xs i d)) r (flat-turn f d xs i h) (l (getD xs i d)) q
+
+pub row-end : {A : Type 0} (f : A → List ℕ) {w : ℕ} {old part : List ℕ} {i : ℕ} (xs : List A) (to : ℕ) → ((x : A) → length (f x) ≡ w)
+    → Writing (λ k. flat f (drop k xs)) w old i part → length xs ≤ i → to ≡ round4 (w * length xs)
+    → put part (w * length xs) (replicate (to - w * length xs) 0) ≡ put old 0 (filledUp (flat f xs))
+row-end f {w} {i = i} xs to l r h t = write-end (w * length xs) to r (flat-over f xs i h) (length-flat f w l xs) t
 
 pub groups-turn : (high : Bool) (xs : List ℤ) (g : ℕ) → 4 * g + 4 ≤ length xs
     → groups high (drop (4 * g) xs)

@@ -1,7 +1,9 @@
-// The five sample codes written, on a data block alone (document 01, "Samples", refusal 29): the first sample that a code cannot hold, and the block.
-// Unfit and Write have the definitions; Back and Cut say what is read back: the samples, or code 3's nearest towards 0. Stands on `decode`, `sample`, `word`.
+// The five sample codes written, on a data block alone (document 01, "Samples", refusal 29): the first sample that a
+// code cannot hold, and the block. Unfit and Write have the definitions; Back and Cut say what is read back: the
+// samples, or code 3's nearest towards 0. Stands on `decode`, `sample`, `word`.
 // The rules in words: docs/FORMAT.md, "Samples".
 ghost use mathlib.Core.Path.{_≡_};
+ghost use mathlib.Core.Bool.{true, false};
 ghost use Prim.Native.Nat.{_+_, _*_, _%_, _≤_, _<_};
 ghost use lib.IntN.{natAbs};
 ghost use lib.ListN.{length};
@@ -10,7 +12,7 @@ ghost use Rattle.word.specs.Word.{bytesOf};
 ghost use Rattle.sample.specs.Needed.{room};
 ghost use Rattle.encode.specs.Unfit.{firstFrom, any, outside, unfitIntegers, unfitPattern, unfitPatterns};
 ghost use Rattle.encode.specs.WriteLaws.{Told, Coded};
-ghost use Rattle.encode.specs.Write.{residue, wordsOf, groupOf, integersData, bitsData};
+ghost use Rattle.encode.specs.Write.{residue, wordsOf, groupOf, groups, integersData, bitsData};
 
 // ---- the sample that a code cannot hold
 
@@ -35,7 +37,8 @@ fn first_outside(row: &[i32], low: i32, high: i32) -> Fit
     Fit::All
 }
 
-// Whether any sample is not from `low` to `high`. The loop has no early way out, so that a compiler can test many at a time.
+// Whether any sample is not from `low` to `high`. The loop has no early way out, so that a compiler can test many at a
+// time.
 fn any_outside(row: &[i32], low: i32, high: i32) -> bool
     ensures { λ r. ⌜ r ≡ any (outside low high) (now (row .entry)) ⌝ }
 {
@@ -205,20 +208,13 @@ pub fn write5(row: &[u64], high: bool, part: &mut [u8])
     word::zeros(part, end, word::round_up(end));
 }
 
-// How far a sample is from 0.
-fn magnitude(v: i32) -> u32
-    ensures { λ r. ⌜ r ≡ natAbs v ⌝ }
-{
-    if v < 0 { (!v) as u32 + 1 } else { v as u32 }
-}
-
-// The smallest exponent that brings a magnitude to at most 32,767, found from its leading zeros: 17 of them leave 15 bits.
+// The smallest exponent that brings a magnitude to at most 32,767, found from its leading zeros: 17 of them leave 15
+// bits. The low 15 bits count as set, so that a magnitude of fewer bits has 17 too, and no test is made.
 fn exponent(n: u32) -> u32
     requires { ⌜ n < 1073741824 ⌝ }
     ensures { λ r. ⌜ Told n r ⌝ }
 {
-    let zeros = u32::leading_zeros(n);
-    if zeros < 17 { 17 - zeros } else { 0 }
+    17 - u32::leading_zeros(n | 32767)
 }
 
 // A sample of code 3, as it is written.
@@ -232,7 +228,7 @@ fn float20_of(v: i32) -> Float20
     requires { ⌜ natAbs v < 1073741824 ⌝ }
     ensures { λ r. ⌜ Coded v (r .exponent) (r .mantissa) ⌝ }
 {
-    let n = magnitude(v);
+    let n = word::magnitude(v);
     let e = exponent(n);
     let t = (n >> e) as u16;
     if v < 0 {
@@ -295,17 +291,49 @@ fn write_group(row: &[i32], high: bool, g: usize, part: &mut [u8])
     );
 }
 
+// The groups of a row, low byte first. There is a loop for each order, as `decode` has it.
+fn write_low(row: &[i32], part: &mut [u8])
+    requires { ⌜ (room 3 (length (now row)) ≤ length (now part)) × (length (now row) % 4 ≡ 0) × (unfitIntegers 3 (now row) ≡ Fit.All) ⌝ }
+    ensures { λ _. ⌜ now (part .exit) ≡ put (now (part .entry)) 0 (groups false (now (row .entry))) ⌝ }
+{
+    let count = row.len() / 4;
+    let mut g = 0;
+    while g < count {
+        write_group(row, false, g, part);
+        g += 1;
+    }
+}
+
+// High byte first.
+fn write_high(row: &[i32], part: &mut [u8])
+    requires { ⌜ (room 3 (length (now row)) ≤ length (now part)) × (length (now row) % 4 ≡ 0) × (unfitIntegers 3 (now row) ≡ Fit.All) ⌝ }
+    ensures { λ _. ⌜ now (part .exit) ≡ put (now (part .entry)) 0 (groups true (now (row .entry))) ⌝ }
+{
+    let count = row.len() / 4;
+    let mut g = 0;
+    while g < count {
+        write_group(row, true, g, part);
+        g += 1;
+    }
+}
+
+fn write_groups(row: &[i32], high: bool, part: &mut [u8])
+    requires { ⌜ (room 3 (length (now row)) ≤ length (now part)) × (length (now row) % 4 ≡ 0) × (unfitIntegers 3 (now row) ≡ Fit.All) ⌝ }
+    ensures { λ _. ⌜ now (part .exit) ≡ put (now (part .entry)) 0 (groups high (now (row .entry))) ⌝ }
+{
+    if high {
+        write_high(row, part);
+        return;
+    }
+    write_low(row, part);
+}
+
 // The data block of code 3: the groups, and zeros up to a multiple of 4.
 pub fn write3(row: &[i32], high: bool, part: &mut [u8])
     requires { ⌜ (room 3 (length (now row)) ≤ length (now part)) × (length (now row) % 4 ≡ 0) × (unfitIntegers 3 (now row) ≡ Fit.All) ⌝ }
     ensures { λ _. ⌜ now (part .exit) ≡ put (now (part .entry)) 0 (integersData 3 high (now (row .entry))) ⌝ }
 {
-    let count = row.len() / 4;
-    let mut g = 0;
-    while g < count {
-        write_group(row, high, g, part);
-        g += 1;
-    }
-    let end = 10 * count;
+    write_groups(row, high, part);
+    let end = 10 * (row.len() / 4);
     word::zeros(part, end, word::round_up(end));
 }

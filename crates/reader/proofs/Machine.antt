@@ -32,7 +32,7 @@ whole (negsuc (suc k)) n h e = absurd (omega arith)
 -- below -1
 pub below : (z : ℤ) (n : ℕ) → mag z < 2147483648 → (ofZ w32 z ≡ 4294967295 → ⊥) → ltZ (toZ w32 (ofZ w32 z)) (pos 0) ≡ true → Nobody ≡ whoseOf z n
 unfolding whoseOf
-below z n h f t = go z f (sign z h t)
+below z n h f t = go z f (sign w32 z h t)
   where
     go : (y : ℤ) → (ofZ w32 y ≡ 4294967295 → ⊥) → ltZ y (pos 0) ≡ true → Nobody ≡ whoseOf y n
     go (pos k) f t = let l : k < 0 = ltb-true k 0 t in absurd (omega arith)
@@ -42,14 +42,14 @@ below z n h f t = go z f (sign z h t)
 -- 0 and above
 at-least : (z : ℤ) → mag z < 2147483648 → ltZ (toZ w32 (ofZ w32 z)) (pos 0) ≡ false → (k : ℕ) × (z ≡ pos k) × (k < 2147483648)
 at-least (pos k) h t = (k, refl, h)
-at-least (negsuc k) h t = let s = sign (negsuc k) h t in let y : _≡_ {A = ℕ} 0 1 = cc in absurd (omega arith)
+at-least (negsuc k) h t = let s = sign w32 (negsuc k) h t in let y : _≡_ {A = ℕ} 0 1 = cc in absurd (omega arith)
 
 plain : (z : ℤ) (k : ℕ) → mag z < 2147483648 → z ≡ pos k → natAbs (toZ w32 (ofZ w32 z)) ≡ k
-plain z k h e = rw (kept z h, e)
+plain z k h e = rw (kept w32 z h, e)
 
 pub casts : (z : ℤ) → mag z < 2147483648 → ltZ (toZ w32 (ofZ w32 z)) (pos 0) ≡ false
     → T (nonNeg (toZ w32 (ofZ w32 z))) × Fits w32 (natAbs (toZ w32 (ofZ w32 z)))
-casts z h t = let a = at-least z h t in rw (kept z h, a .1) (tt, record { fits = omega (arith, a .2) })
+casts z h t = let a = at-least z h t in rw (kept w32 z h, a .1) (tt, record { fits = omega (arith, a .2) })
 
 -- among n, and past them
 among : (k n : ℕ) → k < n → One k ≡ whoseOf (pos k) n

@@ -1,4 +1,5 @@
--- How many bytes samples take. "Needed bytes: code 1: 2S, code 2: 4S, code 3: 10S/4, code 4: 4S, code 5: 8S" (document 01, "The trace block").
+-- How many bytes samples take. "Needed bytes: code 1: 2S, code 2: 4S, code 3: 10S/4, code 4: 4S, code 5: 8S" (document
+-- 01, "The trace block").
 -- Assumes nothing.
 use mathlib.Core.Path.{_≡_, refl}
 use Prim.Native.Nat.{ℕ, zero, suc, _*_, _/_}

@@ -1,4 +1,5 @@
--- What a function gives from a number on: f i, f (i + 1), .., as many as are asked for. A lent row is filled with such a valuesFrom.
+-- What a function gives from a number on: f i, f (i + 1), .., as many as are asked for. A lent row is filled with such
+-- a valuesFrom.
 -- Assumes nothing.
 use mathlib.Core.Path.{_≡_, refl, sym, ap, ap₂, _∙_}
 use mathlib.Core.List.{List, [], _∷_, _++_, append-nil, map}

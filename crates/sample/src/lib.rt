@@ -1,5 +1,5 @@
-// What reading and writing samples share (document 01, "Samples"): how many bytes a count of samples takes, and a word of 2, 4 or 8 bytes in either
-// byte order, turned as a whole. Definitions in Needed, Run and Turned. Stands on `word`.
+// What reading and writing samples share (document 01, "Samples"): how many bytes a count of samples takes, and a word
+// of 2, 4 or 8 bytes in either byte order, turned as a whole. Definitions in Needed, Run and Turned. Stands on `word`.
 // The rules in words: docs/FORMAT.md, "Samples".
 ghost use mathlib.Core.Path.{_≡_};
 ghost use Prim.Native.Nat.{_≤_, _<_};
@@ -32,8 +32,9 @@ pub fn room(code: u8, count: u32) -> usize
 
 // ---- words in either order
 
-// The bytes of a word the other way round, where the high one comes first. A word is read and written low byte first, as the machine does in one
-// step, and then turned, which is one step as well. So a loop over words has no branch on the order.
+// The bytes of a word the other way round, where the high one comes first. A word is read and written low byte first,
+// as the machine does in one step, and then turned, which is one step as well. So a loop over words has no branch on
+// the order.
 pub fn turned(high: bool, n: u16) -> u16
     ensures { λ r. ⌜ r ≡ turned 2 high n ⌝ }
 {

@@ -16,6 +16,7 @@ ghost use Rattle.sheet.specs.Sizes.{lineCost, capped};
 
 // "An area is at most 65,500 bytes": `areaMost` of the definitions. Whatever is over it is counted as one more.
 pub const AREA: usize = 65500;
+
 const OVER: usize = 65501;
 
 // A step over one line: past it, with its length and its keyword's; or the refusal.

@@ -1,4 +1,5 @@
--- A part of a list: what `&f[a..e]` is of the slice f. Its laws hold for elements of any type. And a part of a lent slice, with its place in memory.
+-- A part of a list: what `&f[a..e]` is of the slice f. Its laws hold for elements of any type. And a part of a lent
+-- slice, with its place in memory.
 -- Assumes nothing.
 use mathlib.Core.Path.{_≡_, sym, _∙_}
 use mathlib.Core.List.{List, [], _∷_, _++_}
@@ -70,7 +71,8 @@ module _ {A : Type 0} where
 
 -- ---- a part of a lent slice
 
--- r is the part of b from p .0 up to p .1: b's own bytes, where they stand in the caller's memory, and not a copy of them
+-- r is the part of b from p .0 up to p .1: b's own bytes, where they stand in the caller's memory, and not a copy of
+-- them
 pub record PartOf (b : RefT (List ℕ)) (p : ℕ × ℕ) (r : RefT (List ℕ)) : Type 0 where
   pub bytes : r .now ≡ part (p .0) (p .1) (b .now)
   pub block : r .ptr .0 ≡ b .ptr .0

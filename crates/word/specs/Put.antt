@@ -1,5 +1,5 @@
--- What a write does to a buffer: elements stored one behind the other from a place on. A store past the end does nothing, as `set` does, so that
--- nearly every law asks nothing. The laws hold for elements of any type.
+-- What a write does to a buffer: elements stored one behind the other from a place on. A store past the end does
+-- nothing, as `set` does, so that nearly every law asks nothing. The laws hold for elements of any type.
 -- Assumes nothing.
 use mathlib.Core.Path.{_≡_, refl, sym, ap, _∙_}
 use mathlib.Core.List.{List, [], _∷_, _++_, append-nil, append-assoc}
@@ -143,7 +143,8 @@ module _ {A : Type 0} where
       → take from xs ++ (zs ++ drop (length xs - from) (drop from xs)) ≡ put xs from bs
   lent-back xs bs zs from e = rw e (put-lent xs bs from)
 
-  -- a turn of a loop that stores src from at on: what is left to store after it, stored, is what was left before it, stored
+  -- a turn of a loop that stores src from at on: what is left to store after it, stored, is what was left before it,
+  -- stored
   pub copy-turn : (d : A) (src buf : List A) (at i : ℕ) → i < length src
       → put (set buf (at + i) (getD src i d)) (at + (i + 1)) (drop (i + 1) src) ≡ put buf (at + i) (drop i src)
   unfolding put

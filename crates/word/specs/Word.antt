@@ -1,5 +1,5 @@
--- Whole numbers of several bytes. "All whole numbers follow the byte order told by bytes 0 and 1: 55 3A is low byte first, 3A 55 high byte first"
--- (document 01, "The file block"). An order is a Bool: `true` is high byte first.
+-- Whole numbers of several bytes. "All whole numbers follow the byte order told by bytes 0 and 1: 55 3A is low byte
+-- first, 3A 55 high byte first" (document 01, "The file block"). An order is a Bool: `true` is high byte first.
 -- Assumes nothing.
 use mathlib.Core.Bool.{Bool, true, false}
 use mathlib.Core.List.{List, [], _∷_, reverse}

@@ -1,9 +1,11 @@
-// Whole numbers of 2, 4 and 8 bytes in either order, at a place of a slice; bytes stored from a place on; rounding up to 4.
-// Word, Put and Part have the definitions; Tests and Signed the laws of tests and of signed numbers that all crates use. Stands on nothing.
+// Whole numbers of 2, 4 and 8 bytes in either order, at a place of a slice; bytes stored from a place on; magnitudes;
+// rounding up to 4. Word, Put and Part have the definitions; Tests and Signed the laws of tests and of signed numbers
+// that all crates use. Stands on nothing.
 // `high` says that the high byte comes first (document 01, "The file block").
 // The rules in words: docs/FORMAT.md, "The file block".
 ghost use mathlib.Core.Path.{_≡_};
 ghost use Prim.Native.Nat.{_+_, _-_, _≤_, _<_};
+ghost use lib.IntN.{natAbs};
 ghost use lib.ListN.{length, replicate};
 ghost use Rattle.word.specs.Put.{put};
 ghost use Rattle.word.specs.Round.{round4};
@@ -131,6 +133,13 @@ pub fn zeros(buf: &mut [u8], a: usize, e: usize)
         buf[i] = 0;
         i += 1;
     }
+}
+
+// How far a number is from 0. Of the least, which has no opposite, too.
+pub fn magnitude(z: i32) -> u32
+    ensures { λ r. ⌜ r ≡ natAbs z ⌝ }
+{
+    if z < 0 { (!z) as u32 + 1 } else { z as u32 }
 }
 
 // The least multiple of 4 that is not below n.

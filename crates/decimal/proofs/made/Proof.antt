@@ -1,6 +1,7 @@
 -- `decimal::made` meets its contract: at most 18 digits fit 64 bits, and at most 2 stay below a hundred. Assumes nothing.
 use Prim.Native.Nat.{_<_}
 use native.Mathlib.Omega.{arith}
+use mir.Syntax.{w32}
 use Rattle.word.specs.Signed.{kept}
 use borrow.Author.Needs.{needs}
 use Rattle.decimal.specs.Number.{decimalOf}
@@ -27,7 +28,7 @@ made-spec =
     let at-value2 = at-value3 .before in
     let at-value = at-value2 .before in
     rw (
-      kept (c .power .result) (c .power .ok),
+      kept w32 (c .power .result) (c .power .ok),
       c .power .ensures,
       at-value3 .value3 .ensures,
       at-value2 .value2 .ensures,

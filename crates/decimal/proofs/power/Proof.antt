@@ -1,5 +1,6 @@
 -- `decimal::power` meets its contract: a law for each of the three cases. Assumes nothing.
 use mathlib.Core.Path.{_∙_}
+use mir.Syntax.{w32}
 use Rattle.word.specs.Signed.{kept}
 use borrow.Author.Needs.{needs}
 use Rattle.decimal.specs.Power.{power-down, power-less, power-more}
@@ -15,8 +16,8 @@ power-spec =
     (λ c κs. search needs)
     (λ c. search needs)
     (λ c κs. search needs)
-    (λ c. kept (c .signed .result) (c .signed .ok) ∙ c .signed .ensures ∙ rw (c .before .if1 .taken) (power-down _ _))
-    (λ c. kept (c .signed2 .result) (c .signed2 .ok) ∙ c .signed2 .ensures ∙ rw (c .before .before .if1 .left)
-    (power-less _ _ (c .before .if2 .taken)))
-    (λ c. kept (c .signed3 .result) (c .signed3 .ok) ∙ c .signed3 .ensures ∙ rw (c .before .before .if1 .left)
-    (power-more _ _ (c .before .if2 .left))))
+    (λ c. kept w32 (c .signed .result) (c .signed .ok) ∙ c .signed .ensures ∙ rw (c .before .if1 .taken) (power-down _ _))
+    (λ c. kept w32 (c .signed2 .result) (c .signed2 .ok) ∙ c .signed2 .ensures
+    ∙ rw (c .before .before .if1 .left) (power-less _ _ (c .before .if2 .taken)))
+    (λ c. kept w32 (c .signed3 .result) (c .signed3 .ok) ∙ c .signed3 .ensures
+    ∙ rw (c .before .before .if1 .left) (power-more _ _ (c .before .if2 .left))))

@@ -11,7 +11,7 @@ signed-spec =
     tie.close
     (tie.spec
     (λ c. search needs)
-    (λ c. negates (c .before .args .n) (c .before .pre))
+    (λ c. negates w32 (c .before .args .n) (c .before .pre))
     (λ c. search needs)
-    (λ c. rw (c .if1 .taken) (negated (c .before .args .n) (c .before .pre)))
+    (λ c. rw (c .if1 .taken) (negated w32 (c .before .args .n) (c .before .pre)))
     (λ c. rw (c .if1 .left) (toZ-pos w32 (c .before .pre))))

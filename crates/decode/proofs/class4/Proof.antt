@@ -1,4 +1,5 @@
--- `decode::class4` meets its contract. The class is how many of four bounds the bits behind the sign have passed. Assumes nothing.
+-- `decode::class4` meets its contract. The class is how many of four bounds the bits behind the sign have passed.
+-- Assumes nothing.
 use Prim.Native.Nat.{_+_, _/_, _%_}
 use native.Mathlib.Omega.{arith}
 use lib.Dec.{ltb}
@@ -16,11 +17,17 @@ class4-spec =
     (λ c. search needs)
     (λ c. search needs)
     (λ c. search needs)
-    (λ c. let m = c .args .pattern % 2147483648 in omega (arith, one-at-most (ltb 0 m), one-at-most (ltb 8388607 m), one-at-most (ltb 2139095039 m), one-at-most (ltb 2139095040 m)))
+    (λ c.
+    let m = c .args .pattern % 2147483648 in
+    omega (arith, one-at-most (ltb 0 m), one-at-most (ltb 8388607 m), one-at-most (ltb 2139095039 m), one-at-most (ltb 2139095040 m)))
     (λ c. search needs)
-    (λ c. let m = c .args .pattern % 2147483648 in omega (arith, one-at-most (ltb 0 m), one-at-most (ltb 8388607 m), one-at-most (ltb 2139095039 m), one-at-most (ltb 2139095040 m)))
+    (λ c.
+    let m = c .args .pattern % 2147483648 in
+    omega (arith, one-at-most (ltb 0 m), one-at-most (ltb 8388607 m), one-at-most (ltb 2139095039 m), one-at-most (ltb 2139095040 m)))
     (λ c. search needs)
-    (λ c. let m = c .args .pattern % 2147483648 in omega (arith, one-at-most (ltb 0 m), one-at-most (ltb 8388607 m), one-at-most (ltb 2139095039 m), one-at-most (ltb 2139095040 m)))
+    (λ c.
+    let m = c .args .pattern % 2147483648 in
+    omega (arith, one-at-most (ltb 0 m), one-at-most (ltb 8388607 m), one-at-most (ltb 2139095039 m), one-at-most (ltb 2139095040 m)))
     (λ c.
     let n = c .args .pattern in
     class-passed 255 8388608 (n / 8388608 % (255 + 1)) (n % 8388608) (n % 2147483648) (omega arith) (omega arith) (omega arith) (omega arith)))

@@ -1,4 +1,5 @@
--- `decode::class5` meets its contract. The class is how many of four bounds the bits behind the sign have passed. Assumes nothing.
+-- `decode::class5` meets its contract. The class is how many of four bounds the bits behind the sign have passed.
+-- Assumes nothing.
 use Prim.Native.Nat.{_+_, _/_, _%_}
 use native.Mathlib.Omega.{arith}
 use lib.Dec.{ltb}
@@ -15,11 +16,39 @@ class5-spec =
     (tie.spec
     (λ c. search needs)
     (λ c. search needs)
-    (λ c. let m = c .args .pattern % 9223372036854775808 in omega (arith, one-at-most (ltb 0 m), one-at-most (ltb 4503599627370495 m), one-at-most (ltb 9218868437227405311 m), one-at-most (ltb 9218868437227405312 m)))
+    (λ c.
+    let m = c .args .pattern % 9223372036854775808 in
+    omega (
+      arith,
+      one-at-most (ltb 0 m),
+      one-at-most (ltb 4503599627370495 m),
+      one-at-most (ltb 9218868437227405311 m),
+      one-at-most
+          (ltb 9218868437227405312 m),
+    ))
     (λ c. search needs)
-    (λ c. let m = c .args .pattern % 9223372036854775808 in omega (arith, one-at-most (ltb 0 m), one-at-most (ltb 4503599627370495 m), one-at-most (ltb 9218868437227405311 m), one-at-most (ltb 9218868437227405312 m)))
+    (λ c.
+    let m = c .args .pattern % 9223372036854775808 in
+    omega (
+      arith,
+      one-at-most (ltb 0 m),
+      one-at-most (ltb 4503599627370495 m),
+      one-at-most (ltb 9218868437227405311 m),
+      one-at-most
+          (ltb 9218868437227405312 m),
+    ))
     (λ c. search needs)
-    (λ c. let m = c .args .pattern % 9223372036854775808 in omega (arith, one-at-most (ltb 0 m), one-at-most (ltb 4503599627370495 m), one-at-most (ltb 9218868437227405311 m), one-at-most (ltb 9218868437227405312 m)))
+    (λ c.
+    let m = c .args .pattern % 9223372036854775808 in
+    omega (
+      arith,
+      one-at-most (ltb 0 m),
+      one-at-most (ltb 4503599627370495 m),
+      one-at-most (ltb 9218868437227405311 m),
+      one-at-most
+          (ltb 9218868437227405312 m),
+    ))
     (λ c.
     let n = c .args .pattern in
-    class-passed 2047 4503599627370496 (n / 4503599627370496 % (2047 + 1)) (n % 4503599627370496) (n % 9223372036854775808) (omega arith) (omega arith) (omega arith) (omega arith)))
+    class-passed 2047 4503599627370496 (n / 4503599627370496 % (2047 + 1)) (n % 4503599627370496) (n % 9223372036854775808) (omega arith)
+    (omega arith) (omega arith) (omega arith)))

@@ -1,11 +1,12 @@
--- `decode::classes5` meets its contract. The invariant: what is left to store, stored, makes the whole row. Assumes nothing.
-use mathlib.Core.Path.{refl, _∙_, ap}
+-- `decode::classes5` meets its contract. The invariant: what is left to store, stored, makes the whole row. Assumes
+-- nothing.
 use Prim.Native.Nat.{ℕ, _-_}
 use native.Mathlib.Omega.{arith}
 use lib.ListN.{length, getD}
 use borrow.Author.Needs.{needs}
-use Rattle.sample.specs.Run.{valuesFrom, Filling, fill-start, fill-one, fill-end, run-of}
+use Rattle.sample.specs.Run.{Filling, fill-start, fill-one}
 use Rattle.decode.specs.Sample.{classOf}
+use Rattle.decode.specs.SampleLaws.{classes-end}
 use Rattle.decode.proofs.classes5.Statement.{statement}
 use Rattle.decode.proofs.classes5.Tie as tie
 
@@ -31,7 +32,5 @@ classes5-spec =
     (λ c. fill-one (c .before .before .before .loop .inv) (omega arith) (c .class5 .ensures))
     (λ c. c .before .loop .inv .long)
     (λ c.
-    let c1 = c .before in
-    let c4 = c1 .before .before .before in
-    fill-end (c1 .loop .inv) (omega arith) ∙ ap (valuesFrom _ 0) (c4 .pre) ∙ run-of _ (classOf 5) 0 (c4 .args .row .now) (λ i l.
-    refl)))
+    let start = c .before .before .before .before in
+    classes-end 5 (start .args .row .now) (c .before .loop .inv) (omega arith) (start .pre)))

@@ -1,7 +1,9 @@
--- `decode::group_sample` meets its contract. The exponent comes out of the first word, the mantissa is k words behind it and one. Assumes nothing.
+-- `decode::group_sample` meets its contract. The exponent comes out of the first word, the mantissa is k words behind
+-- it and one. Assumes nothing.
 use mathlib.Core.Path.{ap, ap₂, _∙_}
 use Prim.Native.Nat.{ℕ}
 use borrow.Author.Needs.{needs}
+use mir.Syntax.{w32}
 use Rattle.decode.specs.Sample.{exponentIn, scaled, groupSample}
 use Rattle.word.specs.Signed.{kept}
 use Rattle.decode.proofs.group_sample.Statement.{statement}
@@ -18,4 +20,9 @@ group-sample-spec =
     (λ c. search needs)
     (λ c κs. search needs)
     (λ c κs. search needs)
-    (λ c. kept (c .scaled .result) (c .scaled .ok) ∙ c .scaled .ensures ∙ ap₂ scaled (c .before .before .exponent-in .ensures .0 ∙ ap (λ (w : ℕ). exponentIn w (c .before .before .before .before .args .k)) (c .before .before .before .before .pre .1)) (c .before .word-at .ensures .0)))
+    (λ c.
+    let at-word-at = c .before in
+    let at-exponent-in = at-word-at .before in
+    let start = at-exponent-in .before .before in
+    kept w32 (c .scaled .result) (c .scaled .ok) ∙ c .scaled .ensures ∙ ap₂ scaled
+    (at-exponent-in .exponent-in .ensures .0 ∙ ap (λ (w : ℕ). exponentIn w (start .args .k)) (start .pre .1)) (at-word-at .word-at .ensures)))

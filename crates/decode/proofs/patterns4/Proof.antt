@@ -1,4 +1,5 @@
--- `decode::patterns4` meets its contract. The invariant: what is left to store, stored, makes the whole row. Assumes nothing.
+-- `decode::patterns4` meets its contract. The invariant: what is left to store, stored, makes the whole row. Assumes
+-- nothing.
 use Prim.Native.Nat.{_-_}
 use native.Mathlib.Omega.{arith}
 use lib.ListN.{length}
@@ -29,6 +30,7 @@ patterns4-spec =
     (λ c. search needs)
     (λ c. search needs)
     (λ c. search needs)
-    (λ c. fill-one (c .before .before .loop .inv) (omega arith) (c .word4-at .ensures .0))
+    (λ c. search needs)
+    (λ c. fill-one (c .before .before .loop .inv) (omega arith) (c .word4-at .ensures))
     (λ c. c .before .loop .inv .long)
     (λ c. fill-end (c .before .loop .inv) (omega arith)))

@@ -1,4 +1,5 @@
--- `decode::patterns5` meets its contract. The invariant: what is left to store, stored, makes the whole row. Assumes nothing.
+-- `decode::patterns5` meets its contract. The invariant: what is left to store, stored, makes the whole row. Assumes
+-- nothing.
 use Prim.Native.Nat.{_-_}
 use native.Mathlib.Omega.{arith}
 use lib.ListN.{length}

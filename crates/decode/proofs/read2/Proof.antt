@@ -1,14 +1,16 @@
--- `decode::read2` meets its contract. The invariant: what is left to store, stored, makes the whole row. Assumes nothing.
-use mathlib.Core.Path.{refl, _∙_, ap}
+-- `decode::read2` meets its contract. The invariant: what is left to store, stored, makes the whole row. Assumes
+-- nothing.
+use mathlib.Core.Path.{refl, _∙_}
 use Prim.Native.Nat.{_-_}
 use native.Mathlib.Omega.{arith}
 use lib.ListN.{length}
 use borrow.Author.Needs.{needs}
-use Rattle.sample.specs.Needed.{needed, width}
-use Rattle.sample.specs.Run.{Filling, fill-start, fill-one, fill-end}
-use Rattle.decode.specs.Sample.{twos, patternOf, sampleOf}
-use Rattle.decode.specs.SampleLaws.{too-short, there, nothing-read, all-read}
+use mir.Syntax.{w32}
 use Rattle.word.specs.Signed.{kept}
+use Rattle.sample.specs.Needed.{needed}
+use Rattle.sample.specs.Run.{Filling, fill-start, fill-one, fill-end}
+use Rattle.decode.specs.Sample.{sampleOf}
+use Rattle.decode.specs.SampleLaws.{too-short, there, nothing-read, all-read}
 use Rattle.decode.proofs.read2.Statement.{statement}
 use Rattle.decode.proofs.read2.Tie as tie
 
@@ -19,7 +21,7 @@ abbrev μ-loop : tie.MeasureT-loop
 μ-loop block high row₀ i₀ row i = length row₀ - i
 
 pub read2-spec : {M : Type 1} → statement M
-unfolding needed sampleOf patternOf width
+unfolding needed
 read2-spec =
     tie.close
     (tie.spec
@@ -27,13 +29,11 @@ read2-spec =
     μ-loop
     (λ c. nothing-read 2 _ _ _ (too-short 2 _ _ (omega arith)))
     (λ c. fill-start _ _)
-    (λ c. search needs)
-    (λ c κs. search needs)
     (λ c κs. search needs)
     (λ c. search needs)
     (λ c. search needs)
     (λ c. search needs)
     (λ c. search needs)
-    (λ c. fill-one (c .before .before .before .loop .inv) (omega arith) (kept (c .twos32 .result) (c .twos32 .ok) ∙ c .twos32 .ensures ∙ ap (twos 2147483648) (c .before .word4-at .ensures .0)))
+    (λ c. fill-one (c .before .before .loop .inv) (omega arith) (kept w32 (c .sample2 .result) (c .sample2 .ok) ∙ c .sample2 .ensures))
     (λ c. c .before .loop .inv .long)
     (λ c. all-read 2 _ _ _ _ (there 2 _ _ refl (omega arith)) (fill-end (c .before .loop .inv) (omega arith))))

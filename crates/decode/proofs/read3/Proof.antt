@@ -16,7 +16,15 @@ read3-spec =
     (λ c. nothing-read 3 _ _ _ (too-short 3 _ _ (omega arith)))
     (λ c κs. (omega arith, omega arith))
     (λ c. search needs)
-    (λ c. rw (c .before .before .before .if3 .taken) (all-read 3 _ _ _ _ (there 3 _ _ (eq-eqb _ _ (c .before .before .before .before .before .if1 .left)) (omega arith)) (c .before .read-groups .ensures)))
+    (λ c.
+    let at-read-high = c .before in
+    let at-if3 = at-read-high .before .before in
+    let at-if1 = at-if3 .before .before in
+    rw (at-if3 .if3 .taken) (all-read 3 _ _ _ _ (there 3 _ _ (eq-eqb _ _ (at-if1 .if1 .left)) (omega arith)) (at-read-high .read-high .ensures)))
     (λ c κs. (omega arith, omega arith))
     (λ c. search needs)
-    (λ c. rw (c .before .before .before .if3 .left) (all-read 3 _ _ _ _ (there 3 _ _ (eq-eqb _ _ (c .before .before .before .before .before .if1 .left)) (omega arith)) (c .before .read-groups2 .ensures))))
+    (λ c.
+    let at-read-low = c .before in
+    let at-if3 = at-read-low .before .before in
+    let at-if1 = at-if3 .before .before in
+    rw (at-if3 .if3 .left) (all-read 3 _ _ _ _ (there 3 _ _ (eq-eqb _ _ (at-if1 .if1 .left)) (omega arith)) (at-read-low .read-low .ensures))))

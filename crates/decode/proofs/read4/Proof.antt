@@ -18,4 +18,9 @@ read4-spec =
     (λ c κs. search needs)
     (λ c. search needs)
     (λ c. search needs)
-    (λ c. all-bits-read 4 _ _ _ _ _ _ (bits-there 4 _ _ _ refl (c .before .before .before .before .before .before .before .before .before .before .if1 .left) (omega arith)) (c .before .before .before .before .before .before .before .patterns4 .ensures) (c .before .before .classes4 .ensures)))
+    (λ c.
+    let at-classes4 = c .before .before in
+    let at-patterns4 = at-classes4 .before .before .before .before .before in
+    let at-if1 = at-patterns4 .before .before .before in
+    all-bits-read 4 _ _ _ _ _ _ (bits-there 4 _ _ _ refl (at-if1 .if1 .left) (omega arith)) (at-patterns4 .patterns4 .ensures)
+    (at-classes4 .classes4 .ensures)))

@@ -18,9 +18,21 @@ read5-spec =
     (λ c κs. search needs)
     (λ c. search needs)
     (λ c. search needs)
-    (λ c. rw (c .before .before .before .before .before .before .before .before .before .if3 .taken) (all-bits-read 5 _ _ _ _ _ _ (bits-there 5 _ _ _ refl (c .before .before .before .before .before .before .before .before .before .before .before .if1 .left) (omega arith)) (c .before .before .before .before .before .before .before .patterns5 .ensures) (c .before .before .classes5 .ensures)))
+    (λ c.
+    let at-classes5 = c .before .before in
+    let at-patterns5 = at-classes5 .before .before .before .before .before in
+    let at-if3 = at-patterns5 .before .before in
+    let at-if1 = at-if3 .before .before in
+    rw (at-if3 .if3 .taken) (all-bits-read 5 _ _ _ _ _ _ (bits-there 5 _ _ _ refl (at-if1 .if1 .left) (omega arith))
+    (at-patterns5 .patterns5 .ensures) (at-classes5 .classes5 .ensures)))
     (λ c κs. omega arith)
     (λ c κs. search needs)
     (λ c. search needs)
     (λ c. search needs)
-    (λ c. rw (c .before .before .before .before .before .before .before .before .before .if3 .left) (all-bits-read 5 _ _ _ _ _ _ (bits-there 5 _ _ _ refl (c .before .before .before .before .before .before .before .before .before .before .before .if1 .left) (omega arith)) (c .before .before .before .before .before .before .before .patterns52 .ensures) (c .before .before .classes52 .ensures))))
+    (λ c.
+    let at-classes52 = c .before .before in
+    let at-patterns52 = at-classes52 .before .before .before .before .before in
+    let at-if3 = at-patterns52 .before .before in
+    let at-if1 = at-if3 .before .before in
+    rw (at-if3 .if3 .left) (all-bits-read 5 _ _ _ _ _ _ (bits-there 5 _ _ _ refl (at-if1 .if1 .left) (omega arith))
+    (at-patterns52 .patterns52 .ensures) (at-classes52 .classes52 .ensures))))

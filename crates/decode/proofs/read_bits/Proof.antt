@@ -1,4 +1,5 @@
--- `decode::read_bits` meets its contract. Each arm is the decoder of its code; no other code is one of bits. Assumes nothing.
+-- `decode::read_bits` meets its contract. Each arm is the decoder of its code; no other code is one of bits. Assumes
+-- nothing.
 use borrow.Author.Needs.{needs}
 use Rattle.decode.specs.SampleLaws.{no-bits, no-bits-read}
 use Rattle.decode.proofs.read_bits.Statement.{statement}

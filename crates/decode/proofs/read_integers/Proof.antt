@@ -1,4 +1,5 @@
--- `decode::read_integers` meets its contract. Each arm is the decoder of its code; no other code is one of integers. Assumes nothing.
+-- `decode::read_integers` meets its contract. Each arm is the decoder of its code; no other code is one of integers.
+-- Assumes nothing.
 use borrow.Author.Needs.{needs}
 use Rattle.decode.specs.SampleLaws.{no-integers, nothing-read}
 use Rattle.decode.proofs.read_integers.Statement.{statement}

@@ -18,4 +18,7 @@ twos16-spec =
     (λ c. search needs)
     (λ c. search needs)
     (λ c. toZ-pos w16 {n = c .before .args .n} (omega arith) ∙ sym (twos-plus 32768 (c .before .args .n) (c .if1 .taken)))
-    (λ c. flipped16 (65535 - c .before .args .n) (omega arith) ∙ sym (twos-minus 32768 (c .before .args .n) (c .if1 .left) (c .before .pre))))
+    (λ c.
+    let start = c .before in
+    let args = start .args in
+    flipped16 (65535 - args .n) (omega arith) ∙ sym (twos-minus 32768 (args .n) (c .if1 .left) (start .fits .n .fits))))

@@ -18,4 +18,7 @@ twos32-spec =
     (λ c. search needs)
     (λ c. search needs)
     (λ c. toZ-pos w32 {n = c .before .args .n} (omega arith) ∙ sym (twos-plus 2147483648 (c .before .args .n) (c .if1 .taken)))
-    (λ c. flipped (4294967295 - c .before .args .n) (omega arith) ∙ sym (twos-minus 2147483648 (c .before .args .n) (c .if1 .left) (c .before .pre))))
+    (λ c.
+    let start = c .before in
+    let args = start .args in
+    flipped (4294967295 - args .n) (omega arith) ∙ sym (twos-minus 2147483648 (args .n) (c .if1 .left) (start .fits .n .fits))))

@@ -1,6 +1,6 @@
--- `decode::word4_at` meets its contract. A word that is read low byte first and then turned is the word of the order. Assumes nothing.
+-- `decode::word4_at` meets its contract. A word that is read low byte first and then turned is the word of the order.
+-- Assumes nothing.
 use mathlib.Core.Path.{ap, _∙_}
-use native.Mathlib.Omega.{arith}
 use borrow.Author.Needs.{needs}
 use Rattle.sample.specs.Turned.{turned, turned-word}
 use Rattle.decode.proofs.word4_at.Statement.{statement}
@@ -13,5 +13,9 @@ word4-at-spec =
     (λ c κs. search needs)
     (λ c. search needs)
     (λ c κs. search needs)
-    (λ c. search needs)
-    (λ c. (c .turned4 .ensures ∙ ap (turned 4 _) (c .before .word4 .ensures .0) ∙ turned-word 4 _ _ _ (c .before .before .before .pre) (λ i. c .before .before .shared-slice-known .given i .fits), omega arith)))
+    (λ c.
+    let at-word4 = c .before in
+    let at-shared-slice-known = at-word4 .before in
+    let start = at-shared-slice-known .before in
+    c .turned4 .ensures ∙ ap (turned 4 _) (at-word4 .word4 .ensures .0) ∙ turned-word 4 _ _ _ (start .pre)
+    (λ i. at-shared-slice-known .shared-slice-known .given i .fits)))

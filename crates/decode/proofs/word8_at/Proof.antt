@@ -1,4 +1,5 @@
--- `decode::word8_at` meets its contract. A word that is read low byte first and then turned is the word of the order. Assumes nothing.
+-- `decode::word8_at` meets its contract. A word that is read low byte first and then turned is the word of the order.
+-- Assumes nothing.
 use mathlib.Core.Path.{ap, _∙_}
 use borrow.Author.Needs.{needs}
 use Rattle.sample.specs.Turned.{turned, turned-word}
@@ -11,4 +12,9 @@ word8-at-spec =
     (tie.spec
     (λ c κs. search needs)
     (λ c κs. search needs)
-    (λ c. c .turned8 .ensures ∙ ap (turned 8 _) (c .before .word8 .ensures .0) ∙ turned-word 8 _ _ _ (c .before .before .before .pre) (λ i. c .before .before .shared-slice-known .given i .fits)))
+    (λ c.
+    let at-word8 = c .before in
+    let at-shared-slice-known = at-word8 .before in
+    let start = at-shared-slice-known .before in
+    c .turned8 .ensures ∙ ap (turned 8 _) (at-word8 .word8 .ensures .0) ∙ turned-word 8 _ _ _ (start .pre)
+    (λ i. at-shared-slice-known .shared-slice-known .given i .fits)))

@@ -1,6 +1,6 @@
--- `decode::word_at` meets its contract. A word that is read low byte first and then turned is the word of the order. Assumes nothing.
+-- `decode::word_at` meets its contract. A word that is read low byte first and then turned is the word of the order.
+-- Assumes nothing.
 use mathlib.Core.Path.{ap, _∙_}
-use native.Mathlib.Omega.{arith}
 use borrow.Author.Needs.{needs}
 use Rattle.sample.specs.Turned.{turned, turned-word}
 use Rattle.decode.proofs.word_at.Statement.{statement}
@@ -13,5 +13,9 @@ word-at-spec =
     (λ c κs. search needs)
     (λ c. search needs)
     (λ c κs. search needs)
-    (λ c. search needs)
-    (λ c. (c .turned .ensures ∙ ap (turned 2 _) (c .before .word2 .ensures .0) ∙ turned-word 2 _ _ _ (c .before .before .before .pre) (λ i. c .before .before .shared-slice-known .given i .fits), omega arith)))
+    (λ c.
+    let at-word2 = c .before in
+    let at-shared-slice-known = at-word2 .before in
+    let start = at-shared-slice-known .before in
+    c .turned .ensures ∙ ap (turned 2 _) (at-word2 .word2 .ensures .0) ∙ turned-word 2 _ _ _ (start .pre)
+    (λ i. at-shared-slice-known .shared-slice-known .given i .fits)))

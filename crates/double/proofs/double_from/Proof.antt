@@ -1,5 +1,7 @@
--- `double::double_from` meets its contract: a row for each answer. The power, loaded from the struct, is the number that was stored. Assumes nothing.
+-- `double::double_from` meets its contract: a row for each answer. The power, loaded from the struct, is the number
+-- that was stored. Assumes nothing.
 use mathlib.Core.Path.{_≡_, _∙_}
+use mir.Syntax.{w32}
 use Rattle.word.specs.Signed.{kept}
 use borrow.Author.Needs.{needs}
 use borrow.Author.Tests.{lt-ltb, le-ltb}
@@ -11,10 +13,12 @@ use Rattle.double.proofs.double_from.Tie as tie
 
 -- what the two leaves say of the power
 far : (c : tie.After-magnitude) → c .magnitude .result ≡ natAbs (c .before .before .before .args .n .power)
-far c = rw (kept (c .before .before .before .args .n .power) (c .before .before .struct-told .given .1 .1 .0 .1)) at (c .magnitude .ensures)
+far c = rw (kept w32 (c .before .before .before .args .n .power) (c .before .before .struct-told .given .1 .1 .0 .1)) at (c .magnitude .ensures)
 
 down : (c : tie.After-below-zero) → c .below-zero .result ≡ ltZ (c .before .before .before .before .before .args .n .power) (pos 0)
-down c = rw (kept (c .before .before .before .before .before .args .n .power) (c .before .before .before .before .struct-told .given .1 .1 .0 .1)) at (c .below-zero .ensures)
+down c =
+    rw (kept w32 (c .before .before .before .before .before .args .n .power)
+    (c .before .before .before .before .struct-told .given .1 .1 .0 .1)) at (c .below-zero .ensures)
 
 pub double-from-spec : {M : Type 1} → statement M
 unfolding doubleFrom

@@ -1,4 +1,5 @@
--- `double::location` meets its contract: a law for each count of values, with the places that were found. Assumes nothing.
+-- `double::location` meets its contract: a law for each count of values, with the places that were found. Assumes
+-- nothing.
 use mathlib.Core.Path.{_∙_}
 use native.Mathlib.Omega.{arith}
 use Rattle.double.specs.Location.{no-value, one-value, two-values, three-values, more-values}

@@ -1,4 +1,5 @@
--- `double::scaled` meets its contract: a coefficient below 2^53 becomes a double without rounding, so the cast is allowed. Assumes nothing.
+-- `double::scaled` meets its contract: a coefficient below 2^53 becomes a double without rounding, so the cast is
+-- allowed. Assumes nothing.
 use native.Mathlib.Omega.{arith}
 use borrow.Author.Needs.{needs}
 use borrow.Author.Tests.{eq-eqb, ne-eqb}

@@ -1,4 +1,5 @@
--- `double::ten` meets its contract: each entry of the table is its power of ten, computed once, and one law makes it the rule at each index.
+-- `double::ten` meets its contract: each entry of the table is its power of ten, computed once, and one law makes it
+-- the rule at each index.
 -- Assumes nothing.
 use mathlib.Core.Path.{_≡_, refl, subst}
 use mathlib.Core.List.{List, [], _∷_}

@@ -1,4 +1,5 @@
--- `encode::any_outside` meets its contract. The invariant: what was found before, or any from here on, is any. Assumes nothing.
+-- `encode::any_outside` meets its contract. The invariant: what was found before, or any from here on, is any. Assumes
+-- nothing.
 use mathlib.Core.Path.{_≡_, refl, sym, ap, ap₂, _∙_}
 use mathlib.Core.Bool.{Bool, _||_}
 use Prim.Native.Nat.{_+_, _-_}
@@ -14,7 +15,8 @@ use Rattle.encode.proofs.any_outside.Statement.{statement}
 use Rattle.encode.proofs.any_outside.Tie as tie
 
 abbrev Inv-loop : tie.InvT-loop
-Inv-loop row low high found₀ i₀ found i = (found || any (outside (toZ w32 low) (toZ w32 high)) (drop i row)) ≡ any (outside (toZ w32 low) (toZ w32 high)) row
+Inv-loop row low high found₀ i₀ found i =
+    (found || any (outside (toZ w32 low) (toZ w32 high)) (drop i row)) ≡ any (outside (toZ w32 low) (toZ w32 high)) row
 
 abbrev μ-loop : tie.MeasureT-loop
 μ-loop row low high found₀ i₀ found i = length row - i
@@ -35,7 +37,8 @@ any-outside-spec =
     let t = c .before .before .loop in
     let low : ℤ = toZ w32 (ofZ w32 (a .low)) in
     let high : ℤ = toZ w32 (ofZ w32 (a .high)) in
-    ap (λ (b : Bool). (t .found || b) || any (outside low high) (drop (t .i + 1) (a .row .now))) (sym (tested low high (getD (a .row .now) (t .i) (pos 0)) (c .v .given) refl))
+    ap (λ (b : Bool). (t .found || b) || any (outside low high) (drop (t .i + 1) (a .row .now)))
+    (sym (tested low high (getD (a .row .now) (t .i) (pos 0)) (c .v .given) refl))
     ∙ any-turn (outside low high) (pos 0) (a .row .now) (t .i) (t .found) (c .before .loop-test .taken)
     ∙ t .inv)
     (λ c.
@@ -43,4 +46,5 @@ any-outside-spec =
     let t = c .before .loop in
     any-through _ (a .row .now) (t .i) (t .found) (c .loop-test .left)
     ∙ t .inv
-    ∙ ap₂ (λ (l h : ℤ). any (outside l h) (a .row .now)) (kept (a .low) (c .before .before .fits .low .sfits)) (kept (a .high) (c .before .before .fits .high .sfits))))
+    ∙ ap₂ (λ (l h : ℤ). any (outside l h) (a .row .now))
+    (kept w32 (a .low) (c .before .before .fits .low .sfits)) (kept w32 (a .high) (c .before .before .fits .high .sfits))))

@@ -1,4 +1,5 @@
--- `encode::any_wide` meets its contract. The invariant: what was found before, or any from here on, is any. Assumes nothing.
+-- `encode::any_wide` meets its contract. The invariant: what was found before, or any from here on, is any. Assumes
+-- nothing.
 use mathlib.Core.Path.{_≡_, refl, _∙_}
 use mathlib.Core.Bool.{_||_}
 use Prim.Native.Nat.{_-_}
@@ -26,5 +27,13 @@ any-wide-spec =
     (λ c. search needs)
     (λ c. search needs)
     (λ c. search needs)
-    (λ c. any-turn (unfitPattern 4) 0 (c .before .before .before .args .row .now) (c .before .before .loop .i) (c .before .before .loop .found) (c .before .loop-test .taken) ∙ c .before .before .loop .inv)
-    (λ c. any-through (unfitPattern 4) (c .before .before .args .row .now) (c .before .loop .i) (c .before .loop .found) (c .loop-test .left) ∙ c .before .loop .inv))
+    (λ c.
+    let at-loop-test = c .before in
+    let at-loop = at-loop-test .before in
+    let start = at-loop .before in
+    any-turn (unfitPattern 4) 0 (start .args .row .now) (at-loop .loop .i) (at-loop .loop .found) (at-loop-test .loop-test .taken) ∙
+    at-loop .loop .inv)
+    (λ c.
+    let at-loop = c .before in
+    let start = at-loop .before in
+    any-through (unfitPattern 4) (start .args .row .now) (at-loop .loop .i) (at-loop .loop .found) (c .loop-test .left) ∙ at-loop .loop .inv))

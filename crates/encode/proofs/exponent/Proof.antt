@@ -1,6 +1,5 @@
--- `encode::exponent` meets its contract. 17 leading zeros or more leave at most 15 bits. Assumes nothing.
-use borrow.Author.Needs.{needs}
-use Rattle.encode.specs.WriteLaws.{exponent-told, exponent-none}
+-- `encode::exponent` meets its contract. 17 leading zeros leave 15 bits. Assumes nothing.
+use Rattle.encode.specs.WriteLaws.{zeros-most, exponent-told}
 use Rattle.encode.proofs.exponent.Statement.{statement}
 use Rattle.encode.proofs.exponent.Tie as tie
 
@@ -8,6 +7,5 @@ pub exponent-spec : {M : Type 1} → statement M
 exponent-spec =
     tie.close
     (tie.spec
-    (λ c. search needs)
-    (λ c. exponent-told (c .before .args .n) (c .before .pre) (c .if1 .taken))
-    (λ c. exponent-none (c .before .args .n) (c .before .pre) (c .if1 .left)))
+    (λ c. zeros-most (c .args .n) (c .pre))
+    (λ c. exponent-told (c .args .n) (c .pre)))

@@ -1,4 +1,5 @@
--- `encode::exponents` meets its contract. The shifted exponents share no bit, so that `|` is their sum. Assumes nothing.
+-- `encode::exponents` meets its contract. The shifted exponents share no bit, so that `|` is their sum. Assumes
+-- nothing.
 use native.Mathlib.Omega.{arith}
 use Rattle.encode.specs.WriteLaws.{placed}
 use Rattle.encode.proofs.exponents.Statement.{statement}

@@ -1,4 +1,5 @@
--- `encode::first_outside` meets its contract. The invariant: what is found from here on is what is found from the start. Assumes nothing.
+-- `encode::first_outside` meets its contract. The invariant: what is found from here on is what is found from the
+-- start. Assumes nothing.
 use mathlib.Core.Path.{ap₂, _≡_, refl, _∙_}
 use Prim.Native.Nat.{_-_}
 use lib.IntN.{ℤ, pos}
@@ -27,8 +28,25 @@ first-outside-spec =
     (λ c. refl)
     (λ c. search needs)
     (λ c. search needs)
-    (λ c. first-found _ (pos 0) _ _ (c .before .before .loop-test .taken) (tested _ _ _ (c .before .v .given) (c .if1 .taken)) (c .before .before .before .loop .inv) ∙ ap₂ (λ (l h : ℤ). firstFrom (outside l h) 0 (c .before .before .before .before .args .row .now)) (kept (c .before .before .before .before .args .low) (c .before .before .before .before .fits .low .sfits)) (kept (c .before .before .before .before .args .high) (c .before .before .before .before .fits .high .sfits)))
+    (λ c.
+    let at-v = c .before in
+    let at-loop-test = at-v .before in
+    let at-loop = at-loop-test .before in
+    let start = at-loop .before in
+    let args = start .args in
+    first-found _ (pos 0) _ _ (at-loop-test .loop-test .taken) (tested _ _ _ (at-v .v .given) (c .if1 .taken)) (at-loop .loop .inv) ∙ ap₂
+    (λ (l h : ℤ). firstFrom (outside l h) 0 (args .row .now)) (kept w32 (args .low) (start .fits .low .sfits))
+    (kept w32 (args .high) (start .fits .high .sfits)))
     (λ c. search needs)
     (λ c. search needs)
-    (λ c. first-next _ (pos 0) _ _ (c .before .before .loop-test .taken) (tested _ _ _ (c .before .v .given) (c .if1 .left)) (c .before .before .before .loop .inv))
-    (λ c. first-over _ _ _ (c .loop-test .left) (c .before .loop .inv) ∙ ap₂ (λ (l h : ℤ). firstFrom (outside l h) 0 (c .before .before .args .row .now)) (kept (c .before .before .args .low) (c .before .before .fits .low .sfits)) (kept (c .before .before .args .high) (c .before .before .fits .high .sfits))))
+    (λ c.
+    let at-v = c .before in
+    let at-loop-test = at-v .before in
+    let at-loop = at-loop-test .before in
+    first-next _ (pos 0) _ _ (at-loop-test .loop-test .taken) (tested _ _ _ (at-v .v .given) (c .if1 .left)) (at-loop .loop .inv))
+    (λ c.
+    let at-loop = c .before in
+    let start = at-loop .before in
+    let args = start .args in
+    first-over _ _ _ (c .loop-test .left) (at-loop .loop .inv) ∙ ap₂ (λ (l h : ℤ). firstFrom (outside l h) 0 (args .row .now))
+    (kept w32 (args .low) (start .fits .low .sfits)) (kept w32 (args .high) (start .fits .high .sfits))))

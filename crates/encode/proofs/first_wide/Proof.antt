@@ -1,4 +1,5 @@
--- `encode::first_wide` meets its contract. The invariant: what is found from here on is what is found from the start. Assumes nothing.
+-- `encode::first_wide` meets its contract. The invariant: what is found from here on is what is found from the start.
+-- Assumes nothing.
 use mathlib.Core.Path.{_≡_, refl}
 use Prim.Native.Nat.{_-_}
 use lib.ListN.{length, drop}
@@ -24,8 +25,14 @@ first-wide-spec =
     (λ c. refl)
     (λ c. search needs)
     (λ c. search needs)
-    (λ c. first-found (unfitPattern 4) 0 _ _ (c .before .before .loop-test .taken) (le-leb _ _ (c .if1 .taken)) (c .before .before .before .loop .inv))
+    (λ c.
+    let at-loop-test = c .before .before in
+    let at-loop = at-loop-test .before in
+    first-found (unfitPattern 4) 0 _ _ (at-loop-test .loop-test .taken) (le-leb _ _ (c .if1 .taken)) (at-loop .loop .inv))
     (λ c. search needs)
     (λ c. search needs)
-    (λ c. first-next (unfitPattern 4) 0 _ _ (c .before .before .loop-test .taken) (lt-leb _ _ (c .if1 .left)) (c .before .before .before .loop .inv))
+    (λ c.
+    let at-loop-test = c .before .before in
+    let at-loop = at-loop-test .before in
+    first-next (unfitPattern 4) 0 _ _ (at-loop-test .loop-test .taken) (lt-leb _ _ (c .if1 .left)) (at-loop .loop .inv))
     (λ c. first-over _ _ _ (c .loop-test .left) (c .before .loop .inv)))

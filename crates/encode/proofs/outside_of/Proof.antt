@@ -16,10 +16,16 @@ outside-of-spec =
     (λ c κs. search needs)
     (λ c κs. search needs)
     (λ c.
-    let s = c .before .before .before in
+    let start = c .before .before .before in
+    let args = start .args in
     c .first-outside .ensures
-    ∙ ap₂ (λ (l h : ℤ). firstFrom (outside l h) 0 (s .args .row .now)) (kept (s .args .low) (s .fits .low .sfits)) (kept (s .args .high) (s .fits .high .sfits)))
+    ∙ ap₂ (λ (l h : ℤ). firstFrom (outside l h) 0 (args .row .now)) (kept w32 (args .low) (start .fits .low .sfits))
+    (kept w32 (args .high) (start .fits .high .sfits)))
     (λ c.
-    let s = c .before .before in
-    any-none (outside (toZ w32 (ofZ w32 (s .args .low))) (toZ w32 (ofZ w32 (s .args .high)))) 0 (s .args .row .now) (sym (c .before .any-outside .ensures) ∙ c .if1 .left)
-    ∙ ap₂ (λ (l h : ℤ). firstFrom (outside l h) 0 (s .args .row .now)) (kept (s .args .low) (s .fits .low .sfits)) (kept (s .args .high) (s .fits .high .sfits))))
+    let at-any-outside = c .before in
+    let start = at-any-outside .before in
+    let args = start .args in
+    any-none (outside (toZ w32 (ofZ w32 (args .low))) (toZ w32 (ofZ w32 (args .high)))) 0 (args .row .now)
+    (sym (at-any-outside .any-outside .ensures) ∙ c .if1 .left)
+    ∙ ap₂ (λ (l h : ℤ). firstFrom (outside l h) 0 (args .row .now)) (kept w32 (args .low) (start .fits .low .sfits))
+    (kept w32 (args .high) (start .fits .high .sfits))))

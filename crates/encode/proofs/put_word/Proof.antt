@@ -1,4 +1,5 @@
--- `encode::put_word` meets its contract. A word that is turned and then written low byte first has the bytes of the order. Assumes nothing.
+-- `encode::put_word` meets its contract. A word that is turned and then written low byte first has the bytes of the
+-- order. Assumes nothing.
 use mathlib.Core.Path.{_∙_}
 use borrow.Author.Needs.{needs}
 use Rattle.sample.specs.Turned.{turned-bytes}

@@ -1,4 +1,5 @@
--- `encode::unfit_integers` meets its contract. Under code 3 a magnitude below 2^30 is a number between two bounds; the other codes hold every integer. Assumes nothing.
+-- `encode::unfit_integers` meets its contract. Under code 3 a magnitude below 2^30 is a number between two bounds; the
+-- other codes hold every integer. Assumes nothing.
 use mathlib.Core.Path.{_∙_}
 use borrow.Author.Needs.{needs}
 use Rattle.encode.specs.Unfit.{unfitIntegers, unfitInteger, first-same, magnitude-bounds, holds-integers}

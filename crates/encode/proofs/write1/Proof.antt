@@ -5,10 +5,11 @@ use native.Mathlib.Omega.{arith}
 use lib.IntN.{pos}
 use lib.ListN.{length, getD, drop}
 use borrow.Author.Needs.{needs}
+use mir.Syntax.{w32}
 use Rattle.word.specs.WordLaws.{length-bytesOf}
 use Rattle.encode.specs.Write.{residue, flat, fixedBytes, integersData}
 use Rattle.sample.specs.Needed.{needed, room}
-use Rattle.encode.specs.WriteLaws.{Writing, write-start, write-turn, write-end, flat-turn, flat-over, length-flat, residue-low}
+use Rattle.encode.specs.WriteLaws.{Writing, write-start, residue-low, row-turn, row-end}
 use Rattle.word.specs.Signed.{kept}
 use Rattle.encode.proofs.write1.Statement.{statement}
 use Rattle.encode.proofs.write1.Tie as tie
@@ -35,9 +36,26 @@ write1-spec =
     (λ c κs. omega arith)
     (λ c. search needs)
     (λ c. search needs)
-    (λ c. let z = getD (c .before .before .before .before .before .before .before .before .before .args .row .now) (c .before .before .before .before .before .before .before .loop .i) (pos 0) in let q : c .before .before .before .bits .result % 65536 ≡ residue 65536 z = ap (λ (n : ℕ). n % 65536) (c .before .before .before .bits .ensures ∙ ap (residue 4294967296) (kept z (c .before .before .before .before .bits-arg .given))) ∙ sym (residue-low z) in write-turn (fixedBytes 2 (c .before .before .before .before .before .before .before .before .before .args .high) z) (c .before .before .before .before .before .before .before .loop .inv) (flat-turn _ (pos 0) _ _ (c .before .before .before .before .before .before .loop-test .taken)) (length-bytesOf 2 _ _) (c .before .before .put2 .ensures ∙ rw q))
+    (λ c.
+    let at-put2 = c .before .before in
+    let at-bits = at-put2 .before in
+    let at-bits-arg = at-bits .before in
+    let at-loop-test = at-bits-arg .before .before in
+    let at-loop = at-loop-test .before in
+    let start = at-loop .before .before in
+    let z = getD (start .args .row .now) (at-loop .loop .i) (pos 0) in
+    let q : at-bits .bits .result % 65536 ≡ residue 65536 z = ap (λ (n : ℕ). n % 65536)
+    (at-bits .bits .ensures ∙ ap (residue 4294967296) (kept w32 z (at-bits-arg .bits-arg .given))) ∙ sym (residue-low z) in
+    row-turn (fixedBytes 2 _) (pos 0) _ (λ x. length-bytesOf 2 _ _) (at-loop .loop .inv) (at-loop-test .loop-test .taken)
+    (at-put2 .put2 .ensures ∙ rw q))
     (λ c. omega arith)
     (λ c κs. omega arith)
     (λ c κs. omega arith)
     (λ c. search needs)
-    (λ c. c .before .before .zeros .ensures ∙ write-end (2 * length (c .before .before .before .before .before .before .before .before .args .row .now)) (c .before .before .before .round-up .result) (c .before .before .before .before .before .before .loop .inv) (flat-over _ _ _ (c .before .before .before .before .before .loop-test .left)) (length-flat _ 2 (λ x. length-bytesOf 2 _ _) _) (c .before .before .before .round-up .ensures)))
+    (λ c.
+    let at-zeros = c .before .before in
+    let at-round-up = at-zeros .before in
+    let at-loop-test = at-round-up .before .before in
+    let at-loop = at-loop-test .before in
+    at-zeros .zeros .ensures ∙ row-end (fixedBytes 2 _) _ (at-round-up .round-up .result) (λ x. length-bytesOf 2 _ _) (at-loop .loop .inv)
+    (at-loop-test .loop-test .left) (at-round-up .round-up .ensures)))

@@ -5,10 +5,11 @@ use native.Mathlib.Omega.{arith}
 use lib.IntN.{pos}
 use lib.ListN.{length, getD, drop}
 use borrow.Author.Needs.{needs}
+use mir.Syntax.{w32}
 use Rattle.word.specs.WordLaws.{length-bytesOf}
 use Rattle.encode.specs.Write.{residue, flat, fixedBytes, integersData}
 use Rattle.sample.specs.Needed.{needed, room}
-use Rattle.encode.specs.WriteLaws.{Writing, write-start, write-turn, write-end, flat-turn, flat-over, length-flat}
+use Rattle.encode.specs.WriteLaws.{Writing, write-start, row-turn, row-end}
 use Rattle.word.specs.Signed.{kept}
 use Rattle.encode.proofs.write2.Statement.{statement}
 use Rattle.encode.proofs.write2.Tie as tie
@@ -34,9 +35,26 @@ write2-spec =
     (λ c κs. omega arith)
     (λ c. search needs)
     (λ c. search needs)
-    (λ c. let z = getD (c .before .before .before .before .before .before .before .before .before .args .row .now) (c .before .before .before .before .before .before .before .loop .i) (pos 0) in let q : c .before .before .before .bits .result ≡ residue 4294967296 z = c .before .before .before .bits .ensures ∙ ap (residue 4294967296) (kept z (c .before .before .before .before .bits-arg .given)) in write-turn (fixedBytes 4 (c .before .before .before .before .before .before .before .before .before .args .high) z) (c .before .before .before .before .before .before .before .loop .inv) (flat-turn _ (pos 0) _ _ (c .before .before .before .before .before .before .loop-test .taken)) (length-bytesOf 4 _ _) (c .before .before .put-word4 .ensures ∙ rw q))
+    (λ c.
+    let at-put-word4 = c .before .before in
+    let at-bits = at-put-word4 .before in
+    let at-bits-arg = at-bits .before in
+    let at-loop-test = at-bits-arg .before .before in
+    let at-loop = at-loop-test .before in
+    let start = at-loop .before .before in
+    let z = getD (start .args .row .now) (at-loop .loop .i) (pos 0) in
+    let q : at-bits .bits .result ≡ residue 4294967296 z = at-bits .bits .ensures ∙ ap (residue 4294967296)
+    (kept w32 z (at-bits-arg .bits-arg .given)) in
+    row-turn (fixedBytes 4 _) (pos 0) _ (λ x. length-bytesOf 4 _ _) (at-loop .loop .inv) (at-loop-test .loop-test .taken)
+    (at-put-word4 .put-word4 .ensures ∙ rw q))
     (λ c. omega arith)
     (λ c κs. omega arith)
     (λ c κs. omega arith)
     (λ c. search needs)
-    (λ c. c .before .before .zeros .ensures ∙ write-end (4 * length (c .before .before .before .before .before .before .before .before .args .row .now)) (c .before .before .before .round-up .result) (c .before .before .before .before .before .before .loop .inv) (flat-over _ _ _ (c .before .before .before .before .before .loop-test .left)) (length-flat _ 4 (λ x. length-bytesOf 4 _ _) _) (c .before .before .before .round-up .ensures)))
+    (λ c.
+    let at-zeros = c .before .before in
+    let at-round-up = at-zeros .before in
+    let at-loop-test = at-round-up .before .before in
+    let at-loop = at-loop-test .before in
+    at-zeros .zeros .ensures ∙ row-end (fixedBytes 4 _) _ (at-round-up .round-up .result) (λ x. length-bytesOf 4 _ _) (at-loop .loop .inv)
+    (at-loop-test .loop-test .left) (at-round-up .round-up .ensures)))

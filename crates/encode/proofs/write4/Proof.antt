@@ -8,7 +8,7 @@ use Rattle.word.specs.Word.{bytesOf}
 use Rattle.word.specs.WordLaws.{length-bytesOf}
 use Rattle.sample.specs.Needed.{needed, room}
 use Rattle.encode.specs.Write.{flat, bitsData}
-use Rattle.encode.specs.WriteLaws.{Writing, write-start, write-turn, write-end, flat-turn, flat-over, length-flat, bytes-low4}
+use Rattle.encode.specs.WriteLaws.{Writing, write-start, bytes-low4, row-turn, row-end}
 use Rattle.encode.proofs.write4.Statement.{statement}
 use Rattle.encode.proofs.write4.Tie as tie
 
@@ -33,9 +33,23 @@ write4-spec =
     (λ c κs. omega arith)
     (λ c. search needs)
     (λ c. search needs)
-    (λ c. let z = getD (c .before .before .before .before .before .before .before .before .before .args .row .now) (c .before .before .before .before .before .before .loop .i) 0 in write-turn (bytesOf 4 (c .before .before .before .before .before .before .before .before .before .args .high) z) (c .before .before .before .before .before .before .loop .inv) (flat-turn _ 0 _ _ (c .before .before .before .before .before .loop-test .taken)) (length-bytesOf 4 _ _) (c .before .before .put-word4 .ensures ∙ rw (bytes-low4 (c .before .before .before .before .before .before .before .before .before .args .high) z)))
+    (λ c.
+    let at-put-word4 = c .before .before in
+    let at-loop-test = at-put-word4 .before .before .before in
+    let at-loop = at-loop-test .before in
+    let start = at-loop .before .before .before in
+    let args = start .args in
+    let z = getD (args .row .now) (at-loop .loop .i) 0 in
+    row-turn (bytesOf 4 _) 0 _ (λ x. length-bytesOf 4 _ _) (at-loop .loop .inv) (at-loop-test .loop-test .taken)
+    (at-put-word4 .put-word4 .ensures ∙ rw (bytes-low4 (args .high) z)))
     (λ c. omega arith)
     (λ c κs. omega arith)
     (λ c κs. omega arith)
     (λ c. search needs)
-    (λ c. c .before .before .zeros .ensures ∙ write-end (4 * length (c .before .before .before .before .before .before .before .before .before .args .row .now)) (c .before .before .before .round-up .result) (c .before .before .before .before .before .before .loop .inv) (flat-over _ _ _ (c .before .before .before .before .before .loop-test .left)) (length-flat _ 4 (λ x. length-bytesOf 4 _ _) _) (c .before .before .before .round-up .ensures)))
+    (λ c.
+    let at-zeros = c .before .before in
+    let at-round-up = at-zeros .before in
+    let at-loop-test = at-round-up .before .before in
+    let at-loop = at-loop-test .before in
+    at-zeros .zeros .ensures ∙ row-end (bytesOf 4 _) _ (at-round-up .round-up .result) (λ x. length-bytesOf 4 _ _) (at-loop .loop .inv)
+    (at-loop-test .loop-test .left) (at-round-up .round-up .ensures)))

@@ -8,7 +8,7 @@ use Rattle.word.specs.Word.{bytesOf}
 use Rattle.word.specs.WordLaws.{length-bytesOf}
 use Rattle.sample.specs.Needed.{needed, room}
 use Rattle.encode.specs.Write.{flat, bitsData}
-use Rattle.encode.specs.WriteLaws.{Writing, write-start, write-turn, write-end, flat-turn, flat-over, length-flat}
+use Rattle.encode.specs.WriteLaws.{Writing, write-start, row-turn, row-end}
 use Rattle.encode.proofs.write5.Statement.{statement}
 use Rattle.encode.proofs.write5.Tie as tie
 
@@ -32,9 +32,19 @@ write5-spec =
     (λ c κs. omega arith)
     (λ c. search needs)
     (λ c. search needs)
-    (λ c. let z = getD (c .before .before .before .before .before .before .before .before .before .args .row .now) (c .before .before .before .before .before .before .loop .i) 0 in write-turn (bytesOf 8 (c .before .before .before .before .before .before .before .before .before .args .high) z) (c .before .before .before .before .before .before .loop .inv) (flat-turn _ 0 _ _ (c .before .before .before .before .before .loop-test .taken)) (length-bytesOf 8 _ _) (c .before .before .put-word8 .ensures))
+    (λ c.
+    let at-put-word8 = c .before .before in
+    let at-loop-test = at-put-word8 .before .before .before in
+    let at-loop = at-loop-test .before in
+    row-turn (bytesOf 8 _) 0 _ (λ x. length-bytesOf 8 _ _) (at-loop .loop .inv) (at-loop-test .loop-test .taken) (at-put-word8 .put-word8 .ensures))
     (λ c. omega arith)
     (λ c κs. omega arith)
     (λ c κs. omega arith)
     (λ c. search needs)
-    (λ c. c .before .before .zeros .ensures ∙ write-end (8 * length (c .before .before .before .before .before .before .before .before .before .args .row .now)) (c .before .before .before .round-up .result) (c .before .before .before .before .before .before .loop .inv) (flat-over _ _ _ (c .before .before .before .before .before .loop-test .left)) (length-flat _ 8 (λ x. length-bytesOf 8 _ _) _) (c .before .before .before .round-up .ensures)))
+    (λ c.
+    let at-zeros = c .before .before in
+    let at-round-up = at-zeros .before in
+    let at-loop-test = at-round-up .before .before in
+    let at-loop = at-loop-test .before in
+    at-zeros .zeros .ensures ∙ row-end (bytesOf 8 _) _ (at-round-up .round-up .result) (λ x. length-bytesOf 8 _ _) (at-loop .loop .inv)
+    (at-loop-test .loop-test .left) (at-round-up .round-up .ensures)))

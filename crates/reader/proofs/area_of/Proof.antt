@@ -3,6 +3,7 @@ use mathlib.Core.Path.{sym, ap, _∙_}
 use native.Mathlib.Omega.{arith}
 use lib.IntN.{ℤ}
 use borrow.Author.Needs.{needs}
+use mir.Syntax.{w32}
 use Rattle.head.specs.Head.{countOf}
 use Rattle.reader.specs.Reach.{whose-trace, some-trace, pointer-slot, trace-pointed}
 use Rattle.reader.specs.Leaves.{area-whole, area-one}
@@ -49,7 +50,7 @@ area-of-spec =
     let at-whose-in = c .before .before in
     let start = at-whose-in .before .before .before in
     let args = start .args in
-    ap (λ (w : Whose). areaNamed (args .f .now) w) (sym (c .enum-told .given .1) ∙ handed (λ (z : ℤ). whoseOf z (countOf
+    ap (λ (w : Whose). areaNamed (args .f .now) w) (sym (c .enum-told .given .1) ∙ handed w32 (λ (z : ℤ). whoseOf z (countOf
     (args .f .now))) (args .part) (start .fits .part .sfits) (at-whose-in .whose-in .ensures)))
     (λ c.
     let at-word2 = c .before in
@@ -59,7 +60,7 @@ area-of-spec =
     let start = at-is-high .before .before in
     let args = start .args in
     area-whole _ _ _ _ (at-is-high .is-high .ensures) (at-word2 .word2 .ensures .0) (c .pointer .ensures .0) ∙ ap (λ (w : Whose). areaNamed
-    (args .f .now) w) (sym (at-enum-told2 .enum-told2 .given .1) ∙ handed (λ (z : ℤ). whoseOf z (countOf (args .f .now)))
+    (args .f .now) w) (sym (at-enum-told2 .enum-told2 .given .1) ∙ handed w32 (λ (z : ℤ). whoseOf z (countOf (args .f .now)))
     (args .part) (start .fits .part .sfits) (at-whose-in .whose-in .ensures)))
     (λ c.
     let at-pointer2 = c .before in
@@ -69,5 +70,5 @@ area-of-spec =
     let start = at-is-high .before .before in
     let args = start .args in
     area-one _ _ _ _ _ (at-is-high .is-high .ensures) (at-pointer2 .pointer2 .ensures .0) (c .word22 .ensures .0) ∙ ap (λ (w : Whose). areaNamed
-    (args .f .now) w) (sym (at-w .w .given .1) ∙ handed (λ (z : ℤ). whoseOf z (countOf (args .f .now))) (args .part)
+    (args .f .now) w) (sym (at-w .w .given .1) ∙ handed w32 (λ (z : ℤ). whoseOf z (countOf (args .f .now))) (args .part)
     (start .fits .part .sfits) (at-whose-in .whose-in .ensures))))

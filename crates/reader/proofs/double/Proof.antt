@@ -2,6 +2,7 @@
 use mathlib.Core.Path.{sym, _∙_}
 use lib.IntN.{ℤ}
 use borrow.Author.Needs.{needs}
+use mir.Syntax.{w32}
 use Rattle.double.specs.Double.{doubleOf}
 use Rattle.double.specs.declared.DoubleAnswer.the-variants as double
 use Rattle.reader.specs.Reach.{find-lent, value-made}
@@ -23,7 +24,7 @@ double-spec =
     let at-find = at-s .before .before in
     let start = at-find .before .before .before in
     let args = start .args in
-    rw (sym (handed (λ (z : ℤ). findAnswer (args .how) (args .buffer .now) (args .n) z (args .key .now)) (args .part) (start .fits .part .sfits)
+    rw (sym (handed w32 (λ (z : ℤ). findAnswer (args .how) (args .buffer .now) (args .n) z (args .key .now)) (args .part) (start .fits .part .sfits)
     (at-find .find .ensures)) ∙ at-s .s .given .1))
     (λ c κs. rw (c .before .find .ensures) (find-lent _ _ _ _ _))
     (λ c κs. search needs)
@@ -33,7 +34,7 @@ double-spec =
     let at-find = at-match .before in
     let start = at-find .before .before .before in
     let args = start .args in
-    c .double .ensures ∙ value-made _ double.Refused doubleOf _ _ _ _ _ _ (handed (λ (z : ℤ). findAnswer (args .how)
+    c .double .ensures ∙ value-made _ double.Refused doubleOf _ _ _ _ _ _ (handed w32 (λ (z : ℤ). findAnswer (args .how)
     (args .buffer .now) (args .n) z (args .key .now))
     (args .part) (start .fits .part .sfits) (at-find .find .ensures)) (at-value-at .value-at .ensures .0)
     (answered double.Refused (at-find .find .result) (at-match .match .keys2))))

@@ -2,6 +2,7 @@
 use mathlib.Core.Path.{sym, _∙_}
 use lib.IntN.{ℤ}
 use borrow.Author.Needs.{needs}
+use mir.Syntax.{w32}
 use Rattle.reader.specs.Questions.{findAnswer, keywordAnswer}
 use Rattle.word.specs.Signed.{handed}
 use Rattle.reader.proofs.keyword.Statement.{statement}
@@ -20,18 +21,18 @@ keyword-spec =
     let at-find = c .before .before in
     let start = at-find .before .before .before in
     let args = start .args in
-    rw (sym (handed (λ (z : ℤ). findAnswer (args .how) (args .buffer .now) (args .n) z (args .key .now)) (args .part) (start .fits .part .sfits)
+    rw (sym (handed w32 (λ (z : ℤ). findAnswer (args .how) (args .buffer .now) (args .n) z (args .key .now)) (args .part) (start .fits .part .sfits)
     (at-find .find .ensures)) ∙ c .enum-told .given .1))
     (λ c.
     let at-find = c .before .before in
     let start = at-find .before .before .before in
     let args = start .args in
-    rw (sym (handed (λ (z : ℤ). findAnswer (args .how) (args .buffer .now) (args .n) z (args .key .now)) (args .part) (start .fits .part .sfits)
+    rw (sym (handed w32 (λ (z : ℤ). findAnswer (args .how) (args .buffer .now) (args .n) z (args .key .now)) (args .part) (start .fits .part .sfits)
     (at-find .find .ensures)) ∙ c .enum-told2 .given .1))
     (λ c.
     let at-s = c .before in
     let at-find = at-s .before .before in
     let start = at-find .before .before .before in
     let args = start .args in
-    rw (sym (handed (λ (z : ℤ). findAnswer (args .how) (args .buffer .now) (args .n) z (args .key .now)) (args .part) (start .fits .part .sfits)
+    rw (sym (handed w32 (λ (z : ℤ). findAnswer (args .how) (args .buffer .now) (args .n) z (args .key .now)) (args .part) (start .fits .part .sfits)
     (at-find .find .ensures)) ∙ at-s .s .given .1)))

@@ -2,6 +2,7 @@
 use mathlib.Core.Path.{sym, _∙_}
 use lib.IntN.{ℤ}
 use borrow.Author.Needs.{needs}
+use mir.Syntax.{w32}
 use Rattle.double.specs.Location.{locationOf}
 use Rattle.double.specs.declared.LocationAnswer.the-variants as location
 use Rattle.reader.specs.Reach.{find-lent, value-made}
@@ -23,7 +24,7 @@ location-spec =
     let at-find = at-s .before .before in
     let start = at-find .before .before .before in
     let args = start .args in
-    rw (sym (handed (λ (z : ℤ). findAnswer (args .how) (args .buffer .now) (args .n) z (args .key .now)) (args .part) (start .fits .part .sfits)
+    rw (sym (handed w32 (λ (z : ℤ). findAnswer (args .how) (args .buffer .now) (args .n) z (args .key .now)) (args .part) (start .fits .part .sfits)
     (at-find .find .ensures)) ∙ at-s .s .given .1))
     (λ c κs. rw (c .before .find .ensures) (find-lent _ _ _ _ _))
     (λ c κs. search needs)
@@ -34,6 +35,6 @@ location-spec =
     let start = at-find .before .before .before in
     let args = start .args in
     c .location .ensures ∙ value-made _ location.Refused locationOf _ _ _ _ _ _
-    (handed (λ (z : ℤ). findAnswer (args .how) (args .buffer .now) (args .n) z (args .key .now)) (args .part) (start .fits .part .sfits)
+    (handed w32 (λ (z : ℤ). findAnswer (args .how) (args .buffer .now) (args .n) z (args .key .now)) (args .part) (start .fits .part .sfits)
     (at-find .find .ensures))
     (at-value-at .value-at .ensures .0) (answered location.Refused (at-find .find .result) (at-match .match .keys2))))

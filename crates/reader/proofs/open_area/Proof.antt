@@ -4,6 +4,7 @@ use native.Mathlib.Omega.{arith}
 use lib.IntN.{ℤ}
 use lib.ListN.{take}
 use borrow.Author.Needs.{needs}
+use mir.Syntax.{w32}
 use Rattle.reader.specs.Reach.{checked}
 use Rattle.reader.specs.Leaves.{openedOf}
 use Rattle.reader.specs.Questions.{areaAsked}
@@ -36,8 +37,8 @@ open-area-spec =
     let args = start .args in
     rw (
       (sym (at-check .check .ensures) ∙ at-enum-told .enum-told .given .1),
-      (sym (handed (λ (z : ℤ). areaAsked (take (args .n) (args .buffer .now)) z) (args .part) (start .fits .part .sfits)
-          (at-area-of .area-of .ensures))
+      (sym (handed w32 (λ (z : ℤ). areaAsked (take (args .n) (args .buffer .now)) z)
+          (args .part) (start .fits .part .sfits) (at-area-of .area-of .ensures))
           ∙ at-enum-told2 .enum-told2 .given .1),
       c .no-trace .ensures,
     ))
@@ -50,7 +51,7 @@ open-area-spec =
     let args = start .args in
     rw (
       (sym (at-check .check .ensures) ∙ at-enum-told .enum-told .given .1),
-      (sym (handed (λ (z : ℤ). areaAsked (take (args .n) (args .buffer .now)) z) (args .part) (start .fits .part .sfits)
-          (at-area-of .area-of .ensures))
+      (sym (handed w32 (λ (z : ℤ). areaAsked (take (args .n) (args .buffer .now)) z)
+          (args .part) (start .fits .part .sfits) (at-area-of .area-of .ensures))
           ∙ at-w .w .given .1),
     )))

@@ -3,6 +3,7 @@ use mathlib.Core.Path.{sym, _∙_}
 use native.Mathlib.Omega.{arith}
 use lib.IntN.{ℤ}
 use borrow.Author.Needs.{needs}
+use mir.Syntax.{w32}
 use Rattle.reader.specs.Reach.{reached}
 use Rattle.reader.specs.Leaves.{openedOf, nth-bad, nth-told}
 use Rattle.word.specs.Signed.{handed}
@@ -41,7 +42,7 @@ string-spec =
     let at-open-area = at-o .before .before in
     let start = at-open-area .before .before in
     let args = start .args in
-    nth-bad _ _ _ _ _ _ (sym (handed (λ (z : ℤ). openedOf (args .how) (args .buffer .now) (args .n) z) (args .part) (start .fits .part .sfits)
+    nth-bad _ _ _ _ _ _ (sym (handed w32 (λ (z : ℤ). openedOf (args .how) (args .buffer .now) (args .n) z) (args .part) (start .fits .part .sfits)
     (at-open-area .open-area .ensures)) ∙ at-o .o .given .1))
     (λ c.
     let at-nth = c .before in
@@ -52,7 +53,7 @@ string-spec =
     let start = at-open-area .before .before in
     let args = start .args in
     nth-told _ _ _ _ _ _ _ _
-    (sym (handed (λ (z : ℤ). openedOf (args .how) (args .buffer .now) (args .n) z) (args .part) (start .fits .part .sfits)
+    (sym (handed w32 (λ (z : ℤ). openedOf (args .how) (args .buffer .now) (args .n) z) (args .part) (start .fits .part .sfits)
     (at-open-area .open-area .ensures))
     ∙ at-o2 .o2 .given .1) (at-is-high .is-high .ensures) (at-string-end .string-end .ensures .0) _ _ _ (at-nth .nth .ensures)
     (c .there .ensures)))

@@ -3,6 +3,7 @@ use mathlib.Core.Path.{sym, _∙_}
 use native.Mathlib.Omega.{arith}
 use lib.IntN.{ℤ}
 use borrow.Author.Needs.{needs}
+use mir.Syntax.{w32}
 use Rattle.reader.specs.Reach.{reached}
 use Rattle.reader.specs.Leaves.{openedOf, count-bad, count-told}
 use Rattle.word.specs.Signed.{handed}
@@ -40,7 +41,7 @@ string-count-spec =
     let at-open-area = at-o .before .before in
     let start = at-open-area .before .before in
     let args = start .args in
-    count-bad _ _ _ _ _ (sym (handed (λ (z : ℤ). openedOf (args .how) (args .buffer .now) (args .n) z) (args .part) (start .fits .part .sfits)
+    count-bad _ _ _ _ _ (sym (handed w32 (λ (z : ℤ). openedOf (args .how) (args .buffer .now) (args .n) z) (args .part) (start .fits .part .sfits)
     (at-open-area .open-area .ensures)) ∙ at-o .o .given .1))
     (λ c.
     let at-string-end = c .before in
@@ -50,6 +51,6 @@ string-count-spec =
     let start = at-open-area .before .before in
     let args = start .args in
     count-told _ _ _ _ _ _ _ _
-    (sym (handed (λ (z : ℤ). openedOf (args .how) (args .buffer .now) (args .n) z) (args .part) (start .fits .part .sfits)
+    (sym (handed w32 (λ (z : ℤ). openedOf (args .how) (args .buffer .now) (args .n) z) (args .part) (start .fits .part .sfits)
     (at-open-area .open-area .ensures))
     ∙ at-o2 .o2 .given .1) (at-is-high .is-high .ensures) (at-string-end .string-end .ensures .0) _ (c .count .ensures)))

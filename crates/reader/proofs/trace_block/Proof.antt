@@ -4,6 +4,7 @@ use native.Mathlib.Omega.{arith}
 use lib.IntN.{ℤ}
 use lib.ListN.{take}
 use borrow.Author.Needs.{needs}
+use mir.Syntax.{w32}
 use Rattle.head.specs.Head.{countOf}
 use Rattle.reader.specs.Reach.{checked, whose-trace, pointer-slot, trace-pointed}
 use Rattle.reader.specs.Questions.{whoseOf, traceAnswer}
@@ -52,7 +53,7 @@ trace-block-spec =
     let args = start .args in
     rw (
       (sym (at-check .check .ensures) ∙ at-enum-told .enum-told .given .1),
-      (sym (handed (λ (z : ℤ). whoseOf z (countOf (take (args .n) (args .buffer .now)))) (args .trace) (start .fits .trace .sfits)
+      (sym (handed w32 (λ (z : ℤ). whoseOf z (countOf (take (args .n) (args .buffer .now)))) (args .trace) (start .fits .trace .sfits)
           (at-whose-in .whose-in .ensures)) ∙ at-w .w .given .1),
       c .trace-block .ensures,
       at-is-high .is-high .ensures,
@@ -66,7 +67,7 @@ trace-block-spec =
     let args = start .args in
     rw (
       (sym (at-check .check .ensures) ∙ at-enum-told .enum-told .given .1),
-      (sym (handed (λ (z : ℤ). whoseOf z (countOf (take (args .n) (args .buffer .now)))) (args .trace) (start .fits .trace .sfits)
+      (sym (handed w32 (λ (z : ℤ). whoseOf z (countOf (take (args .n) (args .buffer .now)))) (args .trace) (start .fits .trace .sfits)
           (at-whose-in .whose-in .ensures)) ∙ at-enum-told2 .enum-told2 .given .1),
       c .no-trace .ensures,
     ))
@@ -79,7 +80,7 @@ trace-block-spec =
     let args = start .args in
     rw (
       (sym (at-check .check .ensures) ∙ at-enum-told .enum-told .given .1),
-      (sym (handed (λ (z : ℤ). whoseOf z (countOf (take (args .n) (args .buffer .now)))) (args .trace) (start .fits .trace .sfits)
+      (sym (handed w32 (λ (z : ℤ). whoseOf z (countOf (take (args .n) (args .buffer .now)))) (args .trace) (start .fits .trace .sfits)
           (at-whose-in .whose-in .ensures)) ∙ at-enum-told3 .enum-told3 .given .1),
       c .no-trace2 .ensures,
     )))

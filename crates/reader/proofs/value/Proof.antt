@@ -2,6 +2,7 @@
 use mathlib.Core.Path.{_∙_}
 use lib.IntN.{ℤ}
 use borrow.Author.Needs.{needs}
+use mir.Syntax.{w32}
 use Rattle.reader.specs.Reach.{find-lent, value-told, span-told}
 use Rattle.reader.specs.Questions.{findAnswer}
 use Rattle.word.specs.Signed.{handed}
@@ -19,5 +20,5 @@ value-spec =
     let start = at-find .before .before .before in
     let a = start .args in
     let f = at-find .find .ensures in
-    let e = handed (λ (z : ℤ). findAnswer (a .how) (a .buffer .now) (a .n) z (a .key .now)) (a .part) (start .fits .part .sfits) f in
+    let e = handed w32 (λ (z : ℤ). findAnswer (a .how) (a .buffer .now) (a .n) z (a .key .now)) (a .part) (start .fits .part .sfits) f in
     (c .value-at .ensures .0 ∙ value-told _ _ _ _ _ _ e, span-told _ _ _ _ _ _ e (c .value-at .ensures .1))))

@@ -2,6 +2,7 @@
 use mathlib.Core.Path.{_∙_}
 use lib.IntN.{ℤ}
 use borrow.Author.Needs.{needs}
+use mir.Syntax.{w32}
 use Rattle.head.specs.HeadLaws.{count-read}
 use Rattle.head.specs.Head.{countOf}
 use Rattle.reader.specs.Questions.{whoseOf}
@@ -22,5 +23,5 @@ whose-in-spec =
     let at-is-high = at-word2 .before in
     let start = at-is-high .before .before in
     let args = start .args in
-    handed (λ (z : ℤ). whoseOf z (countOf (args .f .now))) (args .part) (start .fits .part .sfits)
+    handed w32 (λ (z : ℤ). whoseOf z (countOf (args .f .now))) (args .part) (start .fits .part .sfits)
     (c .named .ensures ∙ rw (count-read _ _ (at-is-high .is-high .ensures) _ (at-word2 .word2 .ensures .0)))))

@@ -3,6 +3,7 @@ use mathlib.Core.Path.{sym, _∙_}
 use native.Mathlib.Omega.{arith}
 use lib.IntN.{ℤ}
 use borrow.Author.Needs.{needs}
+use mir.Syntax.{w32}
 use Rattle.samples.specs.Samples.{bits-bad, bits-answer, patterns-left, classes-left}
 use Rattle.reader.specs.Reach.{told, told-fits}
 use Rattle.reader.specs.Questions.{traceAnswer}
@@ -22,7 +23,8 @@ bits-spec =
     let at-trace-block = at-a2 .before .before in
     let start = at-trace-block .before .before .before .before in
     let args = start .args in
-    let h = told _ _ _ _ _ (sym (handed (λ (z : ℤ). traceAnswer (args .how) (args .buffer .now) (args .n) z) (args .trace) (start .fits .trace .sfits)
+    let h = told _ _ _ _ _ (sym (handed w32 (λ (z : ℤ). traceAnswer (args .how) (args .buffer .now) (args .n) z)
+    (args .trace) (start .fits .trace .sfits)
     (at-trace-block .trace-block .ensures)) ∙ at-a2 .a2 .given .1) in
     sym (h .known .size))
     (λ c κs.
@@ -30,7 +32,8 @@ bits-spec =
     let at-trace-block = at-a2 .before .before in
     let start = at-trace-block .before .before .before .before in
     let args = start .args in
-    let h = told _ _ _ _ _ (sym (handed (λ (z : ℤ). traceAnswer (args .how) (args .buffer .now) (args .n) z) (args .trace) (start .fits .trace .sfits)
+    let h = told _ _ _ _ _ (sym (handed w32 (λ (z : ℤ). traceAnswer (args .how) (args .buffer .now) (args .n) z)
+    (args .trace) (start .fits .trace .sfits)
     (at-trace-block .trace-block .ensures)) ∙ at-a2 .a2 .given .1) in
     (omega (arith, h .known .size, h .known .least), told-fits _ _ _ _ _ h))
     (λ c.
@@ -38,7 +41,8 @@ bits-spec =
     let at-trace-block = at-a .before .before in
     let start = at-trace-block .before .before .before .before in
     let args = start .args in
-    bits-bad _ _ _ _ _ (sym (handed (λ (z : ℤ). traceAnswer (args .how) (args .buffer .now) (args .n) z) (args .trace) (start .fits .trace .sfits)
+    bits-bad _ _ _ _ _ (sym (handed w32 (λ (z : ℤ). traceAnswer (args .how) (args .buffer .now) (args .n) z)
+    (args .trace) (start .fits .trace .sfits)
     (at-trace-block .trace-block .ensures)) ∙ at-a .a .given .1) _ _)
     (λ c. search needs)
     (λ c. search needs)
@@ -48,7 +52,8 @@ bits-spec =
     let at-trace-block = at-a2 .before .before in
     let start = at-trace-block .before .before .before .before in
     let args = start .args in
-    let h = told _ _ _ _ _ (sym (handed (λ (z : ℤ). traceAnswer (args .how) (args .buffer .now) (args .n) z) (args .trace) (start .fits .trace .sfits)
+    let h = told _ _ _ _ _ (sym (handed w32 (λ (z : ℤ). traceAnswer (args .how) (args .buffer .now) (args .n) z)
+    (args .trace) (start .fits .trace .sfits)
     (at-trace-block .trace-block .ensures)) ∙ at-a2 .a2 .given .1) in (
       at-bits-of .bits-of .ensures .0 ∙ bits-answer _ _ _ _ _ h _ _,
       (
