@@ -156,8 +156,8 @@ fn sample3(block: &[u8], high: bool, i: usize) -> i32
     ensures { λ r. ⌜ r ≡ sampleOf 3 high (now (block .entry)) i ⌝ }
 {
     let at = i / 4 * 10;
-    let exponents = word_at(block, high, at);
-    group_sample(block, high, at, exponents, (i % 4) as u16)
+    let first = word_at(block, high, at);
+    group_sample(block, high, at, first, (i % 4) as u16)
 }
 
 // The four samples of group g: all are at hand before one is stored, so that a compiler can work them out together.
