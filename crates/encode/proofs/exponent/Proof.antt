@@ -1,4 +1,5 @@
 -- `encode::exponent` meets its contract. 17 leading zeros leave 15 bits. Assumes nothing.
+use native.Mathlib.Omega.{arith}
 use Rattle.encode.specs.WriteLaws.{zeros-most, exponent-told}
 use Rattle.encode.proofs.exponent.Statement.{statement}
 use Rattle.encode.proofs.exponent.Tie as tie
@@ -7,5 +8,5 @@ pub exponent-spec : {M : Type 1} → statement M
 exponent-spec =
     tie.close
     (tie.spec
-    (λ c. zeros-most (c .args .n) (c .pre))
+    (λ c. omega (arith, zeros-most (c .args .n) (c .pre)))
     (λ c. exponent-told (c .args .n) (c .pre)))
