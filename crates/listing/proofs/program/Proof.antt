@@ -17,7 +17,7 @@ program-spec =
     let at-list = c .before .before in
     let at-if1 = at-list .before .before in
     let start = at-if1 .before .before .before in
-    rw (prints-listing (start .args .input .now) (at-if1 .if1 .taken)) at (at-list .list .ensures))
+    rw (prints-listing (start .args .input .now) (omega (arith, at-if1 .if1 .taken))) at (at-list .list .ensures))
     (λ c κs. search needs)
     (λ c.
     let at-too-short = c .before in
@@ -43,5 +43,6 @@ program-spec =
     let tested = sym (at-too-short .too-short .ensures) ∙ at-if2 .if2 .left in
     let room = enough (args .input .now) (args .out .now) tested in
     print-told _ (args .input .now) (args .out .now) tested _ _ _
-    (ap refusalLine (at-of-file .of-file .ensures) ∙ prints-large (args .input .now) (at-if1 .if1 .left)) (at-put-refusal .put-refusal .ensures .0)
+    (ap refusalLine (at-of-file .of-file .ensures) ∙ prints-large (args .input .now) (omega (arith, at-if1 .if1 .left)))
+    (at-put-refusal .put-refusal .ensures .0)
     (omega (arith, at-put-refusal .put-refusal .ensures .1, room))))
