@@ -1,7 +1,7 @@
-// The listing of a file, and what the listing program prints, into a row of bytes that the caller lends (document 01, the
-// end of "Worked values"). Row 19 is the program's: `list` takes a file of any length that the check takes.
-// Listing has the definitions; Room proves that 16 bytes for each of the input's and 64 more are enough, Printed that the
-// strings are those that the file spells.
+// The listing of a file, and what the listing program prints, into a row of bytes that the caller lends (document 01,
+// the end of "Worked values"). Row 19 is the program's: `list` takes a file of any length that the check takes.
+// Listing has the definitions; Room proves that 16 bytes for each of the input's and 64 more are enough, Printed that
+// the strings are those that the file spells.
 // Stands on `lines`, `lookup`, `image` and what they stand on.
 // The rules in words: docs/FORMAT.md, "Worked values".
 use head::Purpose;

@@ -9,7 +9,7 @@ use seg2_reference::worked::{NO_DOUBLE, NO_LOCATION, NUMBERS, PAPER_DOUBLES, PAP
 use seg2_reference::{self as reference, Location, Number, Order, Refusal};
 use std::collections::{BTreeMap, BTreeSet};
 
-/// The three answers, and what was asked of which part.
+/// What a keyword's value is as a number, a double and a location.
 struct Told {
     number: raw::Number,
     double: (u32, i32, usize, u64),
@@ -35,7 +35,8 @@ fn blanks(text: &[u8]) -> usize {
     text.iter().take_while(|&&c| is_separator(c)).count()
 }
 
-/// Doubles are compared by their bits, so that -0 is not 0.
+/// The three answers to a keyword of a part. Doubles are compared by their bits, so that
+/// -0 is not 0.
 fn asked(bytes: &[u8], part: i32) -> Told {
     let n = bytes.len();
     let d = calls::double(bytes, n, part, b"V");
