@@ -16,12 +16,12 @@ use Rattle.text.specs.declared.Manner.the-variants.{Strict}
 use Rattle.word.specs.Part.{part, part-among}
 use Rattle.refusal.specs.Rows.{pick}
 use Rattle.refusal.specs.declared.Verdict.the-variants.{Accepted}
-use Rattle.text.specs.Runs.{all}
+use Rattle.chars.specs.Runs.{all}
 use Rattle.strings.specs.Spelled.{Spells}
 use Rattle.sample.specs.Needed.{room}
 use Rattle.sheet.specs.Area.{sheetStrings, areaOf, areaSize}
 use Rattle.sheet.specs.Sizes.{length-area}
-use Rattle.text.specs.Note.{LineEnd}
+use Rattle.note.specs.Note.{LineEnd}
 use Rattle.area.specs.Spelling.{area-spells}
 use Rattle.head.specs.Head.{highFirst, countOf, stringEnd, lineEnd, apart}
 use Rattle.block.specs.Block.{pointerOf, endAt}

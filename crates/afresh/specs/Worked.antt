@@ -10,7 +10,7 @@ use native.Mathlib.Omega.{arith}
 use lib.IntN.{pos, negsuc}
 use lib.ListN.{length, replicate}
 use Rattle.word.specs.Word.{lowBytes, bytesOf}
-use Rattle.text.specs.Runs.{run, all, same}
+use Rattle.chars.specs.Runs.{run, all, same}
 use Rattle.text.specs.Order.{rises-first}
 use Rattle.strings.specs.Spelled.{texts}
 use Rattle.sample.specs.Needed.{needed, room}

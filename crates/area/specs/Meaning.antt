@@ -6,10 +6,10 @@ use mathlib.Core.Bool.{Bool, true, false}
 use mathlib.Core.List.{List, [], _∷_, _++_}
 use Prim.Native.Nat.{ℕ}
 use lib.ListN.{length}
-use Rattle.text.specs.Chars.{note}
-use Rattle.text.specs.Runs.{same, same-eq, same-refl}
-use Rattle.text.specs.Note as Note
-use Rattle.text.specs.Note.{withEnds, LineEnd, lines-once}
+use Rattle.chars.specs.Chars.{note}
+use Rattle.chars.specs.Runs.{same, same-eq, same-refl}
+use Rattle.note.specs.Note as Note
+use Rattle.note.specs.Note.{withEnds, LineEnd, lines-once}
 use Rattle.strings.specs.Spelled.{Str}
 use Rattle.sheet.specs.Lines.{Line}
 use Rattle.sheet.specs.Area.{strOf, values, noteOf, joined}

@@ -14,9 +14,9 @@ use Rattle.word.specs.Round.{round4}
 use Rattle.word.specs.Word.{bytesOf}
 use Rattle.word.specs.WordLaws.{length-bytesOf}
 use Rattle.refusal.specs.declared.Verdict.the-variants.{Accepted}
-use Rattle.text.specs.Chars.{keyChar, note}
-use Rattle.text.specs.Runs.{run, same, same-eq, same-refl}
-use Rattle.text.specs.Note.{withEnds}
+use Rattle.chars.specs.Chars.{keyChar, note}
+use Rattle.chars.specs.Runs.{run, same, same-eq, same-refl}
+use Rattle.note.specs.Note.{withEnds}
 use Rattle.strings.specs.Spelled.{Str, textOf, sizeOf, texts, written}
 use Rattle.sheet.specs.declared.Measured.the-variants.{Size}
 use Rattle.sheet.specs.Lines.{Line, lineLen, linesVerdict, sheetLines}

@@ -16,8 +16,9 @@ use Rattle.refusal.specs.Rows.{Rows, pick, first, Clear, through}
 use Rattle.decimal.specs.declared.Decimal.{Decimal}
 use Rattle.decimal.specs.declared.NumberAnswer.{NumberAnswer}
 use Rattle.decimal.specs.declared.NumberAnswer.the-variants.{Is, Refused}
-use Rattle.text.specs.Runs.{run, Stops, run-stops}
-use Rattle.decimal.specs.Run.{digit, front, behind, run-none, parts, front-all, front-length, run-length, front-is, behind-is, run-all, behind-all, front-of-all}
+use Rattle.chars.specs.Runs.{run, Stops, run-stops}
+use Rattle.decimal.specs.Run.{front, behind, run-none, parts, front-all, front-length, run-length, front-is, behind-is, run-all, behind-all, front-of-all}
+use Rattle.chars.specs.Chars.{digit}
 use Rattle.decimal.specs.Grammar.{Parts, Sign, Sign.dash, Sign.nothing, Digits, Fraction, Fraction.no-point, Fraction.point, Power, Power.no-power, Power.power, Writes, Short}
 use Rattle.decimal.specs.Number.{has, past, has-same, past-same, past-has, past-not, decimalOf, noNumber, tooLong, judged, tailRows, shapeRows, partsOf, numberIn}
 

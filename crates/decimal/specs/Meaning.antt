@@ -15,9 +15,11 @@ use borrow.Author.Tests.{leb-true, leb-false}
 use Rattle.refusal.specs.Rows.{pick}
 use Rattle.decimal.specs.declared.Decimal.{Decimal}
 use Rattle.decimal.specs.declared.NumberAnswer.the-variants.{Is}
-use Rattle.decimal.specs.Run.{digit, All}
+use Rattle.decimal.specs.Run.{All}
+use Rattle.chars.specs.Chars.{digit}
 use Rattle.decimal.specs.Grammar.{Parts, Fraction, Fraction.no-point, Fraction.point, Power, Power.no-power, Power.power, Writes, placed, over, under}
-use Rattle.decimal.specs.Number.{worth, worth-digit, value, powerOf, decimalOf, numberIn}
+use Rattle.decimal.specs.Number.{powerOf, decimalOf, numberIn}
+use Rattle.digits.specs.Value.{worth, worth-digit, value}
 use Rattle.decimal.specs.Agreed.{is-number}
 use Rattle.decimal.specs.Power.{power-down, power-less, power-more}
 

@@ -21,8 +21,10 @@ use Rattle.refusal.specs.declared.Part.the-variants.{File}
 use Rattle.decimal.specs.declared.Decimal.{Decimal}
 use Rattle.decimal.specs.declared.NumberAnswer.{NumberAnswer}
 use Rattle.decimal.specs.declared.NumberAnswer.the-variants.{Is, Refused}
-use Rattle.text.specs.Runs.{run}
-use Rattle.decimal.specs.Run.{digit, front, behind}
+use Rattle.chars.specs.Runs.{run}
+use Rattle.decimal.specs.Run.{front, behind}
+use Rattle.chars.specs.Chars.{digit}
+use Rattle.digits.specs.Value.{value}
 use Rattle.decimal.specs.Grammar.{Parts}
 
 -- ---- one byte at the front
@@ -60,17 +62,6 @@ has-same b r = eq-eqb b b refl
 
 pub past-same : (b : ℕ) (r : List ℕ) → past b (b ∷ r) ≡ r
 past-same b r = past-has b (b ∷ r) (has-same b r)
-
--- ---- digits as a number
-
--- what a digit is worth; a byte that is none is worth nothing
-unfoldable pub worth : ℕ → ℕ
-worth b = pick (digit b) (b - 48) 0
-
--- v with the digits of a text behind it
-unfoldable pub value : ℕ → List ℕ → ℕ
-value v [] = v
-value v (b ∷ bs) = value (v * 10 + worth b) bs
 
 -- ---- the answer
 
@@ -189,71 +180,3 @@ module _ (t : List ℕ) {s : List ℕ} {n : ℕ} (at-s : s ≡ past 45 t) (is-n 
     unfolding numberIn partsOf tailOf
     to-tail h is-minus at-w at-d at-x =
         rw (← is-minus, ← at-s, ← is-n, ne-eqb n 0 some, ← at-u, ← is-b, ← at-v, ← is-m, h, ← at-w, ← at-d, ← at-x)
-
--- ---- laws of the loop over digits: a turn, the end, and that 18 digits fit 64 bits
-
-pub value-more : (v : ℕ) (s : List ℕ) (i : ℕ) → i < length s → value (v * 10 + worth (getD s i 0)) (drop (i + 1) s) ≡ value v (drop i s)
-unfolding value
-value-more v s i h = rw (add-one i, drop-cons s i 0 h)
-
-pub value-over : (v : ℕ) (s : List ℕ) (i : ℕ) → length s ≤ i → value v (drop i s) ≡ v
-unfolding value
-value-over v s i h = rw (drop-of-length-le s h)
-
-pub and-left : (a b : Bool) → a && b ≡ true → a ≡ true
-and-left true b e = refl
-and-left false b e = e
-
-pub and-right : (a b : Bool) → a && b ≡ true → b ≡ true
-and-right true b e = e
-and-right false b e = absurd (let z : _≡_ {A = ℕ} 0 1 = cc in omega arith)
-
-pub worth-digit : (b : ℕ) → digit b ≡ true → (worth b ≡ b - 48) × (48 ≤ b) × (b ≤ 57)
-unfolding worth
-worth-digit b e = (rw e, leb-true 48 b (and-left (leb 48 b) (leb b 57) e), leb-true b 57 (and-right (leb 48 b) (leb b 57) e))
-
-pub worth-other : (b : ℕ) → digit b ≡ false → worth b ≡ 0
-unfolding worth
-worth-other b e = rw e
-
-pub worth-lt : (b : ℕ) → worth b < 10
-worth-lt b = go (digit b) refl
-  where
-    go : (q : Bool) → digit b ≡ q → worth b < 10
-    go true e = let d = worth-digit b e in omega arith
-    go false e = let d = worth-other b e in omega arith
-
--- v with n digits more behind it has at most 18
-abbrev pub Room : ℕ → ℕ → Type 0
-Room v n = (v + 1) * 10 ^ n ≤ 1000000000000000000
-
-grown : (v b n : ℕ) → (v * 10 + worth b + 1) * 10 ^ n ≤ (v + 1) * 10 ^ suc n
-grown v b n =
-    let l : v * 10 + worth b + 1 ≤ (v + 1) * 10 = omega (arith, worth-lt b) in
-    le-trans (mul-le-mul-right (10 ^ n) l) (le-of-eq (mul-assoc (v + 1) 10 (10 ^ n) ∙ ap (λ (x : ℕ). (v + 1) * x) (sym (pow-succ' 10 n))))
-
-pub room-more : (v b n i : ℕ) → i < n → Room v (n - i) → Room (v * 10 + worth b) (n - (i + 1))
-room-more v b n i h r = let e : n - i ≡ suc (n - (i + 1)) = omega arith in le-trans (grown v b (n - (i + 1))) (rw e at r)
-
-pub room-lt : (v n : ℕ) → Room v n → v < 1000000000000000000
-room-lt v n r = le-trans (le-trans (omega arith) (mul-le-mul-left (v + 1) (one-le-pow n 10 (omega arith)))) r
-
-pub value-le : (v : ℕ) (s : List ℕ) → value v s + 1 ≤ (v + 1) * 10 ^ length s
-unfolding value
-value-le v [] = omega arith
-value-le v (b ∷ bs) = le-trans (value-le (v * 10 + worth b) bs) (grown v b (length bs))
-
-pub room-none : (n : ℕ) → n ≤ 18 → Room 0 n
-room-none n h = le-trans (le-of-eq (one-mul (10 ^ n))) (pow-le-pow-right {n = 10} (omega arith) h)
-
-pub room-behind : (s : List ℕ) (k : ℕ) → length s + k ≤ 18 → Room (value 0 s) k
-room-behind s k h =
-    le-trans (mul-le-mul-right (10 ^ k) (le-trans (value-le 0 s) (le-of-eq (one-mul (10 ^ length s)))))
-    (le-trans (le-of-eq (sym (pow-add 10 (length s) k))) (pow-le-pow-right {n = 10} (omega arith) {i = length s + k} {j = 18} h))
-
-pub two-digits : (s : List ℕ) → length s ≤ 2 → value 0 s < 100
-two-digits s h =
-    let v = value-le 0 s in
-    let m = one-mul (10 ^ length s) in
-    let t = pow-le-pow-right {n = 10} (omega arith) {i = length s} {j = 2} h in
-    omega arith

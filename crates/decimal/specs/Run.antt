@@ -9,19 +9,7 @@ use lib.ListN.{length, take, drop, take-append-drop, length-drop}
 use lib.Seq.{length-take-le, take-length, take-all, drop-length, take-at, drop-at}
 use lib.Dec.{leb}
 use Rattle.refusal.specs.Rows.{pick}
-use Rattle.text.specs.Chars.{blank, solid}
-use Rattle.text.specs.Runs.{run, Stops, run-le}
-use Rattle.decimal.specs.declared.Kind.{Kind}
-use Rattle.decimal.specs.declared.Kind.the-variants.{Digit, Blank, Solid}
-
--- 0 to 9
-abbrev pub digit : ℕ → Bool
-digit b = leb 48 b && leb b 57
-
-abbrev pub isOf : Kind → ℕ → Bool
-isOf Digit = digit
-isOf Blank = blank
-isOf Solid = solid
+use Rattle.chars.specs.Runs.{run, Stops, run-le}
 
 -- those bytes, and what is behind them
 abbrev pub front : (ℕ → Bool) → List ℕ → List ℕ

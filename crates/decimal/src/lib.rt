@@ -1,16 +1,14 @@
 // Numbers in values: a text as sign, coefficient and power of ten (document 01, "Numbers in values", rows 20 and 21).
 // Number has the walk and Grammar the rule, proved equal in Agreed; Meaning says what the answer is worth, Marks what is never a number. Stands on `text`, `word`, `refusal`.
 // The rules in words: docs/FORMAT.md, "Numbers in values".
-use refusal::Part;
+use chars::Kind;
 use refusal::Refusal;
 use refusal::Rule;
 ghost use mathlib.Core.Path.{_≡_};
 ghost use Prim.Native.Nat.{_+_, _<_, _≤_};
 ghost use lib.ListN.{length, take, drop};
 ghost use Rattle.word.specs.Part.{PartOf, RestOf};
-ghost use Rattle.text.specs.Runs.{run};
-ghost use Rattle.decimal.specs.Run.{isOf};
-ghost use Rattle.decimal.specs.Number.{has, past, worth, value, Room, signed, powerOf, partsAre, decimalOf, noNumber, tooLong, judged, tailOf, numberIn};
+ghost use Rattle.decimal.specs.Number.{has, past, signed, powerOf, partsAre, decimalOf, noNumber, tooLong, judged, tailOf, numberIn};
 
 // The answer to the number question: sign, coefficient as written and power of ten; zero has sign plus. (It is no `Number`: a struct and a function
 // of one module may not differ only in the case of their letters.)
@@ -23,37 +21,6 @@ pub struct Decimal {
 pub enum NumberAnswer {
     Is(Decimal),
     Refused(Refusal),
-}
-
-// What a run is made of: digits, blanks (spaces and tabs), or what is no blank.
-pub enum Kind {
-    Digit,
-    Blank,
-    Solid,
-}
-
-fn is(kind: Kind, b: u8) -> bool
-    ensures { λ r. ⌜ r ≡ isOf kind b ⌝ }
-{
-    match kind {
-        Kind::Digit => (48 <= b) & (b <= 57),
-        Kind::Blank => (b == 32) | (b == 9),
-        Kind::Solid => !((b == 32) | (b == 9)),
-    }
-}
-
-// How many bytes of a kind stand at the front.
-pub fn run(kind: Kind, s: &[u8]) -> usize
-    ensures { λ r. ⌜ r ≡ run (isOf kind) (now (s .entry)) ⌝ }
-{
-    let mut i = 0;
-    while i < s.len() {
-        if !is(kind, s[i]) {
-            return i;
-        }
-        i += 1;
-    }
-    i
 }
 
 // The first n bytes, or all where there are fewer; and what is behind them. Both are the caller's own bytes, not a copy.
@@ -88,27 +55,6 @@ fn past(s: &[u8], b: u8) -> &[u8]
     if has(s, b) { behind(s, 1) } else { s }
 }
 
-// What a digit is worth: less than ten, so that the sums that it goes into fit.
-fn worth(b: u8) -> u64
-    ensures { λ r. ⌜ (r ≡ worth b) × (r < 10) ⌝ }
-{
-    if is(Kind::Digit, b) { b as u64 - 48 } else { 0 }
-}
-
-// v with the digits of a text behind it: at most 18 in all.
-fn value(v: u64, s: &[u8]) -> u64
-    requires { ⌜ Room v (length (now s)) ⌝ }
-    ensures { λ r. ⌜ r ≡ value v (now (s .entry)) ⌝ }
-{
-    let mut w = v;
-    let mut i = 0;
-    while i < s.len() {
-        w = w * 10 + worth(s[i]);
-        i += 1;
-    }
-    w
-}
-
 // A number that fits, with a sign.
 fn signed(minus: bool, n: u32) -> i32
     requires { ⌜ n < 2147483648 ⌝ }
@@ -136,9 +82,9 @@ fn made(minus: bool, whole: &[u8], decimals: &[u8], down: bool, exponent: &[u8])
     requires { ⌜ (length (now whole) + length (now decimals) ≤ 18) × (length (now exponent) ≤ 2) ⌝ }
     ensures { λ r. ⌜ r ≡ decimalOf (partsAre minus (now (whole .entry)) (now (decimals .entry)) down (now (exponent .entry))) ⌝ }
 {
-    let w = value(0, whole);
-    let c = value(w, decimals);
-    let e = value(0, exponent);
+    let w = digits::value(0, whole);
+    let c = digits::value(w, decimals);
+    let e = digits::value(0, exponent);
     Decimal {
         minus: minus & (0 < c),
         coefficient: c,
@@ -150,22 +96,14 @@ fn made(minus: bool, whole: &[u8], decimals: &[u8], down: bool, exponent: &[u8])
 fn no_number() -> NumberAnswer
     ensures { λ r. ⌜ r ≡ noNumber ⌝ }
 {
-    NumberAnswer::Refused(Refusal {
-        rule: Rule::NoNumber,
-        part: Part::File,
-        place: 0,
-    })
+    NumberAnswer::Refused(refusal::of_file(Rule::NoNumber, 0))
 }
 
 // Refusal 21: too many digits.
 fn too_long() -> NumberAnswer
     ensures { λ r. ⌜ r ≡ tooLong ⌝ }
 {
-    NumberAnswer::Refused(Refusal {
-        rule: Rule::Digits,
-        part: Part::File,
-        place: 0,
-    })
+    NumberAnswer::Refused(refusal::of_file(Rule::Digits, 0))
 }
 
 // The answer for the parts of a text that the grammar writes: a number, unless it has more than 18 digits before E, leading zeros counted, or more
@@ -195,7 +133,7 @@ fn tail(minus: bool, whole: &[u8], decimals: &[u8], x: &[u8]) -> NumberAnswer
     }
     let z = past(x, b'E');
     let y = past(z, b'-');
-    let n = run(Kind::Digit, y);
+    let n = chars::run(Kind::Digit, y);
     if e & (n == 0) {
         return no_number();
     }
@@ -212,14 +150,14 @@ pub fn number(text: &[u8]) -> NumberAnswer
     ensures { λ r. ⌜ r ≡ numberIn (now (text .entry)) ⌝ }
 {
     let s = past(text, b'-');
-    let n = run(Kind::Digit, s);
+    let n = chars::run(Kind::Digit, s);
     if n == 0 {
         return no_number();
     }
     let u = behind(s, n);
     let point = has(u, b'.');
     let v = past(u, b'.');
-    let m = run(Kind::Digit, v);
+    let m = chars::run(Kind::Digit, v);
     if point & (m == 0) {
         return no_number();
     }

@@ -17,7 +17,7 @@ use Rattle.word.specs.Word.{wordAt}
 use Rattle.word.specs.WordLaws.{word-take}
 use Rattle.refusal.specs.declared.Verdict.the-variants.{Accepted}
 use Rattle.sample.specs.Needed.{needed, room}
-use Rattle.text.specs.Runs.{run, same}
+use Rattle.chars.specs.Runs.{run, same}
 use Rattle.sheet.specs.Lines.{lineLen, lineKeyLen, sheetLinesFrom, sheetLines}
 use Rattle.sheet.specs.Area.{joined, sheetStrings, textSize, areaSize}
 use Rattle.head.specs.Head.{fileBlockOf, highFirst, roomOf, countOf, stringEnd, lineEnd}

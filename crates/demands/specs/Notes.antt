@@ -11,8 +11,8 @@ use lib.ListN.{length, take}
 use Rattle.head.specs.declared.Purpose.the-variants.{Read}
 use Rattle.text.specs.declared.Manner.the-variants.{Strict}
 use Rattle.refusal.specs.declared.Verdict.the-variants.{Accepted}
-use Rattle.text.specs.Chars.{note}
-use Rattle.text.specs.Note.{linesOf, withEnds, Each, Characters, Lacks, LineEnd, Lines, lines-back, no-line-holds-an-end, lines-are-of-characters, lines-once}
+use Rattle.chars.specs.Chars.{note}
+use Rattle.note.specs.Note.{linesOf, withEnds, Each, Characters, Lacks, LineEnd, Lines, lines-back, no-line-holds-an-end, lines-are-of-characters, lines-once}
 use Rattle.strings.specs.Spelled.{Str, nthStr, GoodString, Rising, Spells, Spells.empty, Spells.full}
 use Rattle.head.specs.Head.{lineEnd}
 use Rattle.head.specs.HeadLaws.{good-ends}

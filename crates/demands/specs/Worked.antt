@@ -18,8 +18,9 @@ use Rattle.encode.specs.Unfit.{firstFrom, unfitInteger, unfitIntegers}
 use Rattle.encode.specs.Write.{smallest, exponentOf, mantissaOf, onesBits, exponentsOf, wordsOf, groupBytes, groups, filledUp, integersData}
 use Rattle.decimal.specs.declared.NumberAnswer.{NumberAnswer}
 use Rattle.decimal.specs.declared.NumberAnswer.the-variants as answer
-use Rattle.text.specs.Runs.{run}
-use Rattle.decimal.specs.Number.{has, past, worth, value, powerOf, decimalOf, judged, partsOf, numberIn}
+use Rattle.chars.specs.Runs.{run}
+use Rattle.decimal.specs.Number.{has, past, powerOf, decimalOf, judged, partsOf, numberIn}
+use Rattle.digits.specs.Value.{worth, value}
 use Rattle.layout.specs.Layout.{Samples.integers, fitting, unfit}
 use Rattle.writer.specs.Answers.{samplesVerdict}
 

@@ -16,8 +16,8 @@ use Rattle.double.specs.declared.DoubleAnswer.{DoubleAnswer}
 use Rattle.double.specs.declared.DoubleAnswer.the-variants as double
 use Rattle.double.specs.declared.LocationAnswer.{LocationAnswer}
 use Rattle.double.specs.declared.LocationAnswer.the-variants.{Is, Refused}
-use Rattle.text.specs.Chars.{blank, solid}
-use Rattle.text.specs.Runs.{run, Stops, run-stops}
+use Rattle.chars.specs.Chars.{blank, solid}
+use Rattle.chars.specs.Runs.{run, Stops, run-stops}
 use Rattle.decimal.specs.Run.{front, behind}
 use Rattle.double.specs.Double.{doubleOf}
 use Rattle.double.specs.Values.{Value, valuesFrom, valuesOf, blanks-passed, value-first, values-none}

@@ -11,8 +11,8 @@ use lib.ListN.{length, take, drop, length-drop}
 use lib.Seq.{take-at, drop-at}
 use borrow.Author.Tests.{not-true}
 use Rattle.refusal.specs.Rows.{pick}
-use Rattle.text.specs.Chars.{blank, solid}
-use Rattle.text.specs.Runs.{run, Stops, run-stops}
+use Rattle.chars.specs.Chars.{blank, solid}
+use Rattle.chars.specs.Runs.{run, Stops, run-stops}
 use Rattle.decimal.specs.Run.{front, behind, All, run-yes, parts, front-length, front-all, run-length, behind-all}
 
 -- a value: where it starts, and its bytes

@@ -1,8 +1,8 @@
 // A number as a double, rounded once, and locations of one or three doubles (document 01, "As a double" and "Numbers in values", rows 22 and 23).
 // Double, Values and Location have the definitions, Rounded the proof that a double is the decimal value rounded once. Stands on `decimal`, `text`, `refusal`.
 // The rules in words: docs/FORMAT.md, "Numbers in values".
+use chars::Kind;
 use decimal::Decimal;
-use decimal::Kind;
 use decimal::NumberAnswer;
 use refusal::Part;
 use refusal::Refusal;
@@ -12,7 +12,7 @@ ghost use Prim.Native.Nat.{_^_, _<_, _≤_};
 ghost use lib.IntN.{pos, natAbs};
 ghost use lib.ListN.{length};
 ghost use lib.Signed.{ltZ};
-ghost use Rattle.decimal.specs.Run.{isOf};
+ghost use Rattle.chars.specs.Chars.{isOf};
 ghost use Rattle.double.specs.Double.{exact, scaledOf, withSign, noDouble, doubleFrom, refusalOf, doubleOf};
 ghost use Rattle.double.specs.Location.{valueCount, passed, oneOf, threeOf, over, locationOf};
 
@@ -230,7 +230,7 @@ fn over(kind: Kind, text: &[u8], i: usize) -> usize
     requires { ⌜ i ≤ length (now text) ⌝ }
     ensures { λ r. ⌜ (r ≡ over (isOf kind) (now (text .entry)) i) × (i ≤ r) × (r ≤ length (now (text .entry))) ⌝ }
 {
-    i + decimal::run(kind, decimal::behind(text, i))
+    i + chars::run(kind, decimal::behind(text, i))
 }
 
 // The location that a text is (document 01, "Numbers in values"): how many values there are is judged before any of them.

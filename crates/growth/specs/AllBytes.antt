@@ -19,9 +19,9 @@ use Rattle.word.specs.Put.{put}
 use Rattle.word.specs.Round.{round4}
 use Rattle.word.specs.Word.{bytesOf}
 use Rattle.word.specs.WordLaws.{bytesOf-bytes}
-use Rattle.text.specs.Chars.{blank, keyChar, valueChar, note, blank-value, control}
-use Rattle.text.specs.Runs.{all, same, same-eq, same-not}
-use Rattle.text.specs.Note.{Lines, Lines.done, Lines.char, Lines.line}
+use Rattle.chars.specs.Chars.{blank, keyChar, valueChar, note, blank-value, control}
+use Rattle.chars.specs.Runs.{all, same, same-eq, same-not}
+use Rattle.note.specs.Note.{Lines, Lines.done, Lines.char, Lines.line}
 use Rattle.strings.specs.Spelled.{Str, GoodString, Rising, textOf, sizeOf, texts, markedEnd, Spells, Spells.empty, Spells.full}
 use Rattle.encode.specs.Write.{flat, residue, fixedBytes, exponentsOf, mantissaOf, onesBits, wordsOf, groupBytes, groups, filledUp, integersData, bitsData}
 use Rattle.sheet.specs.declared.Measured.the-variants.{Size}

@@ -13,7 +13,7 @@ use Rattle.head.specs.declared.Purpose.{Purpose}
 use Rattle.text.specs.declared.Manner.the-variants.{Strict}
 use Rattle.word.specs.Tests.{both}
 use Rattle.word.specs.Part.{length-part}
-use Rattle.text.specs.Runs.{all}
+use Rattle.chars.specs.Runs.{all}
 use Rattle.area.specs.Spelling.{among, Terminators}
 use Rattle.head.specs.Head.{terminatorAt, stringEnd, lineEnd, lacks, apart}
 use Rattle.image.specs.Keeps.{KeepsTerminator, Keeps}

@@ -16,7 +16,7 @@ use Rattle.word.specs.Bytes.{Bytes}
 use Rattle.refusal.specs.declared.Refusal.{Refusal}
 use Rattle.refusal.specs.declared.Verdict.the-variants.{Accepted}
 use Rattle.strings.specs.declared.Place.{Place}
-use Rattle.text.specs.Runs.{same}
+use Rattle.chars.specs.Runs.{same}
 use Rattle.strings.specs.Strings.{placesOf, findOf, keyIn, valueFound}
 use Rattle.strings.specs.Spelled.{Str, Spells, nthStr, strsIn}
 use Rattle.strings.specs.Paper.{spelled-places, spelled-value}

@@ -26,7 +26,7 @@ use Rattle.encode.specs.Back.{reach, fit-reach, integers-back, fit-32, bits-bac
 use Rattle.encode.specs.Cut.{cut, floats-back}
 use Rattle.sheet.specs.declared.Measured.the-variants.{Size}
 use Rattle.sheet.specs.Area.{sheetStrings, measuredOf}
-use Rattle.text.specs.Note.{LineEnd}
+use Rattle.note.specs.Note.{LineEnd}
 use Rattle.area.specs.Spelling.{area-spells}
 use Rattle.head.specs.Head.{highFirst, countOf, stringEnd, lineEnd}
 use Rattle.block.specs.Block.{dataAt, endAt, traceBlockOf}

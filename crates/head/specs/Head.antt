@@ -15,8 +15,8 @@ use Rattle.refusal.specs.declared.Verdict.{Verdict}
 use Rattle.refusal.specs.declared.Verdict.the-variants.{Accepted, Refused}
 use Rattle.refusal.specs.Table.{refusal}
 use Rattle.refusal.specs.Rows.{Rows, first}
-use Rattle.text.specs.Chars.{control}
-use Rattle.text.specs.Runs.{all}
+use Rattle.chars.specs.Chars.{control}
+use Rattle.chars.specs.Runs.{all}
 use Rattle.refusal.specs.Verdicts.{asked}
 use Rattle.head.specs.declared.Purpose.{Purpose}
 use Rattle.head.specs.declared.Purpose.the-variants.{Read, Grow}

@@ -20,9 +20,9 @@ use Rattle.head.specs.declared.FileBlock.{FileBlock}
 use Rattle.head.specs.declared.Purpose.{Purpose}
 use Rattle.head.specs.declared.Purpose.the-variants.{Read, Grow}
 use Rattle.refusal.specs.declared.Verdict.the-variants.{Accepted}
-use Rattle.text.specs.Runs.{all, more, none}
-use Rattle.text.specs.Chars.{control}
-use Rattle.text.specs.Note.{LineEnd, control-ends}
+use Rattle.chars.specs.Runs.{all, more, none}
+use Rattle.chars.specs.Chars.{control}
+use Rattle.note.specs.Note.{LineEnd, control-ends}
 use Rattle.head.specs.Head.{known, mayBeEmpty, highFirst, revisionOf, roomOf, countOf, terminatorAt, stringEnd, lineEnd, goodTerminator, lacks, apart, headRows, headOf, fileBlockOf}
 
 -- ---- terminators of one and of two characters

@@ -2,7 +2,6 @@
 // Head has the definitions, HeadLaws what an image that passes the rows has. Stands on `text`, `word`, `refusal`.
 // f is the image, the first `n` bytes of the lent buffer, or no more than its first 32.
 // The rules in words: docs/FORMAT.md, "The file block".
-use refusal::Part;
 use refusal::Refusal;
 use refusal::Rule;
 use refusal::Verdict;
@@ -11,7 +10,7 @@ ghost use mathlib.Core.Bool.{true};
 ghost use Prim.Native.Nat.{_+_, _≤_, _<_};
 ghost use lib.ListN.{length};
 ghost use Rattle.word.specs.Part.{PartOf};
-ghost use Rattle.text.specs.Chars.{control};
+ghost use Rattle.chars.specs.Chars.{control};
 ghost use Rattle.head.specs.Head.{known, highFirst, terminatorAt, stringEnd, lineEnd, goodTerminator, lacks, apart, mayBeEmpty};
 ghost use Rattle.head.specs.Head.{badRoom, badCount, badLines, refused, badFile, headAnswer, InWords, terminatorSpan, fileBlockOf};
 
@@ -168,21 +167,13 @@ fn is_bad_count(purpose: Purpose, m: usize, n: usize) -> bool
 pub fn refusing(rule: Rule, place: usize) -> Verdict
     ensures { λ r. ⌜ r ≡ refused rule place ⌝ }
 {
-    Verdict::Refused(Refusal {
-        rule,
-        part: Part::File,
-        place,
-    })
+    Verdict::Refused(refusal::of_file(rule, place))
 }
 
 fn bad_file(rule: Rule, place: usize) -> FileAnswer
     ensures { λ r. ⌜ r ≡ badFile rule place ⌝ }
 {
-    FileAnswer::Refused(Refusal {
-        rule,
-        part: Part::File,
-        place,
-    })
+    FileAnswer::Refused(refusal::of_file(rule, place))
 }
 
 // The block that the first 32 bytes are, of an image of which it is known to be one.

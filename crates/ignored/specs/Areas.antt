@@ -15,7 +15,7 @@ use Rattle.word.specs.WordLaws.{word-take}
 use Rattle.refusal.specs.Rows.{pick}
 use Rattle.refusal.specs.declared.Part.{Part}
 use Rattle.refusal.specs.declared.Verdict.{Verdict}
-use Rattle.text.specs.Runs.{same}
+use Rattle.chars.specs.Runs.{same}
 use Rattle.strings.specs.declared.Frame.{Frame}
 use Rattle.strings.specs.declared.Frame.the-variants.{End, Text, Broken}
 use Rattle.strings.specs.declared.Step.{Step}

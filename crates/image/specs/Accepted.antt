@@ -26,7 +26,7 @@ use Rattle.refusal.specs.declared.Verdict.{Verdict}
 use Rattle.refusal.specs.declared.Verdict.the-variants.{Accepted}
 use Rattle.text.specs.declared.Manner.{Manner}
 use Rattle.head.specs.declared.Purpose.{Purpose}
-use Rattle.text.specs.Note.{LineEnd}
+use Rattle.note.specs.Note.{LineEnd}
 use Rattle.strings.specs.Paper.{spelled-accepted, accepted-spelled}
 use Rattle.head.specs.Head.{maximum, known, highFirst, roomOf, countOf, stringEnd, lineEnd, goodTerminator, headOf, refused}
 use Rattle.head.specs.HeadLaws.{Headed, headed, head-accepts, good-length, good-chars, good-ends}

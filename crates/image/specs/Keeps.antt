@@ -12,11 +12,11 @@ use Rattle.word.specs.Part.{part}
 use Rattle.refusal.specs.Rows.{pick}
 use Rattle.sample.specs.Needed.{needed}
 use Rattle.text.specs.declared.Manner.{Manner}
-use Rattle.text.specs.Runs.{all}
+use Rattle.chars.specs.Runs.{all}
 use Rattle.head.specs.declared.Purpose.{Purpose}
 use Rattle.head.specs.declared.Purpose.the-variants.{Grow}
 use Rattle.strings.specs.Spelled.{Str, Spells}
-use Rattle.text.specs.Chars.{control}
+use Rattle.chars.specs.Chars.{control}
 use Rattle.head.specs.Head.{maximum, highFirst, revisionOf, roomOf, countOf, terminatorAt, stringEnd, lineEnd, apart}
 use Rattle.block.specs.Block.{traceMark, pointerOf, markAt, blockSize, dataSize, sampleCount, formatCode, dataAt, endAt}
 

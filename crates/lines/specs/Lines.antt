@@ -9,7 +9,7 @@ use Rattle.refusal.specs.declared.Part.the-variants.{File, Trace}
 use Rattle.refusal.specs.declared.Refusal.{Refusal}
 use Rattle.refusal.specs.Table.{numberOf}
 use Rattle.refusal.specs.Rows.{pick}
-use Rattle.lines.specs.Digits.{digits}
+use Rattle.digits.specs.Digits.{digits}
 
 -- a number and what ends its field
 unfoldable pub ended : ℕ → ℕ → List ℕ

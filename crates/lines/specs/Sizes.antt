@@ -7,7 +7,7 @@ use Prim.Native.Nat.{ℕ, _+_, _^_, _≤_, _<_}
 use native.Mathlib.Omega.{arith}
 use lib.ListN.{length, length-append}
 use Rattle.refusal.specs.declared.Part.{Part}
-use Rattle.lines.specs.Digits.{digits, digits-few}
+use Rattle.digits.specs.Digits.{digits, digits-few}
 use Rattle.refusal.specs.declared.Rule.{Rule}
 use Rattle.refusal.specs.Table.{numberOf}
 use Rattle.refusal.proofs.Numbers.{below-hundred}

@@ -7,7 +7,7 @@ use native.Mathlib.Omega.{arith}
 use lib.ListN.{length, getD, drop, set, drop-of-length-le}
 use Rattle.word.specs.Put.{put, put-none, copy-turn}
 use Rattle.lines.specs.Lines.{space, spaced}
-use Rattle.lines.specs.Wrote.{Wrote}
+use Rattle.word.specs.Wrote.{Wrote}
 
 pub length-spaced : (v : List ℕ) → length (spaced v) ≡ length v
 unfolding spaced

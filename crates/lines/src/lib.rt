@@ -10,9 +10,9 @@ ghost use mathlib.Core.List.{[], _∷_};
 ghost use Prim.Native.Nat.{_+_, _≤_};
 ghost use lib.ListN.{length};
 ghost use Rattle.refusal.specs.Table.{numberOf};
-ghost use Rattle.lines.specs.Digits.{digits};
+ghost use Rattle.digits.specs.Digits.{digits};
 ghost use Rattle.lines.specs.Lines.{ended, whose, order, headLine, traceLine, refusalLine, space, spaced, label, stringLine};
-ghost use Rattle.lines.specs.Wrote.{Room, Wrote};
+ghost use Rattle.word.specs.Wrote.{Room, Wrote};
 
 fn put_byte(out: &mut [u8], at: usize, b: u8) -> usize
     requires { ⌜ Room (now out) at (b ∷ []) ⌝ }
@@ -22,38 +22,12 @@ fn put_byte(out: &mut [u8], at: usize, b: u8) -> usize
     at + 1
 }
 
-fn put_bytes(out: &mut [u8], at: usize, s: &[u8]) -> usize
-    requires { ⌜ Room (now out) at (now s) ⌝ }
-    ensures { λ r. ⌜ Wrote (now (out .entry)) at (now (s .entry)) r (now (out .exit)) ⌝ }
-{
-    word::copy(out, at, s);
-    at + s.len()
-}
-
-// A number in decimal. Its digits come last first, so they are gathered at the end of a row of their own; no number of 64 bits has more than 20.
-fn put_digits(out: &mut [u8], at: usize, n: usize) -> usize
-    requires { ⌜ Room (now out) at (digits n) ⌝ }
-    ensures { λ r. ⌜ Wrote (now (out .entry)) at (digits n) r (now (out .exit)) ⌝ }
-{
-    let mut row = [0u8; 20];
-    let mut i: usize = 20;
-    let mut left = n;
-    while 10 <= left {
-        i -= 1;
-        row[i] = 48 + (left % 10) as u8;
-        left = left / 10;
-    }
-    i -= 1;
-    row[i] = 48 + left as u8;
-    put_bytes(out, at, &row[i..])
-}
-
 // A number and what ends its field.
 fn put_ended(out: &mut [u8], at: usize, n: usize, b: u8) -> usize
     requires { ⌜ Room (now out) at (ended n b) ⌝ }
     ensures { λ r. ⌜ Wrote (now (out .entry)) at (ended n b) r (now (out .exit)) ⌝ }
 {
-    let a = put_digits(out, at, n);
+    let a = digits::put_digits(out, at, n as u64);
     put_byte(out, a, b)
 }
 
@@ -64,7 +38,7 @@ fn put_whose(out: &mut [u8], at: usize, part: Part) -> usize
 {
     match part {
         Part::File => put_byte(out, at, b'F'),
-        Part::Trace(k) => put_digits(out, at, k as usize),
+        Part::Trace(k) => digits::put_digits(out, at, k as u64),
     }
 }
 
@@ -73,9 +47,9 @@ fn put_order(out: &mut [u8], at: usize, high: bool) -> usize
     ensures { λ r. ⌜ Wrote (now (out .entry)) at (order high) r (now (out .exit)) ⌝ }
 {
     if high {
-        return put_bytes(out, at, b"SEG2\thigh\t");
+        return word::put_bytes(out, at, b"SEG2\thigh\t");
     }
-    put_bytes(out, at, b"SEG2\tlow\t")
+    word::put_bytes(out, at, b"SEG2\tlow\t")
 }
 
 // The first line: order, N, M.
@@ -93,7 +67,7 @@ pub fn put_trace_line(out: &mut [u8], at: usize, k: u16, code: u8, s: usize) -> 
     requires { ⌜ Room (now out) at (traceLine k code s) ⌝ }
     ensures { λ r. ⌜ Wrote (now (out .entry)) at (traceLine k code s) r (now (out .exit)) ⌝ }
 {
-    let a = put_bytes(out, at, b"T\t");
+    let a = word::put_bytes(out, at, b"T\t");
     let b = put_ended(out, a, k as usize, 9);
     let c = put_ended(out, b, code as usize, 9);
     put_ended(out, c, s, 10)
@@ -104,7 +78,7 @@ fn put_number(out: &mut [u8], at: usize, k: u16) -> usize
     requires { ⌜ at + 5 ≤ length (now out) ⌝ }
     ensures { λ r. ⌜ Wrote (now (out .entry)) at (digits k) r (now (out .exit)) × (length (digits k) ≤ 5) ⌝ }
 {
-    put_digits(out, at, k as usize)
+    digits::put_digits(out, at, k as u64)
 }
 
 // Whose a refusal is.
@@ -142,7 +116,7 @@ pub fn put_refusal(out: &mut [u8], at: usize, r: Refusal) -> usize
     let rule = r.rule;
     let part = r.part;
     let place = r.place;
-    let a = put_bytes(out, at, b"R\t");
+    let a = word::put_bytes(out, at, b"R\t");
     let b = put_rule(out, a, rule);
     let c = put_part(out, b, part);
     let d = put_byte(out, c, 9);
@@ -177,10 +151,10 @@ fn put_label(out: &mut [u8], at: usize, part: Part, key: &[u8]) -> usize
     requires { ⌜ Room (now out) at (label part (now key)) ⌝ }
     ensures { λ r. ⌜ Wrote (now (out .entry)) at (label part (now (key .entry))) r (now (out .exit)) ⌝ }
 {
-    let a = put_bytes(out, at, b"S\t");
+    let a = word::put_bytes(out, at, b"S\t");
     let b = put_whose(out, a, part);
     let c = put_byte(out, b, 9);
-    let d = put_bytes(out, c, key);
+    let d = word::put_bytes(out, c, key);
     put_byte(out, d, 9)
 }
 

@@ -17,9 +17,9 @@ use Rattle.refusal.specs.declared.Part.{Part}
 use Rattle.refusal.specs.declared.Part.the-variants.{File, Trace}
 use Rattle.refusal.specs.declared.Verdict.{Verdict}
 use Rattle.refusal.specs.declared.Verdict.the-variants.{Accepted, Refused}
-use Rattle.text.specs.Chars.{note}
-use Rattle.text.specs.Runs.{same}
-use Rattle.text.specs.Note.{linesOf}
+use Rattle.chars.specs.Chars.{note}
+use Rattle.chars.specs.Runs.{same}
+use Rattle.note.specs.Note.{linesOf}
 use Rattle.strings.specs.Strings.{placesOf}
 use Rattle.strings.specs.Spelled.{Str, strsIn}
 use Rattle.head.specs.Head.{highFirst, roomOf, countOf, stringEnd, lineEnd}

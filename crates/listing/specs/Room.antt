@@ -23,9 +23,9 @@ use Rattle.sample.specs.Needed.{needed}
 use Rattle.strings.specs.declared.Frame.{Frame}
 use Rattle.strings.specs.declared.Frame.the-variants.{End, Text, Broken}
 use Rattle.strings.specs.declared.Place.{Place}
-use Rattle.text.specs.Chars.{note}
-use Rattle.text.specs.Runs.{same, same-eq}
-use Rattle.text.specs.Note.{lineLen, linesOf, line-ends, starts-fits}
+use Rattle.chars.specs.Chars.{note}
+use Rattle.chars.specs.Runs.{same, same-eq}
+use Rattle.note.specs.Note.{lineLen, linesOf, line-ends, starts-fits}
 use Rattle.strings.specs.Strings.{frameOf, placeOf, onText, placesFrom, placesOf, keyIn, valueIn}
 use Rattle.strings.specs.Walks.{Fits, place-fits}
 use Rattle.strings.specs.Spelled.{strsIn}
@@ -35,7 +35,7 @@ use Rattle.image.specs.Image.{imageOf}
 use Rattle.image.specs.Keeps.{traceAt, endBefore}
 use Rattle.image.specs.Accepted.{before-next}
 use Rattle.reader.specs.Reach.{some-trace, trace-pointed, trace-blocked}
-use Rattle.lines.specs.Digits.{digits, digits-few}
+use Rattle.digits.specs.Digits.{digits, digits-few}
 use Rattle.lines.specs.Lines.{whose, headLine, traceLine, stringLine}
 use Rattle.listing.specs.Listing.{linesText, valuesOf, stringsText, stringsIn, traceText, tracesText, fileText, roomFor}
 use Rattle.lines.specs.Sizes.{five, length-ended, length-order, length-head, length-trace, length-label, length-line}

@@ -33,7 +33,7 @@ use Rattle.reader.specs.Reach.{checked, some-trace, pointer-slot, trace-pointed
 use Rattle.listing.specs.declared.Listed.the-variants.{To, Full}
 use Rattle.lines.specs.Lines.{headLine, traceLine, refusalLine}
 use Rattle.listing.specs.Listing.{stringsText, stringsIn, traceText, tracesText, fileText, checkedText, listingOf, programOf, roomFor, printAnswer, Within, printLeft}
-use Rattle.lines.specs.Wrote.{Room, Wrote, room-front, room-back, joined, first-room, second-room, both-wrote}
+use Rattle.word.specs.Wrote.{Room, Wrote, room-front, room-back, joined, first-room, second-room, both-wrote}
 
 module _ (f : List ℕ) (ok : imageOf Strict Read f ≡ Accepted) (size : 32 ≤ length f) where
   pub ends-good : (goodTerminator f 8 ≡ true) × (goodTerminator f 11 ≡ true)

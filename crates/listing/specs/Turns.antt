@@ -16,8 +16,8 @@ use Rattle.strings.specs.declared.Frame.the-variants.{End, Text, Broken}
 use Rattle.strings.specs.declared.Place.{Place}
 use Rattle.strings.specs.declared.Found.the-variants.{Nothing, Is}
 use Rattle.strings.specs.declared.Entry.the-variants.{Stop, At}
-use Rattle.text.specs.Runs.{same}
-use Rattle.text.specs.Note.{starts, lineLen, linesOf, line-ends, starts-fits}
+use Rattle.chars.specs.Runs.{same}
+use Rattle.note.specs.Note.{starts, lineLen, linesOf, line-ends, starts-fits}
 use Rattle.strings.specs.Strings.{PlaceIn, frameOf, placeOf, onText, entryOf, placesFrom, placesOf, nthOf, keyIn, valueIn}
 use Rattle.strings.specs.Walks.{in-frame, place-next, place-stop, place-bounds}
 use Rattle.strings.specs.Spelled.{strsIn}
@@ -71,11 +71,11 @@ unfolding linesText
 lines-one p key v = mathlib.Core.List.append-nil (stringLine p key v)
 
 -- ---- the lines of a string
-pub values-note : (u key v : List ℕ) → same key Rattle.text.specs.Chars.note ≡ true → valuesOf u key v ≡ linesOf (length v) u v
+pub values-note : (u key v : List ℕ) → same key Rattle.chars.specs.Chars.note ≡ true → valuesOf u key v ≡ linesOf (length v) u v
 unfolding valuesOf
 values-note u key v h = rw h
 
-pub values-plain : (u key v : List ℕ) → same key Rattle.text.specs.Chars.note ≡ false → valuesOf u key v ≡ v ∷ []
+pub values-plain : (u key v : List ℕ) → same key Rattle.chars.specs.Chars.note ≡ false → valuesOf u key v ≡ v ∷ []
 unfolding valuesOf
 values-plain u key v h = rw h
 

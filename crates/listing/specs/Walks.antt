@@ -12,14 +12,14 @@ use Rattle.word.specs.Part.{part, length-part, part-rest}
 use Rattle.refusal.specs.declared.Part.{Part}
 use Rattle.strings.specs.declared.Place.{Place}
 use Rattle.strings.specs.declared.Found.the-variants.{Nothing, Is}
-use Rattle.text.specs.Note.{lineLen, linesOf, lineLen-le}
+use Rattle.note.specs.Note.{lineLen, linesOf, lineLen-le}
 use Rattle.strings.specs.Strings.{PlaceIn, placesOf, nthOf}
 use Rattle.strings.specs.Spelled.{strsIn}
 use Rattle.lines.specs.Lines.{label, stringLine}
 use Rattle.lines.specs.Sizes.{length-line}
 use Rattle.lines.specs.Spaced.{length-spaced}
 use Rattle.listing.specs.Listing.{linesText, stringsText, traceText, tracesText}
-use Rattle.lines.specs.Wrote.{Room, Wrote, Left, left-start, left-room, left-turn, left-over, left-last-room, left-last}
+use Rattle.word.specs.Wrote.{Room, Wrote, Left, left-start, left-room, left-turn, left-over, left-last-room, left-last}
 use Rattle.listing.specs.Turns.{line-on, line-last, lines-more, lines-one, textFrom, lineText, string-in, string-next, string-none, strings-over, trace-next, traces-over}
 
 -- ---- a NOTE: the line from `from` on ends at e

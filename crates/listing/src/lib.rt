@@ -18,13 +18,13 @@ ghost use Rattle.word.specs.Part as parts;
 ghost use Rattle.refusal.specs.declared.Verdict.the-variants.{Accepted};
 ghost use Rattle.text.specs.declared.Manner.the-variants.{Strict};
 ghost use Rattle.head.specs.declared.Purpose.the-variants.{Read};
-ghost use Rattle.text.specs.Note.{linesOf};
+ghost use Rattle.note.specs.Note.{linesOf};
 ghost use Rattle.strings.specs.Strings.{placesOf};
 ghost use Rattle.strings.specs.Spelled.{strsIn};
 ghost use Rattle.head.specs.Head.{countOf};
 ghost use Rattle.image.specs.Image.{imageOf};
 ghost use Rattle.listing.specs.Listing.{linesText, valuesOf, stringsText, traceText, tracesText, fileText, roomFor, listAnswer, Within, listLeft, programAnswer, programLeft};
-ghost use Rattle.lines.specs.Wrote.{Room, Wrote};
+ghost use Rattle.word.specs.Wrote.{Room, Wrote};
 
 // How many bytes the listing has; or that the row lent may be too short for it.
 pub enum Listed {
@@ -39,11 +39,11 @@ fn put_lines(out: &mut [u8], at: usize, part: Part, key: &[u8], u: &[u8], v: &[u
 {
     let mut from: usize = 0;
     let mut to = at;
-    let mut e = text::line_end(u, v, 0);
+    let mut e = note::line_end(u, v, 0);
     while e < v.len() {
         to = lines::put_line(out, to, part, key, &v[from..e]);
         from = e + u.len();
-        e = text::line_end(u, v, from);
+        e = note::line_end(u, v, from);
     }
     lines::put_line(out, to, part, key, &v[from..])
 }

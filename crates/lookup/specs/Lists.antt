@@ -14,7 +14,7 @@ use Rattle.strings.specs.declared.Frame.the-variants.{End, Text, Broken}
 use Rattle.strings.specs.declared.Place.{Place}
 use Rattle.strings.specs.declared.Found.the-variants.{Nothing, Is}
 use Rattle.text.specs.declared.Manner.{Manner}
-use Rattle.text.specs.Runs.{same}
+use Rattle.chars.specs.Runs.{same}
 use Rattle.text.specs.Manner.{named}
 use Rattle.strings.specs.Strings.{frameOf, placeOf, onText, placesFrom, placesOf, keyIn, PlaceIn, nthOf, findOf}
 use Rattle.strings.specs.Walks.{place-fits}

@@ -1,6 +1,7 @@
 // Questions on the list of strings that an area spells: how many, the i-th, the one with a keyword, each by its place in the lent file (document 01,
 // "Strings"), in any manner of reading. The definitions are those of `strings`; Lists has what a walk along the list needs. Stands on `strings`, `text`.
 // The rules in words: docs/FORMAT.md, "Strings".
+use chars::Kind;
 use strings::Entry;
 use strings::Found;
 use strings::Frame;
@@ -10,21 +11,7 @@ ghost use mathlib.Core.Path.{_≡_};
 ghost use Prim.Native.Nat.{_+_, _≤_, _<_};
 ghost use lib.ListN.{length};
 ghost use Rattle.word.specs.Part.{part};
-ghost use Rattle.strings.specs.Strings.{keyLen, entryOf, placesOf, nthOf, findOf};
-
-// How many bytes stand before the first separator.
-fn key_len(s: &[u8]) -> usize
-    ensures { λ r. ⌜ (r ≡ keyLen (now (s .entry))) × (r ≤ length (now (s .entry))) ⌝ }
-{
-    let mut i: usize = 0;
-    while i < s.len() {
-        if text::is_blank(s[i]) {
-            return i;
-        }
-        i += 1;
-    }
-    i
-}
+ghost use Rattle.strings.specs.Strings.{entryOf, placesOf, nthOf, findOf};
 
 // The string that l starts with, at place `at` of the file, for a question.
 fn entry_at(l: &[u8], high: bool, t: &[u8], at: usize, how: Manner) -> Entry
@@ -38,8 +25,8 @@ fn entry_at(l: &[u8], high: bool, t: &[u8], at: usize, how: Manner) -> Entry
         Frame::Text(o) => {
             let end = o - t.len();
             let b = &l[2..end];
-            let n = key_len(b);
-            let m = text::gap_run(&b[n..]);
+            let n = chars::run(Kind::Solid, b);
+            let m = chars::run(Kind::Blank, &b[n..]);
             let key = at + 2;
             let gap = key + n;
             Entry::At(

@@ -9,7 +9,6 @@ use double::DoubleAnswer;
 use double::LocationAnswer;
 use head::FileAnswer;
 use head::Purpose;
-use refusal::Part;
 use refusal::Refusal;
 use refusal::Rule;
 use refusal::Verdict;
@@ -90,11 +89,7 @@ fn whose_in(f: &[u8], part: i32) -> Whose
 fn no_trace() -> Refusal
     ensures { λ r. ⌜ r ≡ noTrace ⌝ }
 {
-    Refusal {
-        rule: Rule::NoTrace,
-        part: Part::File,
-        place: 0,
-    }
+    refusal::of_file(Rule::NoTrace, 0)
 }
 
 // Where the strings of a part of an accepted image stand.

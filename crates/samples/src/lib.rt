@@ -3,8 +3,6 @@
 // The rules in words: docs/FORMAT.md, "Samples".
 use block::TraceAnswer;
 use block::TraceBlock;
-use refusal::Part;
-use refusal::Refusal;
 use refusal::Rule;
 use refusal::Verdict;
 use text::Manner;
@@ -45,11 +43,7 @@ fn is_bits(code: u8) -> bool
 fn refusing(rule: Rule) -> Verdict
     ensures { λ r. ⌜ r ≡ refused rule 0 ⌝ }
 {
-    Verdict::Refused(Refusal {
-        rule,
-        part: Part::File,
-        place: 0,
-    })
+    Verdict::Refused(refusal::of_file(rule, 0))
 }
 
 // The samples of the trace whose block is t, of an accepted image.

@@ -13,9 +13,9 @@ use Rattle.refusal.specs.declared.Part.the-variants.{File}
 use Rattle.refusal.specs.Verdicts.{asked}
 use Rattle.refusal.specs.Table.{refusal}
 use Rattle.refusal.specs.Rows.{pick}
-use Rattle.text.specs.Chars.{note}
-use Rattle.text.specs.Runs.{same}
-use Rattle.text.specs.Note.{withEnds}
+use Rattle.chars.specs.Chars.{note}
+use Rattle.chars.specs.Runs.{same}
+use Rattle.note.specs.Note.{withEnds}
 use Rattle.strings.specs.Spelled.{Str, sizeOf, written}
 use Rattle.sheet.specs.declared.Measured as measured
 use Rattle.sheet.specs.declared.Measured.{Measured}

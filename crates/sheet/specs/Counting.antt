@@ -18,8 +18,8 @@ use Rattle.refusal.specs.declared.Refusal.{Refusal}
 use Rattle.refusal.specs.declared.Rule.the-variants.{AreaSize}
 use Rattle.refusal.specs.declared.Part.the-variants.{File}
 use Rattle.refusal.specs.declared.Verdict.the-variants.{Accepted, Refused}
-use Rattle.text.specs.Chars.{note}
-use Rattle.text.specs.Runs.{same}
+use Rattle.chars.specs.Chars.{note}
+use Rattle.chars.specs.Runs.{same}
 use Rattle.text.specs.Order.{rises, rises-note}
 use Rattle.sheet.specs.declared.Step.the-variants.{Next, Bad}
 use Rattle.sheet.specs.declared.Measured as measured

@@ -16,8 +16,8 @@ use Rattle.refusal.specs.declared.Rule.the-variants.{SheetLine, SheetOrder}
 use Rattle.refusal.specs.declared.Part.the-variants.{File}
 use Rattle.strings.specs.declared.Judged.{Judged}
 use Rattle.strings.specs.declared.Judged.the-variants.{Keyword, Wrong}
-use Rattle.text.specs.Chars.{keyChar}
-use Rattle.text.specs.Runs.{run, all}
+use Rattle.chars.specs.Chars.{keyChar}
+use Rattle.chars.specs.Runs.{run, all}
 use Rattle.text.specs.Order.{rises}
 use Rattle.sheet.specs.declared.Step.the-variants.{Next, Bad}
 use Rattle.sheet.specs.Lines.{plain, lineLen, lineKeyLen, spaced, continues, lineRows, lineJudged, onLineJudged, lineStep}

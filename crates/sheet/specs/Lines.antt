@@ -16,17 +16,13 @@ use Rattle.refusal.specs.Table.{refusal}
 use Rattle.refusal.specs.Rows.{Rows, pick, ruled}
 use Rattle.strings.specs.declared.Judged.{Judged}
 use Rattle.strings.specs.declared.Judged.the-variants.{Keyword, Wrong}
-use Rattle.text.specs.Chars.{keyChar, printed, note}
-use Rattle.text.specs.Runs.{run, all, same}
+use Rattle.chars.specs.Chars.{keyChar, inLine, printed, note}
+use Rattle.chars.specs.Runs.{run, all, same}
 use Rattle.text.specs.Order.{rises}
 use Rattle.sheet.specs.declared.Step.{Step}
 use Rattle.sheet.specs.declared.Step.the-variants.{Next, Bad}
 
 -- ---- one line
-
--- "ended by 0Ah"
-abbrev pub inLine : ℕ → Bool
-inLine b = not (eqb b 10)
 
 -- "Value codes are 32 to 126": no tab and no other control character
 abbrev pub plain : ℕ → Bool

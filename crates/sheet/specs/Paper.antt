@@ -14,12 +14,12 @@ use lib.Dec.{eqb}
 use borrow.Author.Tests.{eqb-true, not-false}
 use Rattle.refusal.specs.declared.Verdict.the-variants.{Accepted}
 use Rattle.strings.specs.declared.Judged.the-variants.{Keyword}
-use Rattle.text.specs.Chars.{keyChar}
-use Rattle.text.specs.Runs.{run, all, Stops, all-append, all-weaker, run-all, run-stops, run-append}
+use Rattle.chars.specs.Chars.{inLine, keyChar}
+use Rattle.chars.specs.Runs.{run, all, Stops, all-append, all-weaker, run-all, run-stops, run-append}
 use Rattle.text.specs.Order.{rises}
 use Rattle.sheet.specs.declared.Step.{Step}
 use Rattle.sheet.specs.declared.Step.the-variants.{Next, Bad}
-use Rattle.sheet.specs.Lines.{Line, inLine, plain, lineLen, lineKeyLen, spaced, continues, lineJudged, lineStep, onLineStep, checkFrom, linesVerdict, sheetLinesFrom, sheetLines}
+use Rattle.sheet.specs.Lines.{Line, plain, lineLen, lineKeyLen, spaced, continues, lineJudged, lineStep, onLineStep, checkFrom, linesVerdict, sheetLinesFrom, sheetLines}
 use Rattle.sheet.specs.Judging.{Told, judged-good, step-good, next-told}
 use Rattle.sheet.specs.Counting.{check-step, check-none, lines-none, lines-step}
 

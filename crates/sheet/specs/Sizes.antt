@@ -12,9 +12,9 @@ use Rattle.word.specs.Round.{round4}
 use Rattle.word.specs.Word.{bytesOf}
 use Rattle.word.specs.WordLaws.{length-bytesOf}
 use Rattle.refusal.specs.Rows.{pick}
-use Rattle.text.specs.Chars.{note}
-use Rattle.text.specs.Runs.{same, same-eq}
-use Rattle.text.specs.Note.{withEnds}
+use Rattle.chars.specs.Chars.{note}
+use Rattle.chars.specs.Runs.{same, same-eq}
+use Rattle.note.specs.Note.{withEnds}
 use Rattle.strings.specs.Spelled.{Str, textOf, sizeOf, texts, written}
 use Rattle.sheet.specs.Lines.{Line}
 use Rattle.sheet.specs.Area.{strOf, values, noteOf, joined, sheetStrings, textSize, padding, areaOf, areaSize}

@@ -2,7 +2,7 @@
 // definitions, Paper the second view: a sheet is taken exactly where its lines keep the rules. Stands on `strings`, `text`, `word`, `refusal`.
 // A sheet is the bytes of its lines, each ended by 0Ah; t is the file's string terminator, u its line terminator.
 // The rules in words: docs/FORMAT.md, "What we write".
-use refusal::Part;
+use chars::Kind;
 use refusal::Refusal;
 use refusal::Rule;
 use strings::Judged;
@@ -10,8 +10,7 @@ use text::Manner;
 ghost use mathlib.Core.Path.{_≡_};
 ghost use Prim.Native.Nat.{_+_, _≤_};
 ghost use lib.ListN.{length};
-ghost use Rattle.text.specs.Runs.{all};
-ghost use Rattle.sheet.specs.Lines.{plain, lineLen, spaced, continues, lineJudged, lineStep};
+ghost use Rattle.sheet.specs.Lines.{lineLen, spaced, continues, lineJudged, lineStep};
 ghost use Rattle.sheet.specs.Area.{measuredOf};
 ghost use Rattle.sheet.specs.Sizes.{lineCost, capped};
 
@@ -31,35 +30,7 @@ pub enum Measured {
 pub fn line_len(s: &[u8]) -> usize
     ensures { λ r. ⌜ (r ≡ lineLen (now (s .entry))) × (r ≤ length (now (s .entry))) ⌝ }
 {
-    let mut i: usize = 0;
-    while i < s.len() {
-        if s[i] != 10 {
-            i += 1;
-        } else {
-            return i;
-        }
-    }
-    i
-}
-
-fn is_plain(b: u8) -> bool
-    ensures { λ r. ⌜ r ≡ plain b ⌝ }
-{
-    (32 <= b) & (b <= 126)
-}
-
-// Whether a line's value has only the codes that it may have.
-fn all_plain(v: &[u8]) -> bool
-    ensures { λ r. ⌜ r ≡ all plain (now (v .entry)) ⌝ }
-{
-    let mut i: usize = 0;
-    while i < v.len() {
-        if !is_plain(v[i]) {
-            return false;
-        }
-        i += 1;
-    }
-    true
+    chars::run(Kind::Line, s)
 }
 
 // Whether a value starts with a space.
@@ -95,7 +66,7 @@ fn judge(l: &[u8], prev: &[u8]) -> Judged
     }
     let from = n + 1;
     let v = &l[from..];
-    if !all_plain(v) {
+    if !chars::all(Kind::Printed, v) {
         return Judged::Wrong(Rule::SheetLine);
     }
     let k = &l[..n];
@@ -115,20 +86,12 @@ fn step_at(s: &[u8], prev: &[u8], at: usize) -> Step
 {
     let n = line_len(s);
     if s.len() <= n {
-        return Step::Bad(Refusal {
-            rule: Rule::SheetLine,
-            part: Part::File,
-            place: at,
-        });
+        return Step::Bad(refusal::of_file(Rule::SheetLine, at));
     }
     let j = judge(&s[..n], prev);
     match j {
         Judged::Keyword(w) => Step::Next(n, w),
-        Judged::Wrong(rule) => Step::Bad(Refusal {
-            rule,
-            part: Part::File,
-            place: at,
-        }),
+        Judged::Wrong(rule) => Step::Bad(refusal::of_file(rule, at)),
     }
 }
 
@@ -185,11 +148,7 @@ pub fn measure(sheet: &[u8], t: &[u8], u: &[u8]) -> Measured
     }
     let size = word::round_up(n);
     if 65500 < size {
-        return Measured::Refused(Refusal {
-            rule: Rule::AreaSize,
-            part: Part::File,
-            place: 0,
-        });
+        return Measured::Refused(refusal::of_file(Rule::AreaSize, 0));
     }
     Measured::Size(size)
 }

@@ -16,7 +16,7 @@ use Rattle.word.specs.WordLaws.{length-bytesOf, word-among}
 use Rattle.refusal.specs.declared.Rule.the-variants.{StringOffset, StringEnd}
 use Rattle.strings.specs.declared.Frame.the-variants.{End, Text, Broken}
 use Rattle.text.specs.declared.Manner.{Manner}
-use Rattle.text.specs.Runs.{same, same-refl}
+use Rattle.chars.specs.Runs.{same, same-refl}
 use Rattle.text.specs.Manner.{openEnd}
 use Rattle.strings.specs.Strings.{offset, body, cut, frameOf}
 

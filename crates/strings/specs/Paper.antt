@@ -37,11 +37,11 @@ use Rattle.strings.specs.declared.Found.{Found}
 use Rattle.strings.specs.declared.Found.the-variants.{Nothing, Is}
 use Rattle.text.specs.declared.Manner.{Manner}
 use Rattle.text.specs.declared.Manner.the-variants.{Strict}
-use Rattle.text.specs.Chars.{blank, solid, solid-not-blank}
-use Rattle.text.specs.Runs.{run, all, same, same-eq, same-refl, Stops, all-weaker, run-all, run-stops, run-append}
+use Rattle.chars.specs.Chars.{blank, solid, solid-not-blank}
+use Rattle.chars.specs.Runs.{run, all, same, same-eq, same-refl, Stops, all-weaker, run-all, run-stops, run-append}
 use Rattle.text.specs.Order.{rises, rises-strict, rises-transitive}
 use Rattle.text.specs.Manner.{openEnd, letter, letter-solid, named, follows}
-use Rattle.text.specs.Note.{LineEnd, value-accept, value-spelled}
+use Rattle.note.specs.Note.{LineEnd, value-accept, value-spelled}
 use Rattle.strings.specs.Strings.{offset, body, keyLen, keyOf, afterKey, gapLen, gapOf, valueOf, cut, frameRows, endOrText, frameOf, textRows, judgedOf, onFrame, onJudged, stepOf, onStep, stringsFrom, stringsOf, placeOf, onText, placesFrom, placesOf, keyIn, valueIn, nthOf, findOf, keyFound, valueFound}
 use Rattle.strings.specs.Frames.{cut-two, no-offset, frame-end, Framed, framed}
 use Rattle.strings.specs.Walks.{InFrame, in-frame, next-fits, next-bounds, judged-clear, keyLen-le, length-body}

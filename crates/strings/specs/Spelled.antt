@@ -10,9 +10,9 @@ use Rattle.word.specs.Word.{bytesOf}
 use Rattle.refusal.specs.Rows.{pick}
 use Rattle.strings.specs.declared.Place.{Place}
 use Rattle.text.specs.declared.Manner.{Manner}
-use Rattle.text.specs.Chars.{blank, note}
-use Rattle.text.specs.Runs.{all, same, Stops}
-use Rattle.text.specs.Note.{Characters, Lines}
+use Rattle.chars.specs.Chars.{blank, note}
+use Rattle.chars.specs.Runs.{all, same, Stops}
+use Rattle.note.specs.Note.{Characters, Lines}
 use Rattle.text.specs.Manner.{openEnd, letter, named, follows}
 use Rattle.strings.specs.Strings.{keyIn, valueIn}
 

@@ -28,9 +28,9 @@ use Rattle.strings.specs.declared.Entry.the-variants.{Stop, At}
 use Rattle.strings.specs.declared.Found.{Found}
 use Rattle.strings.specs.declared.Found.the-variants.{Nothing, Is}
 use Rattle.text.specs.declared.Manner.{Manner}
-use Rattle.text.specs.Chars.{blank, solid}
-use Rattle.text.specs.Runs.{run, all, same}
-use Rattle.text.specs.Note.{valueOk}
+use Rattle.chars.specs.Chars.{blank, solid}
+use Rattle.chars.specs.Runs.{run, all, same}
+use Rattle.note.specs.Note.{valueOk}
 use Rattle.text.specs.Manner.{openEnd, letter, named, follows}
 
 -- ---- one string: a 2-byte offset, the keyword, separators and the value, the terminator

@@ -13,9 +13,9 @@ use Rattle.refusal.specs.Rows.{pick, ruled}
 use Rattle.refusal.specs.declared.Rule.the-variants.{Character, KeywordOrder}
 use Rattle.strings.specs.declared.Judged.the-variants.{Keyword, Wrong}
 use Rattle.text.specs.declared.Manner.{Manner}
-use Rattle.text.specs.Chars.{blank, solid}
-use Rattle.text.specs.Runs.{run, all, Stops, run-le, run-all, run-append, all-weaker}
-use Rattle.text.specs.Note.{valueOk}
+use Rattle.chars.specs.Chars.{blank, solid}
+use Rattle.chars.specs.Runs.{run, all, Stops, run-le, run-all, run-append, all-weaker}
+use Rattle.note.specs.Note.{valueOk}
 use Rattle.text.specs.Manner.{letter, letter-solid, named, follows}
 use Rattle.strings.specs.Strings.{keyLen, keyOf, gapLen, valueOf, judgedOf}
 

@@ -25,9 +25,9 @@ use Rattle.strings.specs.declared.Step.the-variants.{Next, Done, Bad}
 use Rattle.strings.specs.declared.Place.{Place}
 use Rattle.strings.specs.declared.Entry.the-variants.{Stop, At}
 use Rattle.text.specs.declared.Manner.{Manner}
-use Rattle.text.specs.Chars.{blank, solid}
+use Rattle.chars.specs.Chars.{blank, solid}
 use Rattle.text.specs.Manner.{openEnd}
-use Rattle.text.specs.Runs.{run-le, same-eq}
+use Rattle.chars.specs.Runs.{run-le, same-eq}
 use Rattle.strings.specs.Frames.{no-offset}
 use Rattle.strings.specs.Strings.{offset, body, keyLen, afterKey, gapLen, frameRows, frameOf, textRows, judgedOf, onJudged, onFrame, endOrText, stepOf, onStep, stringsFrom, stringsOf, placeOf, onText, entryOf, placesFrom, PlaceIn}
 

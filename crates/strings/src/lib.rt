@@ -3,6 +3,7 @@
 // An area is the bytes of a file from place a to place e; t is the string terminator, u the line terminator, `high` the byte order, `how` the manner of
 // reading (text/Manner), which is a parameter of every walk and question here.
 // The rules in words: docs/FORMAT.md, "Strings".
+use chars::Kind;
 use refusal::Part;
 use refusal::Refusal;
 use refusal::Rule;
@@ -88,7 +89,7 @@ pub fn framed(l: &[u8], high: bool, t: &[u8], how: Manner) -> Frame
         return Frame::Broken(Rule::StringOffset);
     }
     let end = o - n;
-    if !text::is_same(&l[end..o], t) {
+    if !chars::is_same(&l[end..o], t) {
         return Frame::Broken(Rule::StringEnd);
     }
     Frame::Text(o)
@@ -104,12 +105,12 @@ fn judge(b: &[u8], u: &[u8], prev: &[u8], how: Manner) -> Judged
         return Judged::Wrong(Rule::Character);
     }
     let r = &b[n..];
-    let g = text::gap_run(r);
+    let g = chars::run(Kind::Blank, r);
     if (g == 0) & (0 < r.len()) {
         return Judged::Wrong(Rule::Character);
     }
     let k = &b[..n];
-    if !text::value_ok(u, k, &r[g..], how) {
+    if !note::value_ok(u, k, &r[g..], how) {
         return Judged::Wrong(Rule::Character);
     }
     if !text::following(prev, k, how) {

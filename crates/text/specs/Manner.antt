@@ -6,7 +6,7 @@ use mathlib.Core.List.{List}
 use Prim.Native.Nat.{ℕ}
 use Rattle.text.specs.declared.Manner.{Manner}
 use Rattle.text.specs.declared.Manner.the-variants.{Strict}
-use Rattle.text.specs.Chars.{solid, keyChar, capital, key-solid, capital-key}
+use Rattle.chars.specs.Chars.{solid, keyChar, capital, key-solid, capital-key}
 use Rattle.text.specs.Order.{rises}
 
 -- whether a list of strings may end where no byte of its area is left; else "Offset 0 ends the list" alone

@@ -10,8 +10,8 @@ use lib.ListN.{length, getD, drop}
 use lib.Dec.{ltb, eqb}
 use borrow.Author.Tests.{ltb-true, ltb-false, lt-ltb, le-ltb}
 use Rattle.refusal.specs.Rows.{pick}
-use Rattle.text.specs.Chars.{note}
-use Rattle.text.specs.Runs.{same, same-refl, more, none}
+use Rattle.chars.specs.Chars.{note}
+use Rattle.chars.specs.Runs.{same, same-refl, more, none}
 
 -- byte order, a prefix first
 unfoldable pub less : List ℕ → List ℕ → Bool
@@ -128,23 +128,3 @@ module _ (p k : List ℕ) (i : ℕ) where
   pub less-ended : length p ≤ i → length k ≤ i → false ≡ less (drop i p) (drop i k)
   unfolding less
   less-ended h g = rw (none p i h, none k i g)
-
-  pub same-short : i < length p → length k ≤ i → false ≡ same (drop i p) (drop i k)
-  unfolding same
-  same-short h g = rw (more p i h, none k i g)
-
-  pub same-apart : i < length p → i < length k → eqb (getD p i 0) (getD k i 0) ≡ false → false ≡ same (drop i p) (drop i k)
-  unfolding same
-  same-apart h g l = rw (more p i h, more k i g, l)
-
-  pub same-next : i < length p → i < length k → eqb (getD p i 0) (getD k i 0) ≡ true → same (drop (i + 1) p) (drop (i + 1) k) ≡ same (drop i p) (drop i k)
-  unfolding same
-  same-next h g l = rw (more p i h, more k i g, l)
-
-  pub same-longer : length p ≤ i → i < length k → false ≡ same (drop i p) (drop i k)
-  unfolding same
-  same-longer h g = rw (none p i h, more k i g)
-
-  pub same-ended : length p ≤ i → length k ≤ i → true ≡ same (drop i p) (drop i k)
-  unfolding same
-  same-ended h g = rw (none p i h, none k i g)

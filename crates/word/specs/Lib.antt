@@ -6,3 +6,4 @@ pub mod WordLaws
 pub mod Round
 pub mod Signed
 pub mod Tests
+pub mod Wrote

@@ -8,6 +8,7 @@ ghost use lib.ListN.{length, replicate};
 ghost use Rattle.word.specs.Put.{put};
 ghost use Rattle.word.specs.Round.{round4};
 ghost use Rattle.word.specs.Word.{wordAt, bytesOf};
+ghost use Rattle.word.specs.Wrote.{Room, Wrote};
 
 // A byte as a number that sums are made of. Its bound stands beside it, so that a caller's sum of words fits by itself.
 pub fn wide(b: u8) -> usize
@@ -109,6 +110,15 @@ pub fn copy(buf: &mut [u8], at: usize, src: &[u8])
         buf[at + i] = src[i];
         i += 1;
     }
+}
+
+// The bytes of a piece, stored from a place on; the next piece begins at the answer.
+pub fn put_bytes(out: &mut [u8], at: usize, s: &[u8]) -> usize
+    requires { ⌜ Room (now out) at (now s) ⌝ }
+    ensures { λ r. ⌜ Wrote (now (out .entry)) at (now (s .entry)) r (now (out .exit)) ⌝ }
+{
+    copy(out, at, s);
+    at + s.len()
 }
 
 // Zeros from place a up to place e: none where e is not past a.

@@ -12,9 +12,31 @@ write-area-spec =
     tie.close
     (tie.spec
     (λ c κs. search needs)
-    (λ c. let r = texts-room (c .before .before .before .before .before .before .before .before .args .high) _ _ _ _ (c .before .before .before .before .before .before .before .before .pre) in omega (arith, r .0, c .before .before .write-strings .ensures .0))
-    (λ c κs. let r = texts-room (c .before .before .before .before .before .before .before .before .args .high) _ _ _ _ (c .before .before .before .before .before .before .before .before .pre) in omega (arith, r .0, c .before .before .write-strings .ensures .0))
-    (λ c κs. let r = texts-room (c .before .before .before .before .before .before .before .before .before .before .args .high) _ _ _ _ (c .before .before .before .before .before .before .before .before .before .before .pre) in rw (c .before .before .before .before .write-strings .ensures .1, length-put) (omega (arith, r .0, r .1, c .before .before .before .before .write-strings .ensures .0)))
-    (λ c κs. let r = texts-room (c .before .before .before .before .before .before .before .before .before .before .before .before .before .before .args .high) _ _ _ _ (c .before .before .before .before .before .before .before .before .before .before .before .before .before .before .pre) in rw (c .before .before .before .put2 .ensures, length-put, c .before .before .before .before .before .before .before .before .write-strings .ensures .1, length-put) (omega (arith, r .0, r .1, c .before .before .before .before .before .before .before .before .write-strings .ensures .0)))
+    (λ c.
+    let at-write-strings = c .before .before in
+    let start = at-write-strings .before .before .before .before .before .before in
+    let r = texts-room (start .args .high) _ _ _ _ (start .pre) in omega (arith, r .0, at-write-strings .write-strings .ensures .0))
+    (λ c κs.
+    let at-write-strings = c .before .before in
+    let start = at-write-strings .before .before .before .before .before .before in
+    let r = texts-room (start .args .high) _ _ _ _ (start .pre) in omega (arith, r .0, at-write-strings .write-strings .ensures .0))
+    (λ c κs.
+    let at-write-strings = c .before .before .before .before in
+    let start = at-write-strings .before .before .before .before .before .before in
+    let r = texts-room (start .args .high) _ _ _ _ (start .pre) in
+    rw (at-write-strings .write-strings .ensures .1, length-put) (omega (arith, r .0, r .1, at-write-strings .write-strings .ensures .0)))
+    (λ c κs.
+    let at-put2 = c .before .before .before in
+    let at-write-strings = at-put2 .before .before .before .before .before in
+    let start = at-write-strings .before .before .before .before .before .before in
+    let r = texts-room (start .args .high) _ _ _ _ (start .pre) in
+    rw (at-put2 .put2 .ensures, length-put, at-write-strings .write-strings .ensures .1, length-put)
+    (omega (arith, r .0, r .1, at-write-strings .write-strings .ensures .0)))
     (λ c. search needs)
-    (λ c. area-written _ _ _ _ _ _ _ _ _ _ _ (c .before .before .before .before .before .before .before .before .before .before .before .write-strings .ensures .0) refl (c .before .before .before .before .before .before .before .before .round-up .ensures) (c .before .before .before .before .before .before .before .before .before .before .before .write-strings .ensures .1) (c .before .before .before .before .before .before .put2 .ensures) (c .before .before .zeros .ensures)))
+    (λ c.
+    let at-zeros = c .before .before in
+    let at-put2 = at-zeros .before .before .before .before in
+    let at-round-up = at-put2 .before .before in
+    let at-write-strings = at-round-up .before .before .before in
+    area-written _ _ _ _ _ _ _ _ _ _ _ (at-write-strings .write-strings .ensures .0) refl (at-round-up .round-up .ensures)
+    (at-write-strings .write-strings .ensures .1) (at-put2 .put2 .ensures) (at-zeros .zeros .ensures)))

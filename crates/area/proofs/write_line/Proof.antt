@@ -22,7 +22,10 @@ write-line-spec =
     (λ c. search needs)
     (λ c κs. search needs)
     (λ c. sym (length-take-le _ _ (omega arith)))
-    (λ c κs. omega (arith, length-take-le (c .before .before .before .before .before .before .before .before .before .args .w) (c .before .before .before .before .before .before .before .before .before .args .l .now) (omega arith)))
+    (λ c κs.
+    let start = c .before .before .before .before .before .before .before .before .before in
+    let args = start .args in
+    omega (arith, length-take-le (args .w) (args .l .now) (omega arith)))
     (λ c. search needs)
     (λ c κs. search needs)
     (λ c. search needs)
@@ -32,4 +35,14 @@ write-line-spec =
     (λ c κs. search needs)
     (λ c. search needs)
     (λ c. search needs)
-    (λ c. (search needs, string-written _ _ _ _ _ _ _ _ _ _ _ (c .before .before .before .before .before .before .before .before .before .before .before .before .before .before .before .before .before .before .before .before .before .before .before .before .before .before .pre .0) _ _ _ _ _ refl refl refl refl refl (c .before .before .before .before .before .before .before .before .before .before .before .before .before .before .before .before .before .before .before .before .before .put2 .ensures) (c .before .before .before .before .before .before .before .before .before .before .before .before .before .before .before .before .copy .ensures) (c .before .before .before .before .before .before .before .before .before .before .before .copy2 .ensures) (rw part-rest at (c .before .before .before .before .before .before .copy3 .ensures)) (c .before .before .copy4 .ensures))))
+    (λ c.
+    let at-copy4 = c .before .before in
+    let at-copy3 = at-copy4 .before .before .before .before in
+    let at-copy2 = at-copy3 .before .before .before .before .before in
+    let at-copy = at-copy2 .before .before .before .before .before in
+    let at-put2 = at-copy .before .before .before .before .before in
+    let start = at-put2 .before .before .before .before .before in (
+      search needs,
+      string-written _ _ _ _ _ _ _ _ _ _ _ (start .pre .0) _ _ _ _ _ refl refl refl refl refl (at-put2 .put2 .ensures)
+          (at-copy .copy .ensures) (at-copy2 .copy2 .ensures) (rw part-rest at (at-copy3 .copy3 .ensures)) (at-copy4 .copy4 .ensures),
+    )))

@@ -27,14 +27,72 @@ write-lines-spec =
     (λ c. search needs)
     (λ c. search needs)
     (λ c κs. search needs)
-    (λ c. let b = noting-fits _ _ _ _ (c .before .before .before .loop .at) _ _ (c .before .before .before .loop .inv .2) (c .before .before .loop-test .taken) _ (rw part-rest at (c .line-len .ensures .0)) in omega (arith, b .0, b .1, b .2))
-    (λ c. let b = noting-fits _ _ _ _ (c .before .before .before .loop .at) _ _ (c .before .before .before .loop .inv .2) (c .before .before .loop-test .taken) _ (rw part-rest at (c .line-len .ensures .0)) in omega (arith, b .0, b .1, b .2))
-    (λ c. let b = noting-fits _ _ _ _ (c .before .before .before .before .loop .at) _ _ (c .before .before .before .before .loop .inv .2) (c .before .before .before .loop-test .taken) _ (rw part-rest at (c .before .line-len .ensures .0)) in omega (arith, b .0, b .1, b .2))
-    (λ c. let b = noting-fits _ _ _ _ (c .before .before .before .before .loop .at) _ _ (c .before .before .before .before .loop .inv .2) (c .before .before .before .loop-test .taken) _ (rw part-rest at (c .before .line-len .ensures .0)) in omega (arith, b .0, b .1, b .2))
-    (λ c. let b = noting-fits _ _ _ _ (c .before .before .before .before .loop .at) _ _ (c .before .before .before .before .loop .inv .2) (c .before .before .before .loop-test .taken) _ (rw part-rest at (c .before .line-len .ensures .0)) in omega (arith, b .0, b .1, b .2))
-    (λ c κs. let b = noting-fits _ _ _ _ (c .before .before .before .before .before .loop .at) _ _ (c .before .before .before .before .before .loop .inv .2) (c .before .before .before .before .loop-test .taken) _ (rw part-rest at (c .before .before .line-len .ensures .0)) in omega (arith, b .0, b .1, b .2))
-    (λ c. let b = noting-fits _ _ _ _ (c .before .before .before .before .before .before .before .before .loop .at) _ _ (c .before .before .before .before .before .before .before .before .loop .inv .2) (c .before .before .before .before .before .before .before .loop-test .taken) _ (rw part-rest at (c .before .before .before .before .before .line-len .ensures .0)) in omega (arith, b .0, b .1, b .2))
-    (λ c. let b = noting-fits _ _ _ _ (c .before .before .before .before .before .before .before .before .loop .at) _ _ (c .before .before .before .before .before .before .before .before .loop .inv .2) (c .before .before .before .before .before .before .before .loop-test .taken) _ (rw part-rest at (c .before .before .before .before .before .line-len .ensures .0)) in omega (arith, b .0, b .1, b .2))
-    (λ c. let b = noting-fits _ _ _ _ (c .before .before .before .before .before .before .before .before .loop .at) _ _ (c .before .before .before .before .before .before .before .before .loop .inv .2) (c .before .before .before .before .before .before .before .loop-test .taken) _ (rw part-rest at (c .before .before .before .before .before .line-len .ensures .0)) in (omega (arith, b .1), rw (c .before .before .write-more .ensures .1, length-put) (c .before .before .before .before .before .before .before .before .loop .inv .1), noting-turn _ _ _ _ (c .before .before .before .before .before .before .before .before .loop .at) _ _ (c .before .before .before .before .before .before .before .before .loop .inv .2) (c .before .before .before .before .before .before .before .loop-test .taken) _ (rw part-rest at (c .before .before .before .before .before .line-len .ensures .0)) _ _ (c .before .before .write-more .ensures .0) (c .before .before .write-more .ensures .1)))
+    (λ c.
+    let at-loop-test = c .before .before in
+    let at-loop = at-loop-test .before in
+    let b = noting-fits _ _ _ _ (at-loop .loop .at) _ _ (at-loop .loop .inv .2) (at-loop-test .loop-test .taken) _
+    (rw part-rest at (c .line-len .ensures .0)) in
+    omega (arith, b .0, b .1, b .2))
+    (λ c.
+    let at-loop-test = c .before .before in
+    let at-loop = at-loop-test .before in
+    let b = noting-fits _ _ _ _ (at-loop .loop .at) _ _ (at-loop .loop .inv .2) (at-loop-test .loop-test .taken) _
+    (rw part-rest at (c .line-len .ensures .0)) in
+    omega (arith, b .0, b .1, b .2))
+    (λ c.
+    let at-line-len = c .before in
+    let at-loop-test = at-line-len .before .before in
+    let at-loop = at-loop-test .before in
+    let b = noting-fits _ _ _ _ (at-loop .loop .at) _ _ (at-loop .loop .inv .2) (at-loop-test .loop-test .taken) _
+    (rw part-rest at (at-line-len .line-len .ensures .0)) in
+    omega (arith, b .0, b .1, b .2))
+    (λ c.
+    let at-line-len = c .before in
+    let at-loop-test = at-line-len .before .before in
+    let at-loop = at-loop-test .before in
+    let b = noting-fits _ _ _ _ (at-loop .loop .at) _ _ (at-loop .loop .inv .2) (at-loop-test .loop-test .taken) _
+    (rw part-rest at (at-line-len .line-len .ensures .0)) in
+    omega (arith, b .0, b .1, b .2))
+    (λ c.
+    let at-line-len = c .before in
+    let at-loop-test = at-line-len .before .before in
+    let at-loop = at-loop-test .before in
+    let b = noting-fits _ _ _ _ (at-loop .loop .at) _ _ (at-loop .loop .inv .2) (at-loop-test .loop-test .taken) _
+    (rw part-rest at (at-line-len .line-len .ensures .0)) in
+    omega (arith, b .0, b .1, b .2))
+    (λ c κs.
+    let at-line-len = c .before .before in
+    let at-loop-test = at-line-len .before .before in
+    let at-loop = at-loop-test .before in
+    let b = noting-fits _ _ _ _ (at-loop .loop .at) _ _ (at-loop .loop .inv .2) (at-loop-test .loop-test .taken) _
+    (rw part-rest at (at-line-len .line-len .ensures .0)) in
+    omega (arith, b .0, b .1, b .2))
+    (λ c.
+    let at-line-len = c .before .before .before .before .before in
+    let at-loop-test = at-line-len .before .before in
+    let at-loop = at-loop-test .before in
+    let b = noting-fits _ _ _ _ (at-loop .loop .at) _ _ (at-loop .loop .inv .2) (at-loop-test .loop-test .taken) _
+    (rw part-rest at (at-line-len .line-len .ensures .0)) in
+    omega (arith, b .0, b .1, b .2))
+    (λ c.
+    let at-line-len = c .before .before .before .before .before in
+    let at-loop-test = at-line-len .before .before in
+    let at-loop = at-loop-test .before in
+    let b = noting-fits _ _ _ _ (at-loop .loop .at) _ _ (at-loop .loop .inv .2) (at-loop-test .loop-test .taken) _
+    (rw part-rest at (at-line-len .line-len .ensures .0)) in
+    omega (arith, b .0, b .1, b .2))
+    (λ c.
+    let at-write-more = c .before .before in
+    let at-line-len = at-write-more .before .before .before in
+    let at-loop-test = at-line-len .before .before in
+    let at-loop = at-loop-test .before in
+    let b = noting-fits _ _ _ _ (at-loop .loop .at) _ _ (at-loop .loop .inv .2) (at-loop-test .loop-test .taken) _
+    (rw part-rest at (at-line-len .line-len .ensures .0)) in (
+      omega (arith, b .1),
+      rw (at-write-more .write-more .ensures .1, length-put) (at-loop .loop .inv .1),
+      noting-turn _ _ _ _ (at-loop .loop .at) _ _
+          (at-loop .loop .inv .2) (at-loop-test .loop-test .taken) _ (rw part-rest at (at-line-len .line-len .ensures .0)) _ _
+          (at-write-more .write-more .ensures .0) (at-write-more .write-more .ensures .1),
+    ))
     (λ c. search needs)
     (λ c. noting-over _ _ _ _ _ _ _ (c .before .loop .inv .2) (c .loop-test .left)))

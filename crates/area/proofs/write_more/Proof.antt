@@ -14,4 +14,7 @@ write-more-spec =
     (λ c κs. search needs)
     (λ c. search needs)
     (λ c. search needs)
-    (λ c. (search needs, c .before .before .copy2 .ensures ∙ rw (c .before .before .before .before .before .before .copy .ensures) (put-then _ _ _ _ _ refl))))
+    (λ c.
+    let at-copy2 = c .before .before in
+    let at-copy = at-copy2 .before .before .before .before in
+    (search needs, at-copy2 .copy2 .ensures ∙ rw (at-copy .copy .ensures) (put-then _ _ _ _ _ refl))))

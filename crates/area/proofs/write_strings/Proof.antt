@@ -27,28 +27,163 @@ write-strings-spec =
     (λ c. search needs)
     (λ c. search needs)
     (λ c κs. search needs)
-    (λ c. let b = line-fits _ _ _ _ _ (c .before .before .before .loop .at) _ _ (c .before .before .before .loop .inv .2) (c .before .before .loop-test .taken) _ (rw part-rest at (c .line-len .ensures .0)) in omega (arith, b))
-    (λ c. let b = line-fits _ _ _ _ _ (c .before .before .before .loop .at) _ _ (c .before .before .before .loop .inv .2) (c .before .before .loop-test .taken) _ (rw part-rest at (c .line-len .ensures .0)) in omega (arith, b))
-    (λ c. let b = line-fits _ _ _ _ _ (c .before .before .before .loop .at) _ _ (c .before .before .before .loop .inv .2) (c .before .before .loop-test .taken) _ (rw part-rest at (c .line-len .ensures .0)) in omega (arith, b))
-    (λ c. let b = line-fits _ _ _ _ _ (c .before .before .before .loop .at) _ _ (c .before .before .before .loop .inv .2) (c .before .before .loop-test .taken) _ (rw part-rest at (c .line-len .ensures .0)) in omega (arith, b))
+    (λ c.
+    let at-loop-test = c .before .before in
+    let at-loop = at-loop-test .before in
+    let b = line-fits _ _ _ _ _ (at-loop .loop .at) _ _ (at-loop .loop .inv .2) (at-loop-test .loop-test .taken) _
+    (rw part-rest at (c .line-len .ensures .0)) in
+    omega (arith, b))
+    (λ c.
+    let at-loop-test = c .before .before in
+    let at-loop = at-loop-test .before in
+    let b = line-fits _ _ _ _ _ (at-loop .loop .at) _ _ (at-loop .loop .inv .2) (at-loop-test .loop-test .taken) _
+    (rw part-rest at (c .line-len .ensures .0)) in
+    omega (arith, b))
+    (λ c.
+    let at-loop-test = c .before .before in
+    let at-loop = at-loop-test .before in
+    let b = line-fits _ _ _ _ _ (at-loop .loop .at) _ _ (at-loop .loop .inv .2) (at-loop-test .loop-test .taken) _
+    (rw part-rest at (c .line-len .ensures .0)) in
+    omega (arith, b))
+    (λ c.
+    let at-loop-test = c .before .before in
+    let at-loop = at-loop-test .before in
+    let b = line-fits _ _ _ _ _ (at-loop .loop .at) _ _ (at-loop .loop .inv .2) (at-loop-test .loop-test .taken) _
+    (rw part-rest at (c .line-len .ensures .0)) in
+    omega (arith, b))
     (λ c κs. search needs)
-    (λ c. let b = strung-fits _ _ _ _ _ (c .before .before .before .before .before .loop .at) _ _ (c .before .before .before .before .before .loop .inv .2) (c .before .before .before .before .loop-test .taken) _ (rw part-rest at (c .before .before .line-len .ensures .0)) _ (c .key-run .ensures .0) in omega (arith, b .0, b .1, b .2, b .3))
-    (λ c. let b = strung-fits _ _ _ _ _ (c .before .before .before .before .before .loop .at) _ _ (c .before .before .before .before .before .loop .inv .2) (c .before .before .before .before .loop-test .taken) _ (rw part-rest at (c .before .before .line-len .ensures .0)) _ (c .key-run .ensures .0) in omega (arith, b .0, b .1, b .2, b .3))
-    (λ c. let b = strung-fits _ _ _ _ _ (c .before .before .before .before .before .loop .at) _ _ (c .before .before .before .before .before .loop .inv .2) (c .before .before .before .before .loop-test .taken) _ (rw part-rest at (c .before .before .line-len .ensures .0)) _ (c .key-run .ensures .0) in omega (arith, b .0, b .1, b .2, b .3))
-    (λ c. let b = strung-fits _ _ _ _ _ (c .before .before .before .before .before .loop .at) _ _ (c .before .before .before .before .before .loop .inv .2) (c .before .before .before .before .loop-test .taken) _ (rw part-rest at (c .before .before .line-len .ensures .0)) _ (c .key-run .ensures .0) in omega (arith, b .0, b .1, b .2, b .3))
+    (λ c.
+    let at-loop = c .before .before .before .before .before in
+    let b = strung-fits _ _ _ _ _ (at-loop .loop .at) _ _ (at-loop .loop .inv .2) (c .before .before .before .before .loop-test .taken) _
+    (rw part-rest at (c .before .before .line-len .ensures .0)) _ (c .key-run .ensures .0) in
+    omega (arith, b .0, b .1, b .2, b .3))
+    (λ c.
+    let at-line-len = c .before .before in
+    let at-loop-test = at-line-len .before .before in
+    let at-loop = at-loop-test .before in
+    let b = strung-fits _ _ _ _ _ (at-loop .loop .at) _ _ (at-loop .loop .inv .2) (at-loop-test .loop-test .taken) _
+    (rw part-rest at (at-line-len .line-len .ensures .0)) _ (c .key-run .ensures .0) in
+    omega (arith, b .0, b .1, b .2, b .3))
+    (λ c.
+    let at-line-len = c .before .before in
+    let at-loop-test = at-line-len .before .before in
+    let at-loop = at-loop-test .before in
+    let b = strung-fits _ _ _ _ _ (at-loop .loop .at) _ _ (at-loop .loop .inv .2) (at-loop-test .loop-test .taken) _
+    (rw part-rest at (at-line-len .line-len .ensures .0)) _ (c .key-run .ensures .0) in
+    omega (arith, b .0, b .1, b .2, b .3))
+    (λ c.
+    let at-line-len = c .before .before in
+    let at-loop-test = at-line-len .before .before in
+    let at-loop = at-loop-test .before in
+    let b = strung-fits _ _ _ _ _ (at-loop .loop .at) _ _ (at-loop .loop .inv .2) (at-loop-test .loop-test .taken) _
+    (rw part-rest at (at-line-len .line-len .ensures .0)) _ (c .key-run .ensures .0) in
+    omega (arith, b .0, b .1, b .2, b .3))
     (λ c κs. search needs)
     (λ c. search needs)
     (λ c. search needs)
     (λ c. search needs)
-    (λ c κs. let r = (texts-room (c .before .before .before .before .before .before .before .before .before .before .before .before .before .before .before .args .high) _ _ _ _ (c .before .before .before .before .before .before .before .before .before .before .before .before .before .before .before .pre)) in let q = strung-note-room _ _ _ _ _ (c .before .before .before .before .before .before .before .before .before .before .loop .at) _ _ (c .before .before .before .before .before .before .before .before .before .before .loop .inv .2) (c .before .before .before .before .before .before .before .before .before .loop-test .taken) _ (rw part-rest at (c .before .before .before .before .before .before .before .line-len .ensures .0)) _ (c .before .before .before .before .before .key-run .ensures .0) (sym (c .before .before .before .is-note .ensures) ∙ c .before .before .if1 .taken) in rw part-rest (strung-headed _ _ _ _ _ (c .before .before .before .before .before .before .before .before .before .before .loop .at) _ _ (c .before .before .before .before .before .before .before .before .before .before .loop .inv .2) (c .before .before .before .before .before .before .before .before .before .loop-test .taken) _ (rw part-rest at (c .before .before .before .before .before .before .before .line-len .ensures .0)) _ (c .before .before .before .before .before .key-run .ensures .0) (sym (c .before .before .before .is-note .ensures) ∙ c .before .before .if1 .taken), omega (arith, r .0, r .1), omega (arith, r .0, r .1, c .before .before .before .before .before .before .before .before .before .before .loop .inv .1)))
+    (λ c κs.
+    let at-if1 = c .before .before in
+    let at-is-note = at-if1 .before in
+    let at-key-run = at-is-note .before .before in
+    let at-line-len = at-key-run .before .before in
+    let at-loop-test = at-line-len .before .before in
+    let at-loop = at-loop-test .before in
+    let start = at-loop .before .before .before .before .before in
+    let r = (texts-room (start .args .high) _ _ _ _ (start .pre)) in
+    let q = strung-note-room _ _ _ _ _ (at-loop .loop .at) _ _ (at-loop .loop .inv .2) (at-loop-test .loop-test .taken) _
+    (rw part-rest at (at-line-len .line-len .ensures .0)) _ (at-key-run .key-run .ensures .0)
+    (sym (at-is-note .is-note .ensures) ∙ at-if1 .if1 .taken) in
+    rw part-rest (
+      strung-headed _ _ _ _ _ (at-loop .loop .at) _ _ (at-loop .loop .inv .2) (at-loop-test .loop-test .taken) _
+          (rw part-rest at (at-line-len .line-len .ensures .0)) _ (at-key-run .key-run .ensures .0)
+          (sym (at-is-note .is-note .ensures) ∙ at-if1 .if1 .taken),
+      omega (arith, r .0, r .1),
+      omega (arith, r .0, r .1, at-loop .loop .inv .1),
+    ))
     (λ c. search needs)
-    (λ c. strung-note _ _ _ _ _ (c .before .before .before .before .before .before .before .before .before .before .before .before .before .loop .at) _ _ (c .before .before .before .before .before .before .before .before .before .before .before .before .before .loop .inv .2) (c .before .before .before .before .before .before .before .before .before .before .before .before .loop-test .taken) _ (rw part-rest at (c .before .before .before .before .before .before .before .before .before .before .line-len .ensures .0)) _ (c .before .before .before .before .before .before .before .before .key-run .ensures .0) (sym (c .before .before .before .before .before .before .is-note .ensures) ∙ c .before .before .before .before .before .if1 .taken) _ _ (rw part-rest at (c .before .before .write-note .ensures .0)) (rw part-rest at (c .before .before .write-note .ensures .1)))
-    (λ c. let b = strung-fits _ _ _ _ _ (c .before .before .before .before .before .before .before .before .before .loop .at) _ _ (c .before .before .before .before .before .before .before .before .before .loop .inv .2) (c .before .before .before .before .before .before .before .before .loop-test .taken) _ (rw part-rest at (c .before .before .before .before .before .before .line-len .ensures .0)) _ (c .before .before .before .before .key-run .ensures .0) in omega (arith, b .0, b .1, b .2, b .3))
-    (λ c. let b = strung-fits _ _ _ _ _ (c .before .before .before .before .before .before .before .before .before .loop .at) _ _ (c .before .before .before .before .before .before .before .before .before .loop .inv .2) (c .before .before .before .before .before .before .before .before .loop-test .taken) _ (rw part-rest at (c .before .before .before .before .before .before .line-len .ensures .0)) _ (c .before .before .before .before .key-run .ensures .0) in omega (arith, b .0, b .1, b .2, b .3))
-    (λ c. let b = strung-fits _ _ _ _ _ (c .before .before .before .before .before .before .before .before .before .loop .at) _ _ (c .before .before .before .before .before .before .before .before .before .loop .inv .2) (c .before .before .before .before .before .before .before .before .loop-test .taken) _ (rw part-rest at (c .before .before .before .before .before .before .line-len .ensures .0)) _ (c .before .before .before .before .key-run .ensures .0) in omega (arith, b .0, b .1, b .2, b .3))
-    (λ c κs. let b = strung-fits _ _ _ _ _ (c .before .before .before .before .before .before .before .before .before .before .loop .at) _ _ (c .before .before .before .before .before .before .before .before .before .before .loop .inv .2) (c .before .before .before .before .before .before .before .before .before .loop-test .taken) _ (rw part-rest at (c .before .before .before .before .before .before .before .line-len .ensures .0)) _ (c .before .before .before .before .before .key-run .ensures .0) in let r = (texts-room (c .before .before .before .before .before .before .before .before .before .before .before .before .before .before .before .args .high) _ _ _ _ (c .before .before .before .before .before .before .before .before .before .before .before .before .before .before .before .pre)) in let q = strung-room _ _ _ _ _ (c .before .before .before .before .before .before .before .before .before .before .loop .at) _ _ (c .before .before .before .before .before .before .before .before .before .before .loop .inv .2) (c .before .before .before .before .before .before .before .before .before .loop-test .taken) _ (rw part-rest at (c .before .before .before .before .before .before .before .line-len .ensures .0)) _ (c .before .before .before .before .before .key-run .ensures .0) (sym (c .before .before .before .is-note .ensures) ∙ c .before .before .if1 .left) in (b .2, omega (arith, r .0, r .1), omega (arith, r .0, r .1, c .before .before .before .before .before .before .before .before .before .before .loop .inv .1)))
-    (λ c. let b = strung-fits _ _ _ _ _ (c .before .before .before .before .before .before .before .before .before .before .before .before .before .loop .at) _ _ (c .before .before .before .before .before .before .before .before .before .before .before .before .before .loop .inv .2) (c .before .before .before .before .before .before .before .before .before .before .before .before .loop-test .taken) _ (rw part-rest at (c .before .before .before .before .before .before .before .before .before .before .line-len .ensures .0)) _ (c .before .before .before .before .before .before .before .before .key-run .ensures .0) in omega (arith, b .0, b .1, b .2, b .3))
-    (λ c. let b = strung-fits _ _ _ _ _ (c .before .before .before .before .before .before .before .before .before .before .before .before .before .loop .at) _ _ (c .before .before .before .before .before .before .before .before .before .before .before .before .before .loop .inv .2) (c .before .before .before .before .before .before .before .before .before .before .before .before .loop-test .taken) _ (rw part-rest at (c .before .before .before .before .before .before .before .before .before .before .line-len .ensures .0)) _ (c .before .before .before .before .before .before .before .before .key-run .ensures .0) in omega (arith, b .0, b .1, b .2, b .3))
-    (λ c. let b = strung-fits _ _ _ _ _ (c .before .before .before .before .before .before .before .before .before .before .before .before .before .loop .at) _ _ (c .before .before .before .before .before .before .before .before .before .before .before .before .before .loop .inv .2) (c .before .before .before .before .before .before .before .before .before .before .before .before .loop-test .taken) _ (rw part-rest at (c .before .before .before .before .before .before .before .before .before .before .line-len .ensures .0)) _ (c .before .before .before .before .before .before .before .before .key-run .ensures .0) in (omega (arith, b .1), rw (c .before .before .write-line .ensures .1, length-put) (c .before .before .before .before .before .before .before .before .before .before .before .before .before .loop .inv .1), strung-turn _ _ _ _ _ (c .before .before .before .before .before .before .before .before .before .before .before .before .before .loop .at) _ _ (c .before .before .before .before .before .before .before .before .before .before .before .before .before .loop .inv .2) (c .before .before .before .before .before .before .before .before .before .before .before .before .loop-test .taken) _ (rw part-rest at (c .before .before .before .before .before .before .before .before .before .before .line-len .ensures .0)) _ (c .before .before .before .before .before .before .before .before .key-run .ensures .0) (sym (c .before .before .before .before .before .before .is-note .ensures) ∙ c .before .before .before .before .before .if1 .left) _ _ (c .before .before .write-line .ensures .0) (c .before .before .write-line .ensures .1)))
+    (λ c.
+    let at-write-note = c .before .before in
+    let at-if1 = at-write-note .before .before .before in
+    let at-is-note = at-if1 .before in
+    let at-key-run = at-is-note .before .before in
+    let at-line-len = at-key-run .before .before in
+    let at-loop-test = at-line-len .before .before in
+    let at-loop = at-loop-test .before in
+    strung-note _ _ _ _ _ (at-loop .loop .at) _ _ (at-loop .loop .inv .2) (at-loop-test .loop-test .taken) _
+    (rw part-rest at (at-line-len .line-len .ensures .0)) _ (at-key-run .key-run .ensures .0)
+    (sym (at-is-note .is-note .ensures) ∙ at-if1 .if1 .taken) _ _ (rw part-rest at (at-write-note .write-note .ensures .0))
+    (rw part-rest at (at-write-note .write-note .ensures .1)))
+    (λ c.
+    let at-key-run = c .before .before .before .before in
+    let at-line-len = at-key-run .before .before in
+    let at-loop-test = at-line-len .before .before in
+    let at-loop = at-loop-test .before in
+    let b = strung-fits _ _ _ _ _ (at-loop .loop .at) _ _ (at-loop .loop .inv .2) (at-loop-test .loop-test .taken) _
+    (rw part-rest at (at-line-len .line-len .ensures .0)) _ (at-key-run .key-run .ensures .0) in
+    omega (arith, b .0, b .1, b .2, b .3))
+    (λ c.
+    let at-key-run = c .before .before .before .before in
+    let at-line-len = at-key-run .before .before in
+    let at-loop-test = at-line-len .before .before in
+    let at-loop = at-loop-test .before in
+    let b = strung-fits _ _ _ _ _ (at-loop .loop .at) _ _ (at-loop .loop .inv .2) (at-loop-test .loop-test .taken) _
+    (rw part-rest at (at-line-len .line-len .ensures .0)) _ (at-key-run .key-run .ensures .0) in
+    omega (arith, b .0, b .1, b .2, b .3))
+    (λ c.
+    let at-key-run = c .before .before .before .before in
+    let at-line-len = at-key-run .before .before in
+    let at-loop-test = at-line-len .before .before in
+    let at-loop = at-loop-test .before in
+    let b = strung-fits _ _ _ _ _ (at-loop .loop .at) _ _ (at-loop .loop .inv .2) (at-loop-test .loop-test .taken) _
+    (rw part-rest at (at-line-len .line-len .ensures .0)) _ (at-key-run .key-run .ensures .0) in
+    omega (arith, b .0, b .1, b .2, b .3))
+    (λ c κs.
+    let at-if1 = c .before .before in
+    let at-is-note = at-if1 .before in
+    let at-key-run = at-is-note .before .before in
+    let at-line-len = at-key-run .before .before in
+    let at-loop-test = at-line-len .before .before in
+    let at-loop = at-loop-test .before in
+    let start = at-loop .before .before .before .before .before in
+    let b = strung-fits _ _ _ _ _ (at-loop .loop .at) _ _ (at-loop .loop .inv .2) (at-loop-test .loop-test .taken) _
+    (rw part-rest at (at-line-len .line-len .ensures .0)) _ (at-key-run .key-run .ensures .0) in
+    let r = (texts-room (start .args .high) _ _ _ _ (start .pre)) in
+    let q = strung-room _ _ _ _ _ (at-loop .loop .at) _ _ (at-loop .loop .inv .2) (at-loop-test .loop-test .taken) _
+    (rw part-rest at (at-line-len .line-len .ensures .0)) _ (at-key-run .key-run .ensures .0)
+    (sym (at-is-note .is-note .ensures) ∙ at-if1 .if1 .left) in
+    (b .2, omega (arith, r .0, r .1), omega (arith, r .0, r .1, at-loop .loop .inv .1)))
+    (λ c.
+    let at-loop = c .before .before .before .before .before .before .before .before .before .before .before .before .before in
+    let b = strung-fits _ _ _ _ _ (at-loop .loop .at) _ _ (at-loop .loop .inv .2)
+    (c .before .before .before .before .before .before .before .before .before .before .before .before .loop-test .taken) _
+    (rw part-rest at (c .before .before .before .before .before .before .before .before .before .before .line-len .ensures .0)) _
+    (c .before .before .before .before .before .before .before .before .key-run .ensures .0) in
+    omega (arith, b .0, b .1, b .2, b .3))
+    (λ c.
+    let at-key-run = c .before .before .before .before .before .before .before .before in
+    let at-line-len = at-key-run .before .before in
+    let at-loop-test = at-line-len .before .before in
+    let at-loop = at-loop-test .before in
+    let b = strung-fits _ _ _ _ _ (at-loop .loop .at) _ _ (at-loop .loop .inv .2) (at-loop-test .loop-test .taken) _
+    (rw part-rest at (at-line-len .line-len .ensures .0)) _ (at-key-run .key-run .ensures .0) in
+    omega (arith, b .0, b .1, b .2, b .3))
+    (λ c.
+    let at-write-line = c .before .before in
+    let at-if1 = at-write-line .before .before .before in
+    let at-is-note = at-if1 .before in
+    let at-key-run = at-is-note .before .before in
+    let at-line-len = at-key-run .before .before in
+    let at-loop-test = at-line-len .before .before in
+    let at-loop = at-loop-test .before in
+    let b = strung-fits _ _ _ _ _ (at-loop .loop .at) _ _ (at-loop .loop .inv .2) (at-loop-test .loop-test .taken) _
+    (rw part-rest at (at-line-len .line-len .ensures .0)) _ (at-key-run .key-run .ensures .0) in (
+      omega (arith, b .1),
+      rw (at-write-line .write-line .ensures .1, length-put) (at-loop .loop .inv .1),
+      strung-turn _ _ _ _ _ (at-loop .loop .at) _
+          _ (at-loop .loop .inv .2) (at-loop-test .loop-test .taken) _ (rw part-rest at (at-line-len .line-len .ensures .0)) _
+          (at-key-run .key-run .ensures .0) (sym (at-is-note .is-note .ensures) ∙ at-if1 .if1 .left) _ _ (at-write-line .write-line .ensures .0)
+          (at-write-line .write-line .ensures .1),
+    ))
     (λ c. search needs)
     (λ c. strung-over _ _ _ _ _ _ _ _ (c .before .loop .inv .2) (c .loop-test .left)))

@@ -14,12 +14,11 @@ block-in-spec =
     (λ c κs. search needs)
     (λ c. search needs)
     (λ c.
-    let c1 = c .before in
-    let c1 = c1 in
-    let c2 = c1 .before in
-    let c3 = c2 .before in (
-      rw (← c3 .word2 .ensures .0, ← c2 .word4 .ensures .0, ← c1 .word42 .ensures .0),
-      c3 .word2 .ensures .1,
-      c2 .word4 .ensures .1,
-      c1 .word42 .ensures .1,
+    let at-word42 = c .before in
+    let at-word4 = at-word42 .before in
+    let at-word2 = at-word4 .before in (
+      rw (← at-word2 .word2 .ensures .0, ← at-word4 .word4 .ensures .0, ← at-word42 .word42 .ensures .0),
+      at-word2 .word2 .ensures .1,
+      at-word4 .word4 .ensures .1,
+      at-word42 .word42 .ensures .1,
     )))

@@ -20,11 +20,15 @@ behind-spec =
     (λ c. search needs)
     (λ c. search needs)
     (λ c.
-    let n = c .before .before .args .n in
-    let e = rest n (c .before .before .args .s .now) in
+    let start = c .before .before in
+    let args = start .args in
+    let n = args .n in
+    let e = rest n (args .s .now) in
     (e, rest-from n (omega arith) e refl (omega arith)))
     (λ c.
-    let s = c .before .before .args .s .now in
+    let start = c .before .before in
+    let args = start .args in
+    let s = args .s .now in
     let e = rest (length s) s in
-    let none = drop-of-length-le s {i = c .before .before .args .n} (omega arith) in
+    let none = drop-of-length-le s {i = args .n} (omega arith) in
     (e ∙ drop-length s ∙ sym none, rest-from (length s) (omega arith) e refl (omega arith))))

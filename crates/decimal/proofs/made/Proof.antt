@@ -3,7 +3,8 @@ use Prim.Native.Nat.{_<_}
 use native.Mathlib.Omega.{arith}
 use Rattle.word.specs.Signed.{kept}
 use borrow.Author.Needs.{needs}
-use Rattle.decimal.specs.Number.{decimalOf, room-none, room-behind, two-digits}
+use Rattle.decimal.specs.Number.{decimalOf}
+use Rattle.digits.specs.Value.{room-none, room-behind, two-digits}
 use Rattle.decimal.proofs.made.Statement.{statement}
 use Rattle.decimal.proofs.made.Tie as tie
 
@@ -22,10 +23,13 @@ made-spec =
     (λ c. search needs)
     (λ c κs. (small c, omega arith))
     (λ c.
+    let at-value3 = c .before in
+    let at-value2 = at-value3 .before in
+    let at-value = at-value2 .before in
     rw (
       kept (c .power .result) (c .power .ok),
       c .power .ensures,
-      c .before .value3 .ensures,
-      c .before .before .value2 .ensures,
-      c .before .before .before .value .ensures,
+      at-value3 .value3 .ensures,
+      at-value2 .value2 .ensures,
+      at-value .value .ensures,
     )))

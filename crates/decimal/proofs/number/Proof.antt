@@ -16,7 +16,7 @@ number-spec =
     let at-if1 = c .before in
     let at-run = at-if1 .before in
     let at-past = at-run .before in
-    c .no-number .ensures ∙ no-digit _ (at-past .past .ensures .0) (at-run .run .ensures) (at-if1 .if1 .taken))
+    c .no-number .ensures ∙ no-digit _ (at-past .past .ensures .0) (at-run .run .ensures .0) (at-if1 .if1 .taken))
     (λ c κs. search needs)
     (λ c κs. search needs)
     (λ c κs. search needs)
@@ -32,8 +32,8 @@ number-spec =
     let at-run = at-if1 .before in
     let at-past = at-run .before in
     c .no-number2 .ensures
-    ∙ no-decimal _ (at-past .past .ensures .0) (at-run .run .ensures) (at-if1 .if1 .left) (at-behind .behind .ensures .0) (at-has .has .ensures)
-    (at-past2 .past2 .ensures .0) (at-run2 .run2 .ensures) (at-if2 .if2 .taken))
+    ∙ no-decimal _ (at-past .past .ensures .0) (at-run .run .ensures .0) (at-if1 .if1 .left) (at-behind .behind .ensures .0) (at-has .has .ensures)
+    (at-past2 .past2 .ensures .0) (at-run2 .run2 .ensures .0) (at-if2 .if2 .taken))
     (λ c κs. search needs)
     (λ c κs. search needs)
     (λ c κs. search needs)
@@ -53,6 +53,6 @@ number-spec =
     let at-run = at-if1 .before in
     let at-past = at-run .before in
     c .tail .ensures
-    ∙ to-tail _ (at-past .past .ensures .0) (at-run .run .ensures) (at-if1 .if1 .left) (at-behind .behind .ensures .0) (at-has .has .ensures)
-    (at-past2 .past2 .ensures .0) (at-run2 .run2 .ensures) (at-if2 .if2 .left) (at-has2 .has2 .ensures) (at-front .front .ensures .0)
+    ∙ to-tail _ (at-past .past .ensures .0) (at-run .run .ensures .0) (at-if1 .if1 .left) (at-behind .behind .ensures .0) (at-has .has .ensures)
+    (at-past2 .past2 .ensures .0) (at-run2 .run2 .ensures .0) (at-if2 .if2 .left) (at-has2 .has2 .ensures) (at-front .front .ensures .0)
     (at-front2 .front2 .ensures .0) (at-behind2 .behind2 .ensures .0)))

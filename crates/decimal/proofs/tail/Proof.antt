@@ -25,7 +25,8 @@ tail-spec =
     let at-if1 = at-past .before in
     let at-has = at-if1 .before in
     c .no-number2 .ensures
-    ∙ no-exponent _ _ _ _ (at-has .has .ensures) (at-past .past .ensures .0) (at-past2 .past2 .ensures .0) (at-run .run .ensures) (at-if1 .if1 .left)
+    ∙ no-exponent _ _ _ _ (at-has .has .ensures) (at-past .past .ensures .0) (at-past2 .past2 .ensures .0) (at-run .run .ensures .0)
+    (at-if1 .if1 .left)
     (at-if2 .if2 .taken))
     (λ c κs. search needs)
     (λ c κs. search needs)
@@ -39,7 +40,8 @@ tail-spec =
     let at-if1 = at-past .before in
     let at-has = at-if1 .before in
     c .no-number3 .ensures
-    ∙ more-behind _ _ _ _ (at-has .has .ensures) (at-past .past .ensures .0) (at-past2 .past2 .ensures .0) (at-run .run .ensures) (at-if1 .if1 .left)
+    ∙ more-behind _ _ _ _ (at-has .has .ensures) (at-past .past .ensures .0) (at-past2 .past2 .ensures .0) (at-run .run .ensures .0)
+    (at-if1 .if1 .left)
     (at-behind .behind .ensures .0) (at-if2 .if2 .left) (omega (arith, at-if3 .if3 .taken)))
     (λ c κs. search needs)
     (λ c κs. search needs)
@@ -56,5 +58,6 @@ tail-spec =
     let at-if1 = at-past .before in
     let at-has = at-if1 .before in
     c .judged .ensures
-    ∙ tail-judged _ _ _ _ (at-has .has .ensures) (at-past .past .ensures .0) (at-past2 .past2 .ensures .0) (at-run .run .ensures) (at-if1 .if1 .left)
+    ∙ tail-judged _ _ _ _ (at-has .has .ensures) (at-past .past .ensures .0) (at-past2 .past2 .ensures .0) (at-run .run .ensures .0)
+    (at-if1 .if1 .left)
     (at-behind .behind .ensures .0) (at-if2 .if2 .left) (at-if3 .if3 .left) (at-has2 .has2 .ensures) (at-front .front .ensures .0)))

@@ -3,13 +3,13 @@ use mathlib.Core.Path.{_≡_, ap, _∙_}
 use native.Mathlib.Omega.{arith}
 use borrow.Author.Needs.{needs}
 use lib.ListN.{drop, length-drop}
-use Rattle.text.specs.Runs.{run, run-le}
-use Rattle.decimal.specs.Run.{isOf}
+use Rattle.chars.specs.Runs.{run, run-le}
+use Rattle.chars.specs.Chars.{isOf}
 use Rattle.double.proofs.over.Statement.{statement}
 use Rattle.double.proofs.over.Tie as tie
 
 found : (c : tie.After-run) → let s = c .before .before .before in c .run .result ≡ run (isOf (s .args .kind)) (drop (s .args .i) (s .args .text .now))
-found c = c .run .ensures ∙ ap (run (isOf (c .before .before .before .args .kind))) (c .before .behind .ensures .0)
+found c = c .run .ensures .0 ∙ ap (run (isOf (c .before .before .before .args .kind))) (c .before .behind .ensures .0)
 
 pub over-spec : {M : Type 1} → statement M
 over-spec =

@@ -19,4 +19,8 @@ number-told-spec =
     let c1 = c .before in
     let c3 = c1 .before .before in
     rw (c3 .a .given .1, toZ-ofZ {w = w32} (record { sfits = c .struct-told .given .1 .1 .0 .1 }), ← c1 .one-if .ensures))
-    (λ c. rw (c .before .before .before .a2 .given .1, toZ-ofZ {w = w32} (record { sfits = c .struct-told2 .given .1 .0 .1 }), c .before .told .ensures)))
+    (λ c. rw (
+      c .before .before .before .a2 .given .1,
+      toZ-ofZ {w = w32} (record { sfits = c .struct-told2 .given .1 .0 .1 }),
+      c .before .told .ensures,
+    )))

@@ -19,4 +19,8 @@ string-told-spec =
     (λ c κs. search needs)
     (λ c. rw (c .before .before .before .a .given .1, ← c .before .span .ensures, ← c .span2 .ensures))
     (λ c. rw (c .enum-told .given .1))
-    (λ c. rw (c .before .before .before .a2 .given .1, toZ-ofZ {w = w32} (record { sfits = c .struct-told .given .1 .0 .1 }), c .before .told .ensures)))
+    (λ c. rw (
+      c .before .before .before .a2 .given .1,
+      toZ-ofZ {w = w32} (record { sfits = c .struct-told .given .1 .0 .1 }),
+      c .before .told .ensures,
+    )))

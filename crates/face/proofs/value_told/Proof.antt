@@ -18,4 +18,8 @@ value-told-spec =
     (λ c κs. search needs)
     (λ c. rw (c .before .before .a .given .1, ← c .span .ensures))
     (λ c. rw (c .enum-told .given .1))
-    (λ c. rw (c .before .before .before .a2 .given .1, toZ-ofZ {w = w32} (record { sfits = c .struct-told .given .1 .0 .1 }), c .before .told .ensures)))
+    (λ c. rw (
+      c .before .before .before .a2 .given .1,
+      toZ-ofZ {w = w32} (record { sfits = c .struct-told .given .1 .0 .1 }),
+      c .before .told .ensures,
+    )))

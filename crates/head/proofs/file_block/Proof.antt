@@ -18,17 +18,17 @@ file-block-spec =
     (λ c. search needs)
     (λ c κs. search needs)
     (λ c.
-    let c2 = c .before .before in
-    let c4 = c2 .before .before in
-    let c5 = c4 .before in
-    let c6 = c5 .before in (
+    let at-wide = c .before .before in
+    let at-word22 = at-wide .before .before in
+    let at-word2 = at-word22 .before in
+    let at-is-high = at-word2 .before in (
       rw (
-        ← c6 .is-high .ensures,
-        room-read _ _ (c6 .is-high .ensures) _ (c5 .word2 .ensures .0),
-        count-read _ _ (c6 .is-high .ensures) _ (c4 .word22 .ensures .0),
-        c2 .wide .ensures .0,
+        ← at-is-high .is-high .ensures,
+        room-read _ _ (at-is-high .is-high .ensures) _ (at-word2 .word2 .ensures .0),
+        count-read _ _ (at-is-high .is-high .ensures) _ (at-word22 .word22 .ensures .0),
+        at-wide .wide .ensures .0,
         c .wide2 .ensures .0,
       ),
-      c5 .word2 .ensures .1,
-      c4 .word22 .ensures .1,
+      at-word2 .word2 .ensures .1,
+      at-word22 .word22 .ensures .1,
     )))

@@ -3,7 +3,7 @@ use mathlib.Core.Path.{_≡_, refl, sym, _∙_}
 use Prim.Native.Nat.{_≤_, _-_}
 use lib.ListN.{length, drop}
 use borrow.Author.Tests.{not-true, not-false}
-use Rattle.text.specs.Runs.{all, all-more, all-end, all-over}
+use Rattle.chars.specs.Runs.{all, all-more, all-end, all-over}
 use Rattle.head.specs.Head.{lacks, apart}
 use borrow.Author.Needs.{needs}
 use Rattle.head.proofs.is_apart.Statement.{statement}
@@ -25,8 +25,20 @@ is-apart-spec =
     (λ c. (search needs, refl))
     (λ c. search needs)
     (λ c κs. search needs)
-    (λ c. all-end (lacks _) _ _ (c .before .before .before .loop-test .taken) (sym (c .before .is-lacking .ensures) ∙ not-true _ (c .if1 .taken)) ∙ c .before .before .before .before .loop .inv .1)
+    (λ c.
+    let at-is-lacking = c .before in
+    let at-loop-test = at-is-lacking .before .before in
+    let at-loop = at-loop-test .before in
+    all-end (lacks _) _ _ (at-loop-test .loop-test .taken) (sym (at-is-lacking .is-lacking .ensures) ∙ not-true _ (c .if1 .taken)) ∙
+    at-loop .loop .inv .1)
     (λ c. search needs)
     (λ c. search needs)
-    (λ c. (search needs, all-more (lacks _) _ _ (c .before .before .before .loop-test .taken) (sym (c .before .is-lacking .ensures) ∙ not-false _ (c .if1 .left)) ∙ c .before .before .before .before .loop .inv .1))
+    (λ c.
+    let at-is-lacking = c .before in
+    let at-loop-test = at-is-lacking .before .before in
+    let at-loop = at-loop-test .before in (
+      search needs,
+      all-more (lacks _) _ _ (at-loop-test .loop-test .taken) (sym (at-is-lacking .is-lacking .ensures) ∙ not-false _ (c .if1 .left)) ∙
+          at-loop .loop .inv .1,
+    ))
     (λ c. all-over (lacks _) _ _ (c .loop-test .left) ∙ c .before .loop .inv .1))

@@ -15,14 +15,14 @@ is-bad-lines-spec =
     (λ c κs. (search needs, (sym (c .before .before .is-good .ensures) ∙ not-false _ (c .before .if1 .left))))
     (λ c κs. search needs)
     (λ c.
-    (let c1 = c .before in
-    let c2 = c1 .before in
-    let c3 = c2 .before in
-    let c4 = c3 .before in
-    rw (
-      (sym (c4 .is-good .ensures) ∙ not-false _ (c3 .if1 .left)),
+    let at-line-end = c .before in
+    let at-string-end = at-line-end .before in
+    let at-if1 = at-string-end .before in
+    let at-is-good = at-if1 .before in
+    (rw (
+      (sym (at-is-good .is-good .ensures) ∙ not-false _ (at-if1 .if1 .left)),
       c .is-apart .ensures,
-      c2 .string-end .ensures .0,
-      c1 .line-end .ensures
+      at-string-end .string-end .ensures .0,
+      at-line-end .line-end .ensures
           .0,
     ))))

@@ -17,6 +17,20 @@ is-good-spec =
     (λ c. search needs)
     (λ c. search needs)
     (λ c κs. search needs)
-    (λ c. c .before .before .before .is-control .ensures ∙ good-one (c .before .before .before .before .before .before .before .args .f .now) (c .before .before .before .before .before .before .before .args .at) (c .before .before .before .before .before .before .before .pre) (c .if1 .taken))
-    (λ c. ap₂ (λ (a b : Bool). a && b) (c .before .before .before .before .is-control .ensures) (c .before .before .is-control2 .ensures) ∙ good-two (c .before .before .before .before .before .before .before .before .args .f .now) (c .before .before .before .before .before .before .before .before .args .at) (c .before .before .before .before .before .before .before .before .pre) (c .if2 .taken))
-    (λ c. good-other (c .before .before .before .before .before .before .before .before .args .f .now) (c .before .before .before .before .before .before .before .before .args .at) (c .before .if1 .left) (c .if2 .left)))
+    (λ c.
+    let at-is-control = c .before .before .before in
+    let start = at-is-control .before .before .before .before in
+    let args = start .args in
+    at-is-control .is-control .ensures ∙ good-one (args .f .now) (args .at) (start .pre) (c .if1 .taken))
+    (λ c.
+    let at-is-control2 = c .before .before in
+    let at-is-control = at-is-control2 .before .before in
+    let start = at-is-control .before .before .before .before in
+    let args = start .args in
+    ap₂ (λ (a b : Bool). a && b) (at-is-control .is-control .ensures) (at-is-control2 .is-control2 .ensures) ∙ good-two (args .f .now) (args .at)
+    (start .pre) (c .if2 .taken))
+    (λ c.
+    let at-if1 = c .before in
+    let start = at-if1 .before .before .before .before .before .before .before in
+    let args = start .args in
+    good-other (args .f .now) (args .at) (at-if1 .if1 .left) (c .if2 .left)))

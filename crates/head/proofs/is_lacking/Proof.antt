@@ -22,8 +22,14 @@ is-lacking-spec =
     μ-loop
     (λ c. (search needs, refl))
     (λ c. search needs)
-    (λ c. lacks-here _ _ _ (c .before .before .loop-test .taken) (c .if1 .taken) ∙ c .before .before .before .loop .inv .1)
+    (λ c.
+    let at-loop-test = c .before .before in
+    let at-loop = at-loop-test .before in
+    lacks-here _ _ _ (at-loop-test .loop-test .taken) (c .if1 .taken) ∙ at-loop .loop .inv .1)
     (λ c. search needs)
     (λ c. search needs)
-    (λ c. (search needs, lacks-on _ _ _ (c .before .before .loop-test .taken) (c .if1 .left) ∙ c .before .before .before .loop .inv .1))
+    (λ c.
+    let at-loop-test = c .before .before in
+    let at-loop = at-loop-test .before in
+    (search needs, lacks-on _ _ _ (at-loop-test .loop-test .taken) (c .if1 .left) ∙ at-loop .loop .inv .1))
     (λ c. lacks-over _ _ _ (c .loop-test .left) ∙ c .before .loop .inv .1))

@@ -17,5 +17,7 @@ terminator-spec =
     (λ c. search needs)
     (λ c. search needs)
     (λ c. search needs)
-    (λ c. let m = good-most _ _ (c .before .before .before .pre .1) in omega (arith, m .1, c .wide .ensures .0, c .before .before .before .pre .0))
+    (λ c.
+    let start = c .before .before .before in
+    let m = good-most _ _ (start .pre .1) in omega (arith, m .1, c .wide .ensures .0, start .pre .0))
     (λ c. rw (c .before .wide .ensures .0) (search needs)))

@@ -20,52 +20,60 @@ block-spec =
     (λ c. search needs)
     (λ c. search needs)
     (λ c.
-    let c2 = c .before .before in
-    let c4 = c2 .before .before in
-    let args = c4 .before .before .before .before .before .args in
-    let e = sym (c4 .block-rows .ensures) ∙ c2 .rows2 .given .1 in
+    let at-rows2 = c .before .before in
+    let at-block-rows = at-rows2 .before .before in
+    let start = at-block-rows .before .before .before .before .before in
+    let args = start .args in
+    let e = sym (at-block-rows .block-rows .ensures) ∙ at-rows2 .rows2 .given .1 in
     let q = rows-shown _ (args .f .now) (args .k) (args .p) _ e in
     let z = rows-size _ (args .f .now) (args .k) (args .p) _ e in
     let d = rows-data _ (args .f .now) (args .k) (args .p) _ e in
     omega (arith, q .data-fits, z, d))
     (λ c κs.
-    let c2 = c .before .before in
-    let c4 = c2 .before .before in
-    let c9 = c4 .before .before .before .before .before in
-    let args = c9 .args in
-    let e = sym (c4 .block-rows .ensures) ∙ c2 .rows2 .given .1 in
+    let at-rows2 = c .before .before in
+    let at-block-rows = at-rows2 .before .before in
+    let start = at-block-rows .before .before .before .before .before in
+    let args = start .args in
+    let e = sym (at-block-rows .block-rows .ensures) ∙ at-rows2 .rows2 .given .1 in
     let q = rows-shown _ (args .f .now) (args .k) (args .p) _ e in
     let z = rows-size _ (args .f .now) (args .k) (args .p) _ e in
-    (omega (arith, q .least, z), omega (arith, q .fits, z), c9 .pre .2))
+    (omega (arith, q .least, z), omega (arith, q .fits, z), start .pre .2))
     (λ c. search needs)
     (λ c. search needs)
     (λ c.
-    let c6 = c .before .before .before .before .before .before in
-    let c8 = c6 .before .before in
-    let args = c8 .before .before .before .before .before .args in
-    let e = sym (c8 .block-rows .ensures) ∙ c6 .rows2 .given .1 in
+    let at-rows2 = c .before .before .before .before .before .before in
+    let at-block-rows = at-rows2 .before .before in
+    let start = at-block-rows .before .before .before .before .before in
+    let args = start .args in
+    let e = sym (at-block-rows .block-rows .ensures) ∙ at-rows2 .rows2 .given .1 in
     let q = rows-shown _ (args .f .now) (args .k) (args .p) _ e in
     let z = rows-size _ (args .f .now) (args .k) (args .p) _ e in
     let d = rows-data _ (args .f .now) (args .k) (args .p) _ e in
     omega (arith, q .data-fits, z, d))
     (λ c.
-    let c1 = c .before in
-    let c3 = c1 .before .before in
-    let args = c3 .before .before .before .before .before .args in
-    rows-bad (args .how) _ (args .t .now) (args .u .now) (args .f .now) (args .k) (args .p) _ (sym (c3 .block-rows .ensures) ∙ c1 .rows .given .1))
+    let at-rows = c .before in
+    let at-block-rows = at-rows .before .before in
+    let start = at-block-rows .before .before .before .before .before in
+    let args = start .args in
+    rows-bad (args .how) _ (args .t .now) (args .u .now) (args .f .now) (args .k) (args .p) _
+    (sym (at-block-rows .block-rows .ensures) ∙ at-rows .rows .given .1))
     (λ c.
-    let c1 = c .before in
-    let c3 = c1 .before .before in
-    let c6 = c3 .before .before .before in
-    let c8 = c6 .before .before in
-    let args = c8 .before .before .before .before .before .args in
-    let e = sym (c8 .block-rows .ensures) ∙ c6 .rows2 .given .1 in
-    strings-bad (args .how) _ (args .t .now) (args .u .now) (args .f .now) (args .k) (args .p) _ e _ (sym (c3 .check .ensures) ∙ c1 .strings .given .1))
+    let at-strings = c .before in
+    let at-check = at-strings .before .before in
+    let at-rows2 = at-check .before .before .before in
+    let at-block-rows = at-rows2 .before .before in
+    let start = at-block-rows .before .before .before .before .before in
+    let args = start .args in
+    let e = sym (at-block-rows .block-rows .ensures) ∙ at-rows2 .rows2 .given .1 in
+    strings-bad (args .how) _ (args .t .now) (args .u .now) (args .f .now) (args .k) (args .p) _ e _
+    (sym (at-check .check .ensures) ∙ at-strings .strings .given .1))
     (λ c.
-    let c1 = c .before in
-    let c3 = c1 .before .before in
-    let c6 = c3 .before .before .before in
-    let c8 = c6 .before .before in
-    let args = c8 .before .before .before .before .before .args in
-    let e = sym (c8 .block-rows .ensures) ∙ c6 .rows2 .given .1 in
-    strings-past (args .how) _ (args .t .now) (args .u .now) (args .f .now) (args .k) (args .p) _ e (sym (c3 .check .ensures) ∙ c1 .enum-told .given .1)))
+    let at-enum-told = c .before in
+    let at-check = at-enum-told .before .before in
+    let at-rows2 = at-check .before .before .before in
+    let at-block-rows = at-rows2 .before .before in
+    let start = at-block-rows .before .before .before .before .before in
+    let args = start .args in
+    let e = sym (at-block-rows .block-rows .ensures) ∙ at-rows2 .rows2 .given .1 in
+    strings-past (args .how) _ (args .t .now) (args .u .now) (args .f .now) (args .k) (args .p) _ e
+    (sym (at-check .check .ensures) ∙ at-enum-told .enum-told .given .1)))

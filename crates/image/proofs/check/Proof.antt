@@ -16,13 +16,15 @@ check-spec =
     (λ c κs. search needs)
     (λ c. c .refusing .ensures ∙ rw (c .before .if1 .taken))
     (λ c.
-    let start = c .before .before .before in
+    let at-if1 = c .before in
+    let start = at-if1 .before .before in
     let args = start .args in
-    let l = long-enough (length (args .buffer .now)) (args .n) (c .before .if1 .left) in
+    let l = long-enough (length (args .buffer .now)) (args .n) (at-if1 .if1 .left) in
     sym (length-take-le _ _ (l .2)))
     (λ c κs.
-    let start = c .before .before .before in
+    let at-if1 = c .before in
+    let start = at-if1 .before .before in
     let args = start .args in
-    let l = long-enough (length (args .buffer .now)) (args .n) (c .before .if1 .left) in
+    let l = long-enough (length (args .buffer .now)) (args .n) (at-if1 .if1 .left) in
     rw (length-take-le (args .n) (args .buffer .now) (l .2)) (l .0))
     (λ c. c .image .ensures ∙ rw (c .before .before .if1 .left)))

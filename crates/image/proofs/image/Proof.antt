@@ -13,7 +13,9 @@ pub image-spec : {M : Type 1} → statement M
 image-spec =
     tie.close
     (tie.spec
-    (λ c. let start = c .before .before in sym (length-take-le 32 (start .args .f .now) (start .pre)))
+    (λ c.
+    let start = c .before .before in
+    sym (length-take-le 32 (start .args .f .now) (start .pre)))
     (λ c κs.
     let start = c .before .before in
     let l = length-take-le 32 (start .args .f .now) (start .pre) in
@@ -21,42 +23,45 @@ image-spec =
     (λ c. search needs)
     (λ c. search needs)
     (λ c κs.
-    let c1 = c .before in
-    let c3 = c1 .before .before in
-    let args = c3 .before .before .before .args in
-    let h = head-shown _ (args .f .now) _ (sym (c3 .head .ensures .0) ∙ c1 .top2 .given .1) in
+    let at-top2 = c .before in
+    let at-head = at-top2 .before .before in
+    let start = at-head .before .before .before in
+    let h = head-shown _ (start .args .f .now) _ (sym (at-head .head .ensures .0) ∙ at-top2 .top2 .given .1) in
     (omega arith, h .strings))
     (λ c κs.
-    let c2 = c .before .before in
-    let c4 = c2 .before .before in
-    let args = c4 .before .before .before .args in
-    let h = head-shown _ (args .f .now) _ (sym (c4 .head .ensures .0) ∙ c2 .top2 .given .1) in
+    let at-top2 = c .before .before in
+    let at-head = at-top2 .before .before in
+    let start = at-head .before .before .before in
+    let h = head-shown _ (start .args .f .now) _ (sym (at-head .head .ensures .0) ∙ at-top2 .top2 .given .1) in
     (omega arith, h .lines))
     (λ c.
-    let c4 = c .before .before .before .before in
-    let c6 = c4 .before .before in
-    let w = in-words _ _ (c4 .top2 .given .1) (c6 .head .ensures .1) in
+    let at-top2 = c .before .before .before .before in
+    let at-head = at-top2 .before .before in
+    let w = in-words _ _ (at-top2 .top2 .given .1) (at-head .head .ensures .1) in
     omega (arith, w .1))
     (λ c κs.
-    let c1 = c .before in
-    let c4 = c1 .before .before .before in
-    let c6 = c4 .before .before in
-    let args = c6 .before .before .before .args in
-    let e = sym (c6 .head .ensures .0) ∙ c4 .top2 .given .1 in
+    let at-line-end = c .before in
+    let at-top2 = at-line-end .before .before .before in
+    let at-head = at-top2 .before .before in
+    let start = at-head .before .before .before in
+    let args = start .args in
+    let e = sym (at-head .head .ensures .0) ∙ at-top2 .top2 .given .1 in
     let h = head-shown _ (args .f .now) _ e in
     let m = head-room _ (args .f .now) _ e in
     let n = head-count _ (args .f .now) _ e in
     let g = good-most _ _ (h .lines) in
     let l = length-terminator (args .f .now) 11 (omega arith) (h .lines) in
-    (omega (arith, h .fits, m), omega (arith, h .count, m, n), omega (arith, g .0, l, ap length (c1 .line-end .ensures .0))))
+    (omega (arith, h .fits, m), omega (arith, h .count, m, n), omega (arith, g .0, l, ap length (at-line-end .line-end .ensures .0))))
     (λ c.
-    let c1 = c .before in
-    let c3 = c1 .before .before in
-    head-bad _ _ (c3 .before .before .before .args .f .now) _ (sym (c3 .head .ensures .0) ∙ c1 .top .given .1))
+    let at-top = c .before in
+    let at-head = at-top .before .before in
+    let start = at-head .before .before .before in
+    head-bad _ _ (start .args .f .now) _ (sym (at-head .head .ensures .0) ∙ at-top .top .given .1))
     (λ c.
-    let c2 = c .before .before in
-    let c3 = c2 .before in
-    let c5 = c3 .before .before in
-    let c7 = c5 .before .before in
-    let e = sym (c7 .head .ensures .0) ∙ c5 .top2 .given .1 in
-    c .rest .ensures ∙ rw (c3 .string-end .ensures .0, c2 .line-end .ensures .0) (head-rest _ (c7 .before .before .before .args .f .now) _ e _)))
+    let at-line-end = c .before .before in
+    let at-string-end = at-line-end .before in
+    let at-top2 = at-string-end .before .before in
+    let at-head = at-top2 .before .before in
+    let start = at-head .before .before .before in
+    let e = sym (at-head .head .ensures .0) ∙ at-top2 .top2 .given .1 in
+    c .rest .ensures ∙ rw (at-string-end .string-end .ensures .0, at-line-end .line-end .ensures .0) (head-rest _ (start .args .f .now) _ e _)))

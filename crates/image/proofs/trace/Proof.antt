@@ -15,22 +15,24 @@ trace-spec =
     (λ c. search needs)
     (λ c. search needs)
     (λ c κs.
-    let c2 = c .before .before in
-    let c3 = c2 .before in
-    let c7 = c3 .before .before .before .before in
-    let q = pointed _ _ _ _ (sym (c2 .pointer-row .ensures) ∙ c .enum-told .given .1) in
-    (c3 .pointer .ensures .1, q .fits, c7 .pre .1))
+    let at-pointer-row = c .before .before in
+    let at-pointer = at-pointer-row .before in
+    let start = at-pointer .before .before .before .before in
+    let q = pointed _ _ _ _ (sym (at-pointer-row .pointer-row .ensures) ∙ c .enum-told .given .1) in
+    (at-pointer .pointer .ensures .1, q .fits, start .pre .1))
     (λ c.
-    let c1 = c .before in
-    let c3 = c1 .before .before in
-    let c4 = c3 .before in
-    let args = c4 .before .before .before .before .args in
-    let e = rw (c4 .pointer .ensures .0) at (sym (c3 .pointer-row .ensures) ∙ c1 .row .given .1) in
+    let at-row = c .before in
+    let at-pointer-row = at-row .before .before in
+    let at-pointer = at-pointer-row .before in
+    let start = at-pointer .before .before .before .before in
+    let args = start .args in
+    let e = rw (at-pointer .pointer .ensures .0) at (sym (at-pointer-row .pointer-row .ensures) ∙ at-row .row .given .1) in
     rw (trace-bad (args .how) _ (args .t .now) (args .u .now) (args .f .now) _ _ _ e))
     (λ c.
-    let c1 = c .before in
-    let c3 = c1 .before .before in
-    let c4 = c3 .before in
-    let args = c4 .before .before .before .before .args in
-    let e = rw (c4 .pointer .ensures .0) at (sym (c3 .pointer-row .ensures) ∙ c1 .enum-told .given .1) in
-    c .block .ensures ∙ rw (c4 .pointer .ensures .0, trace-pointed (args .how) _ (args .t .now) (args .u .now) (args .f .now) _ _ e)))
+    let at-enum-told = c .before in
+    let at-pointer-row = at-enum-told .before .before in
+    let at-pointer = at-pointer-row .before in
+    let start = at-pointer .before .before .before .before in
+    let args = start .args in
+    let e = rw (at-pointer .pointer .ensures .0) at (sym (at-pointer-row .pointer-row .ensures) ∙ at-enum-told .enum-told .given .1) in
+    c .block .ensures ∙ rw (at-pointer .pointer .ensures .0, trace-pointed (args .how) _ (args .t .now) (args .u .now) (args .f .now) _ _ e)))

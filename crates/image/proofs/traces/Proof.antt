@@ -24,26 +24,28 @@ traces-spec =
     (λ c κs. (omega arith, c .before .before .before .before .before .pre .2))
     (λ c. search needs)
     (λ c.
-    let c1 = c .before in
-    let c3 = c1 .before .before in
-    let c4 = c3 .before in
-    let c5 = c4 .before in
-    let f = c5 .before .before .before .before .args .f .now in
-    let w = walked-bad _ f _ _ _ (sym (c3 .trace .ensures) ∙ c1 .w .given .1) in
-    turn-bad _ _ _ _ f _ _ _ (c4 .loop-test .taken) _ w ∙ c5 .loop .inv .1)
+    let at-w = c .before in
+    let at-trace = at-w .before .before in
+    let at-loop-test = at-trace .before in
+    let at-loop = at-loop-test .before in
+    let start = at-loop .before .before .before .before in
+    let f = start .args .f .now in
+    let w = walked-bad _ f _ _ _ (sym (at-trace .trace .ensures) ∙ at-w .w .given .1) in
+    turn-bad _ _ _ _ f _ _ _ (at-loop-test .loop-test .taken) _ w ∙ at-loop .loop .inv .1)
     (λ c. search needs)
     (λ c. search needs)
     (λ c. search needs)
     (λ c.
-    let c1 = c .before in
-    let c3 = c1 .before .before in
-    let c4 = c3 .before in
-    let c5 = c4 .before in
-    let args = c5 .before .before .before .before .args in
+    let at-w2 = c .before in
+    let at-trace = at-w2 .before .before in
+    let at-loop-test = at-trace .before in
+    let at-loop = at-loop-test .before in
+    let start = at-loop .before .before .before .before in
+    let args = start .args in
     let f = args .f .now in
-    let l : c5 .loop .k + 1 ≤ args .n = omega arith in
-    let w = walked-past _ f _ _ _ (sym (c3 .trace .ensures) ∙ c1 .w2 .given .1) in
-    (l, turn-past _ _ _ _ f _ _ _ (c4 .loop-test .taken) _ (w .0) (w .1) ∙ c5 .loop .inv .1))
+    let l : at-loop .loop .k + 1 ≤ args .n = omega arith in
+    let w = walked-past _ f _ _ _ (sym (at-trace .trace .ensures) ∙ at-w2 .w2 .given .1) in
+    (l, turn-past _ _ _ _ f _ _ _ (at-loop-test .loop-test .taken) _ (w .0) (w .1) ∙ at-loop .loop .inv .1))
     (λ c.
     let c1 = c .before in
     walk-over _ _ _ _ (c1 .before .before .before .before .args .f .now) _ _ _ (c .loop-test .left) ∙ c1 .loop .inv .1))

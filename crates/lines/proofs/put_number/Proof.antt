@@ -9,6 +9,11 @@ pub put-number-spec : {M : Type 1} → statement M
 put-number-spec =
     tie.close
     (tie.spec
-    (λ c κs. let l = trace-number (c .before .before .args .k) (omega arith) in omega (arith, l, c .before .before .pre))
+    (λ c κs.
+    let start = c .before .before in
+    let l = trace-number (start .args .k) (omega arith) in omega (arith, l, start .pre))
     (λ c. search needs)
-    (λ c. (c .before .before .put-digits .ensures, trace-number (c .before .before .before .before .before .args .k) (omega arith))))
+    (λ c.
+    let at-put-digits = c .before .before in
+    let start = at-put-digits .before .before .before in
+    (at-put-digits .put-digits .ensures, trace-number (start .args .k) (omega arith))))

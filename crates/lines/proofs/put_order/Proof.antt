@@ -10,10 +10,22 @@ put-order-spec =
     tie.close
     (tie.spec
     (λ c. search needs)
-    (λ c κs. rw (c .before .before .if1 .taken) at (c .before .before .before .before .pre))
+    (λ c κs.
+    let at-if1 = c .before .before in
+    let start = at-if1 .before .before in
+    rw (at-if1 .if1 .taken) at (start .pre))
     (λ c. search needs)
-    (λ c. rw (c .before .before .before .before .before .if1 .taken) (c .before .before .put-bytes .ensures))
+    (λ c.
+    let at-put-bytes = c .before .before in
+    let at-if1 = at-put-bytes .before .before .before in
+    rw (at-if1 .if1 .taken) (at-put-bytes .put-bytes .ensures))
     (λ c. search needs)
-    (λ c κs. rw (c .before .before .if1 .left) at (c .before .before .before .before .pre))
+    (λ c κs.
+    let at-if1 = c .before .before in
+    let start = at-if1 .before .before in
+    rw (at-if1 .if1 .left) at (start .pre))
     (λ c. search needs)
-    (λ c. rw (c .before .before .before .before .before .if1 .left) (c .before .before .put-bytes2 .ensures)))
+    (λ c.
+    let at-put-bytes2 = c .before .before in
+    let at-if1 = at-put-bytes2 .before .before .before in
+    rw (at-if1 .if1 .left) (at-put-bytes2 .put-bytes2 .ensures)))

@@ -15,6 +15,12 @@ put-part-spec =
     (λ c. search needs)
     (λ c κs. c .before .before .before .before .before .pre)
     (λ c. search needs)
-    (λ c. rw (c .before .before .before .before .enum-told .given .1) (c .before .before .put-byte .ensures, omega arith))
+    (λ c.
+    let at-put-byte = c .before .before in
+    let at-enum-told = at-put-byte .before .before in
+    rw (at-enum-told .enum-told .given .1) (at-put-byte .put-byte .ensures, omega arith))
     (λ c. search needs)
-    (λ c. rw (c .before .before .before .before .before .part .given .1) (c .before .before .put-number .ensures)))
+    (λ c.
+    let at-put-number = c .before .before in
+    let at-part = at-put-number .before .before .before in
+    rw (at-part .part .given .1) (at-put-number .put-number .ensures)))

@@ -9,6 +9,11 @@ pub put-place-spec : {M : Type 1} → statement M
 put-place-spec =
     tie.close
     (tie.spec
-    (λ c κs. let l = place-number (c .before .before .args .place) (omega arith) in omega (arith, l, c .before .before .pre))
+    (λ c κs.
+    let start = c .before .before in
+    let l = place-number (start .args .place) (omega arith) in omega (arith, l, start .pre))
     (λ c. search needs)
-    (λ c. (c .before .before .put-ended .ensures, place-number (c .before .before .before .before .before .args .place) (omega arith))))
+    (λ c.
+    let at-put-ended = c .before .before in
+    let start = at-put-ended .before .before .before in
+    (at-put-ended .put-ended .ensures, place-number (start .args .place) (omega arith))))

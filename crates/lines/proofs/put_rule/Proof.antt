@@ -11,6 +11,12 @@ put-rule-spec =
     (tie.spec
     (λ c κs. search needs)
     (λ c. search needs)
-    (λ c κs. rw (c .number .ensures) (let l = rule-number (c .before .before .before .args .rule) in omega (arith, l, c .before .before .before .pre)))
+    (λ c κs.
+    let start = c .before .before .before in
+    rw (c .number .ensures) (let l = rule-number (start .args .rule) in omega (arith, l, start .pre)))
     (λ c. search needs)
-    (λ c. (rw (← c .before .before .before .number .ensures) (c .before .before .put-ended .ensures), rule-number (c .before .before .before .before .before .before .args .rule))))
+    (λ c.
+    let at-put-ended = c .before .before in
+    let at-number = at-put-ended .before in
+    let start = at-number .before .before .before in
+    (rw (← at-number .number .ensures) (at-put-ended .put-ended .ensures), rule-number (start .args .rule))))

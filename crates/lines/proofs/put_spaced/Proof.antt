@@ -27,10 +27,22 @@ put-spaced-spec =
     (λ c. search needs)
     (λ c κs. search needs)
     (λ c. let l = length-spaced (c .before .before .before .before .before .before .args .v .now) in omega arith)
-    (λ c. let l = length-spaced (c .before .before .before .before .before .before .args .v .now) in omega (arith, c .before .before .before .loop .inv .1))
+    (λ c.
+    let at-loop = c .before .before .before in
+    let start = at-loop .before .before .before in
+    let l = length-spaced (start .args .v .now) in omega (arith, at-loop .loop .inv .1))
     (λ c. search needs)
     (λ c. search needs)
-    (λ c. (search needs, simp length-set (c .before .before .before .loop .inv .1), spaced-turn _ _ (c .before .before .before .loop .out) _ (c .before .before .before .loop .i) (c .before .before .before .loop .inv .2) _ (c .before .before .loop-test .taken) (c .spaced-byte .ensures)))
+    (λ c.
+    let at-loop-test = c .before .before in
+    let at-loop = at-loop-test .before in (
+      search needs,
+      simp length-set (at-loop .loop .inv .1),
+      spaced-turn _ _ (at-loop .loop .out) _ (at-loop .loop .i) (at-loop .loop .inv .2) _
+          (at-loop-test .loop-test .taken) (c .spaced-byte .ensures),
+    ))
     (λ c. let l = length-spaced (c .before .before .before .before .args .v .now) in omega arith)
     (λ c. c .before .loop .inv .1)
-    (λ c. spaced-over _ _ (c .before .loop .out) _ (c .before .loop .i) (c .before .loop .inv .2) (c .before .loop .inv .0) (c .loop-test .left)))
+    (λ c.
+    let at-loop = c .before in
+    spaced-over _ _ (at-loop .loop .out) _ (at-loop .loop .i) (at-loop .loop .inv .2) (at-loop .loop .inv .0) (c .loop-test .left)))

@@ -13,8 +13,17 @@ put-whose-spec =
     (λ c κs. rw (c .before .enum-told .given .1) at (c .before .before .before .before .pre))
     (λ c. search needs)
     (λ c. search needs)
-    (λ c κs. rw (c .before .before .part .given .1) at (c .before .before .before .before .before .pre))
+    (λ c κs.
+    let at-part = c .before .before in
+    let start = at-part .before .before .before in
+    rw (at-part .part .given .1) at (start .pre))
     (λ c. search needs)
-    (λ c. rw (c .before .before .before .before .enum-told .given .1) (c .before .before .put-byte .ensures))
+    (λ c.
+    let at-put-byte = c .before .before in
+    let at-enum-told = at-put-byte .before .before in
+    rw (at-enum-told .enum-told .given .1) (at-put-byte .put-byte .ensures))
     (λ c. search needs)
-    (λ c. rw (c .before .before .before .before .before .part .given .1) (c .before .before .put-digits .ensures)))
+    (λ c.
+    let at-put-digits = c .before .before in
+    let at-part = at-put-digits .before .before .before in
+    rw (at-part .part .given .1) (at-put-digits .put-digits .ensures)))

@@ -26,14 +26,15 @@ count-spec =
     Inv-loop
     μ-loop
     (λ c.
-    let c2 = c .before .before in (
+    let start = c .before .before in
+    let args = start .args in (
       search needs,
       search needs,
       search needs,
       (
-        length (part (c2 .args .a) (c2 .args .e) (c2 .args .f .now)),
+        length (part (args .a) (args .e) (args .f .now)),
         le-of-eq (sym (length-part
-            (c2 .args .a) (c2 .args .e) (c2 .args .f .now) (c2 .pre .1))),
+            (args .a) (args .e) (args .f .now) (start .pre .1))),
         omega arith,
       ),
     ))
@@ -41,26 +42,31 @@ count-spec =
     (λ c. search needs)
     (λ c. search needs)
     (λ c κs.
-    let c2 = c .before .before in
-    let c5 = c2 .before .before .before in
-    let w = length-part (c2 .loop .at) (c5 .args .e) (c5 .args .f .now) (c5 .pre .1) in omega arith)
+    let at-loop = c .before .before in
+    let start = at-loop .before .before .before in
+    let args = start .args in
+    let w = length-part (at-loop .loop .at) (args .e) (args .f .now) (start .pre .1) in omega arith)
     (λ c. search needs)
     (λ c.
-    let c2 = c .before .before in
-    let c4 = c2 .before .before in
-    let c5 = c4 .before in
-    let c8 = c5 .before .before .before in
-    let q = ap length (place-stop _ _ _ (c8 .args .f .now) (c8 .args .e) (c5 .loop .at) (c5 .loop .inv .3 .0) (c4 .loop-test .taken)
-    (c8 .pre .1) (c5 .loop .inv .3 .1) (sym (c2 .entry-at .ensures) ∙ c .enum-told .given .1)) in omega (arith, c5 .loop .inv .3 .2))
+    let at-entry-at = c .before .before in
+    let at-loop-test = at-entry-at .before .before in
+    let at-loop = at-loop-test .before in
+    let start = at-loop .before .before .before in
+    let args = start .args in
+    let q = ap length (place-stop _ _ _ (args .f .now) (args .e) (at-loop .loop .at) (at-loop .loop .inv .3 .0) (at-loop-test .loop-test .taken)
+    (start .pre .1) (at-loop .loop .inv .3 .1) (sym (at-entry-at .entry-at .ensures) ∙ c .enum-told .given .1)) in omega
+    (arith, at-loop .loop .inv .3 .2))
     (λ c. search needs)
     (λ c.
-    let c1 = c .before in
-    let c3 = c1 .before .before in
-    let c5 = c3 .before .before in
-    let c6 = c5 .before in
-    let c9 = c6 .before .before .before in
-    let b = place-bounds _ _ _ (c9 .args .f .now) (c9 .args .e) (c6 .loop .at) (c6 .loop .inv .3 .0) (c5 .loop-test .taken) (c9 .pre .1)
-    (c6 .loop .inv .3 .1) _ _ (sym (c3 .entry-at .ensures) ∙ c1 .s .given .1) in omega (
+    let at-s = c .before in
+    let at-entry-at = at-s .before .before in
+    let at-loop-test = at-entry-at .before .before in
+    let at-loop = at-loop-test .before in
+    let start = at-loop .before .before .before in
+    let args = start .args in
+    let b = place-bounds _ _ _ (args .f .now) (args .e) (at-loop .loop .at) (at-loop .loop .inv .3 .0) (at-loop-test .loop-test .taken)
+    (start .pre .1)
+    (at-loop .loop .inv .3 .1) _ _ (sym (at-entry-at .entry-at .ensures) ∙ at-s .s .given .1) in omega (
       arith,
       b .0,
       b .1,
@@ -70,13 +76,15 @@ count-spec =
       b .2 .3,
     ))
     (λ c.
-    let c1 = c .before in
-    let c3 = c1 .before .before in
-    let c5 = c3 .before .before in
-    let c6 = c5 .before in
-    let c9 = c6 .before .before .before in
-    let b = place-bounds _ _ _ (c9 .args .f .now) (c9 .args .e) (c6 .loop .at) (c6 .loop .inv .3 .0) (c5 .loop-test .taken) (c9 .pre .1)
-    (c6 .loop .inv .3 .1) _ _ (sym (c3 .entry-at .ensures) ∙ c1 .s .given .1) in omega (
+    let at-s = c .before in
+    let at-entry-at = at-s .before .before in
+    let at-loop-test = at-entry-at .before .before in
+    let at-loop = at-loop-test .before in
+    let start = at-loop .before .before .before in
+    let args = start .args in
+    let b = place-bounds _ _ _ (args .f .now) (args .e) (at-loop .loop .at) (at-loop .loop .inv .3 .0) (at-loop-test .loop-test .taken)
+    (start .pre .1)
+    (at-loop .loop .inv .3 .1) _ _ (sym (at-entry-at .entry-at .ensures) ∙ at-s .s .given .1) in omega (
       arith,
       b .0,
       b .1,
@@ -86,13 +94,15 @@ count-spec =
       b .2 .3,
     ))
     (λ c.
-    let c1 = c .before in
-    let c3 = c1 .before .before in
-    let c5 = c3 .before .before in
-    let c6 = c5 .before in
-    let c9 = c6 .before .before .before in
-    let b = place-bounds _ _ _ (c9 .args .f .now) (c9 .args .e) (c6 .loop .at) (c6 .loop .inv .3 .0) (c5 .loop-test .taken) (c9 .pre .1)
-    (c6 .loop .inv .3 .1) _ _ (sym (c3 .entry-at .ensures) ∙ c1 .s .given .1) in omega (
+    let at-s = c .before in
+    let at-entry-at = at-s .before .before in
+    let at-loop-test = at-entry-at .before .before in
+    let at-loop = at-loop-test .before in
+    let start = at-loop .before .before .before in
+    let args = start .args in
+    let b = place-bounds _ _ _ (args .f .now) (args .e) (at-loop .loop .at) (at-loop .loop .inv .3 .0) (at-loop-test .loop-test .taken)
+    (start .pre .1)
+    (at-loop .loop .inv .3 .1) _ _ (sym (at-entry-at .entry-at .ensures) ∙ at-s .s .given .1) in omega (
       arith,
       b .0,
       b .1,
@@ -102,29 +112,32 @@ count-spec =
       b .2 .3,
     ))
     (λ c.
-    let c1 = c .before in
-    let c3 = c1 .before .before in
-    let c5 = c3 .before .before in
-    let c6 = c5 .before in
-    let c9 = c6 .before .before .before in
-    let b = place-bounds _ _ _ (c9 .args .f .now) (c9 .args .e) (c6 .loop .at) (c6 .loop .inv .3 .0) (c5 .loop-test .taken) (c9 .pre .1)
-    (c6 .loop .inv .3 .1) _ _ (sym (c3 .entry-at .ensures) ∙ c1 .s .given .1) in
-    let q = ap length (place-next _ _ _ (c9 .args .f .now) (c9 .args .e) (c6 .loop .at) (c6 .loop .inv .3 .0) (c5 .loop-test .taken)
-    (c9 .pre .1) (c6 .loop .inv .3 .1) _ _ (sym (c3 .entry-at .ensures) ∙ c1 .s .given .1)) in (
+    let at-s = c .before in
+    let at-entry-at = at-s .before .before in
+    let at-loop-test = at-entry-at .before .before in
+    let at-loop = at-loop-test .before in
+    let start = at-loop .before .before .before in
+    let args = start .args in
+    let b = place-bounds _ _ _ (args .f .now) (args .e) (at-loop .loop .at) (at-loop .loop .inv .3 .0) (at-loop-test .loop-test .taken)
+    (start .pre .1)
+    (at-loop .loop .inv .3 .1) _ _ (sym (at-entry-at .entry-at .ensures) ∙ at-s .s .given .1) in
+    let q = ap length (place-next _ _ _ (args .f .now) (args .e) (at-loop .loop .at) (at-loop .loop .inv .3 .0) (at-loop-test .loop-test .taken)
+    (start .pre .1) (at-loop .loop .inv .3 .1) _ _ (sym (at-entry-at .entry-at .ensures) ∙ at-s .s .given .1)) in (
       omega (arith, b .1),
       b .1,
       omega (arith, b .0, b .1),
       (
-        c6 .loop .inv .3 .0 - 1,
+        at-loop .loop .inv .3 .0 - 1,
         omega (arith, b .0),
         omega (
           arith,
-          c6 .loop .inv .3 .2,
+          at-loop .loop .inv .3 .2,
         ),
       ),
     ))
     (λ c.
-    let c1 = c .before in
-    let c4 = c1 .before .before .before in
-    let q = ap length (place-over (c4 .args .how) (c4 .args .high) (c4 .args .t .now) (c4 .args .f .now) (c4 .args .e) (c1 .loop .at)
-    (c1 .loop .inv .3 .0) (c .loop-test .left)) in omega (arith, c1 .loop .inv .3 .2)))
+    let at-loop = c .before in
+    let start = at-loop .before .before .before in
+    let args = start .args in
+    let q = ap length (place-over (args .how) (args .high) (args .t .now) (args .f .now) (args .e) (at-loop .loop .at)
+    (at-loop .loop .inv .3 .0) (c .loop-test .left)) in omega (arith, at-loop .loop .inv .3 .2)))

@@ -4,7 +4,7 @@ use Prim.Native.Nat.{_-_}
 use native.Mathlib.Nat.{le-refl}
 use lib.ListN.{length}
 use Rattle.word.specs.Part.{part, length-part, part-rest}
-use Rattle.strings.specs.Strings.{body, gapLen, onText, entryOf}
+use Rattle.strings.specs.Strings.{body, keyLen, gapLen, onText, entryOf}
 use Rattle.strings.specs.Walks.{in-frame}
 use borrow.Author.Needs.{needs}
 use native.Mathlib.Omega.{arith}
@@ -12,7 +12,7 @@ use Rattle.lookup.proofs.entry_at.Statement.{statement}
 use Rattle.lookup.proofs.entry_at.Tie as tie
 
 pub entry-at-spec : {M : Type 1} → statement M
-unfolding body gapLen onText entryOf
+unfolding body keyLen gapLen onText entryOf
 entry-at-spec =
     tie.close
     (tie.spec
@@ -30,37 +30,39 @@ entry-at-spec =
     (λ c. search needs)
     (λ c κs. search needs)
     (λ c.
-    let c5 = c .before .before .before .before .before in
-    let c7 = c5 .before .before in
-    let i = in-frame _ _ _ _ _ (sym (c7 .framed .ensures) ∙ c5 .s .given .1) in omega (arith, i .low, i .fit))
+    let at-s = c .before .before .before .before .before in
+    let at-framed = at-s .before .before in
+    let i = in-frame _ _ _ _ _ (sym (at-framed .framed .ensures) ∙ at-s .s .given .1) in omega (arith, i .low, i .fit))
     (λ c.
-    let c2 = c .before .before in
-    let c5 = c2 .before .before .before in
-    let c7 = c5 .before .before in
-    let c10 = c7 .before .before .before in
-    let i = in-frame _ _ _ _ _ (sym (c7 .framed .ensures) ∙ c5 .s .given .1) in
-    let b = part 2 (c5 .s .given .0 .0 - length (c10 .args .t .now)) (c10 .args .l .now) in
-    let x = length-part 2 (c5 .s .given .0 .0 - length (c10 .args .t .now)) (c10 .args .l .now) (omega (arith, i .low, i .fit)) in
-    let y = length-part (c2 .key-len .result) (length b) b (le-refl (length b)) in
-    omega (arith, i .low, i .fit, c2 .key-len .ensures .1, c .gap-run .ensures .1))
+    let at-run = c .before .before in
+    let at-s = at-run .before .before .before in
+    let at-framed = at-s .before .before in
+    let start = at-framed .before .before .before in
+    let args = start .args in
+    let i = in-frame _ _ _ _ _ (sym (at-framed .framed .ensures) ∙ at-s .s .given .1) in
+    let b = part 2 (at-s .s .given .0 .0 - length (args .t .now)) (args .l .now) in
+    let x = length-part 2 (at-s .s .given .0 .0 - length (args .t .now)) (args .l .now) (omega (arith, i .low, i .fit)) in
+    let y = length-part (at-run .run .result) (length b) b (le-refl (length b)) in
+    omega (arith, i .low, i .fit, at-run .run .ensures .1, c .run2 .ensures .1))
     (λ c.
-    let c2 = c .before .before in
-    let c5 = c2 .before .before .before in
-    let c7 = c5 .before .before in
-    let c10 = c7 .before .before .before in
-    let i = in-frame _ _ _ _ _ (sym (c7 .framed .ensures) ∙ c5 .s .given .1) in
-    let b = part 2 (c5 .s .given .0 .0 - length (c10 .args .t .now)) (c10 .args .l .now) in
-    let x = length-part 2 (c5 .s .given .0 .0 - length (c10 .args .t .now)) (c10 .args .l .now) (omega (arith, i .low, i .fit)) in
-    let y = length-part (c2 .key-len .result) (length b) b (le-refl (length b)) in
-    omega (arith, i .low, i .fit, c2 .key-len .ensures .1, c .gap-run .ensures .1))
+    let at-run = c .before .before in
+    let at-s = at-run .before .before .before in
+    let at-framed = at-s .before .before in
+    let start = at-framed .before .before .before in
+    let args = start .args in
+    let i = in-frame _ _ _ _ _ (sym (at-framed .framed .ensures) ∙ at-s .s .given .1) in
+    let b = part 2 (at-s .s .given .0 .0 - length (args .t .now)) (args .l .now) in
+    let x = length-part 2 (at-s .s .given .0 .0 - length (args .t .now)) (args .l .now) (omega (arith, i .low, i .fit)) in
+    let y = length-part (at-run .run .result) (length b) b (le-refl (length b)) in
+    omega (arith, i .low, i .fit, at-run .run .ensures .1, c .run2 .ensures .1))
     (λ c.
-    let c5 = c .before .before .before .before .before in
-    let c7 = c5 .before .before in
-    let i = in-frame _ _ _ _ _ (sym (c7 .framed .ensures) ∙ c5 .s .given .1) in omega (arith, i .low, i .fit))
+    let at-s = c .before .before .before .before .before in
+    let at-framed = at-s .before .before in
+    let i = in-frame _ _ _ _ _ (sym (at-framed .framed .ensures) ∙ at-s .s .given .1) in omega (arith, i .low, i .fit))
     (λ c. rw (sym (c .before .before .framed .ensures) ∙ c .enum-told .given .1))
     (λ c. rw (sym (c .before .before .framed .ensures) ∙ c .enum-told2 .given .1))
     (λ c.
-    let c2 = c .before .before in
-    let c5 = c2 .before .before .before in
-    let c7 = c5 .before .before in
-    rw ((sym (c7 .framed .ensures) ∙ c5 .s .given .1), ← c2 .key-len .ensures .0, ← (rw part-rest at (c .gap-run .ensures .0)))))
+    let at-run = c .before .before in
+    let at-s = at-run .before .before .before in
+    let at-framed = at-s .before .before in
+    rw ((sym (at-framed .framed .ensures) ∙ at-s .s .given .1), ← at-run .run .ensures .0, ← (rw part-rest at (c .run2 .ensures .0)))))

@@ -27,13 +27,14 @@ find-spec =
     Inv-loop
     μ-loop
     (λ c.
-    let c3 = c .before .before .before in (
+    let start = c .before .before .before in
+    let args = start .args in (
       search needs,
       search needs,
       (
-        length (part (c3 .args .a) (c3 .args .e) (c3 .args .f .now)),
-        le-of-eq (sym (length-part (c3 .args .a)
-            (c3 .args .e) (c3 .args .f .now) (c3 .pre .1))),
+        length (part (args .a) (args .e) (args .f .now)),
+        le-of-eq (sym (length-part (args .a)
+            (args .e) (args .f .now) (start .pre .1))),
         refl,
       ),
     ))
@@ -41,26 +42,30 @@ find-spec =
     (λ c. search needs)
     (λ c. search needs)
     (λ c κs.
-    let c2 = c .before .before in
-    let c6 = c2 .before .before .before .before in
-    let w = length-part (c2 .loop .at) (c6 .args .e) (c6 .args .f .now) (c6 .pre .1) in omega arith)
+    let at-loop = c .before .before in
+    let start = at-loop .before .before .before .before in
+    let args = start .args in
+    let w = length-part (at-loop .loop .at) (args .e) (args .f .now) (start .pre .1) in omega arith)
     (λ c. search needs)
     (λ c.
-    let c2 = c .before .before in
-    let c4 = c2 .before .before in
-    let c5 = c4 .before in
-    let c9 = c5 .before .before .before .before in
-    find-none _ _ _ _ (place-stop _ _ _ (c9 .args .f .now) (c9 .args .e) (c5 .loop .at) (c5 .loop .inv .2 .0) (c4 .loop-test .taken)
-    (c9 .pre .1) (c5 .loop .inv .2 .1) (sym (c2 .entry-at .ensures) ∙ c .enum-told .given .1)) ∙ c5 .loop .inv .2 .2)
+    let at-entry-at = c .before .before in
+    let at-loop-test = at-entry-at .before .before in
+    let at-loop = at-loop-test .before in
+    let start = at-loop .before .before .before .before in
+    let args = start .args in
+    find-none _ _ _ _ (place-stop _ _ _ (args .f .now) (args .e) (at-loop .loop .at) (at-loop .loop .inv .2 .0) (at-loop-test .loop-test .taken)
+    (start .pre .1) (at-loop .loop .inv .2 .1) (sym (at-entry-at .entry-at .ensures) ∙ c .enum-told .given .1)) ∙ at-loop .loop .inv .2 .2)
     (λ c. search needs)
     (λ c.
-    let c1 = c .before in
-    let c3 = c1 .before .before in
-    let c5 = c3 .before .before in
-    let c6 = c5 .before in
-    let c10 = c6 .before .before .before .before in
-    let b = place-bounds _ _ _ (c10 .args .f .now) (c10 .args .e) (c6 .loop .at) (c6 .loop .inv .2 .0) (c5 .loop-test .taken) (c10 .pre .1)
-    (c6 .loop .inv .2 .1) _ _ (sym (c3 .entry-at .ensures) ∙ c1 .s .given .1) in omega (
+    let at-s = c .before in
+    let at-entry-at = at-s .before .before in
+    let at-loop-test = at-entry-at .before .before in
+    let at-loop = at-loop-test .before in
+    let start = at-loop .before .before .before .before in
+    let args = start .args in
+    let b = place-bounds _ _ _ (args .f .now) (args .e) (at-loop .loop .at) (at-loop .loop .inv .2 .0) (at-loop-test .loop-test .taken)
+    (start .pre .1)
+    (at-loop .loop .inv .2 .1) _ _ (sym (at-entry-at .entry-at .ensures) ∙ at-s .s .given .1) in omega (
       arith,
       b .0,
       b .1,
@@ -70,13 +75,15 @@ find-spec =
       b .2 .3,
     ))
     (λ c.
-    let c1 = c .before in
-    let c3 = c1 .before .before in
-    let c5 = c3 .before .before in
-    let c6 = c5 .before in
-    let c10 = c6 .before .before .before .before in
-    let b = place-bounds _ _ _ (c10 .args .f .now) (c10 .args .e) (c6 .loop .at) (c6 .loop .inv .2 .0) (c5 .loop-test .taken) (c10 .pre .1)
-    (c6 .loop .inv .2 .1) _ _ (sym (c3 .entry-at .ensures) ∙ c1 .s .given .1) in omega (
+    let at-s = c .before in
+    let at-entry-at = at-s .before .before in
+    let at-loop-test = at-entry-at .before .before in
+    let at-loop = at-loop-test .before in
+    let start = at-loop .before .before .before .before in
+    let args = start .args in
+    let b = place-bounds _ _ _ (args .f .now) (args .e) (at-loop .loop .at) (at-loop .loop .inv .2 .0) (at-loop-test .loop-test .taken)
+    (start .pre .1)
+    (at-loop .loop .inv .2 .1) _ _ (sym (at-entry-at .entry-at .ensures) ∙ at-s .s .given .1) in omega (
       arith,
       b .0,
       b .1,
@@ -86,13 +93,15 @@ find-spec =
       b .2 .3,
     ))
     (λ c.
-    let c1 = c .before in
-    let c3 = c1 .before .before in
-    let c5 = c3 .before .before in
-    let c6 = c5 .before in
-    let c10 = c6 .before .before .before .before in
-    let b = place-bounds _ _ _ (c10 .args .f .now) (c10 .args .e) (c6 .loop .at) (c6 .loop .inv .2 .0) (c5 .loop-test .taken) (c10 .pre .1)
-    (c6 .loop .inv .2 .1) _ _ (sym (c3 .entry-at .ensures) ∙ c1 .s .given .1) in omega (
+    let at-s = c .before in
+    let at-entry-at = at-s .before .before in
+    let at-loop-test = at-entry-at .before .before in
+    let at-loop = at-loop-test .before in
+    let start = at-loop .before .before .before .before in
+    let args = start .args in
+    let b = place-bounds _ _ _ (args .f .now) (args .e) (at-loop .loop .at) (at-loop .loop .inv .2 .0) (at-loop-test .loop-test .taken)
+    (start .pre .1)
+    (at-loop .loop .inv .2 .1) _ _ (sym (at-entry-at .entry-at .ensures) ∙ at-s .s .given .1) in omega (
       arith,
       b .0,
       b .1,
@@ -103,23 +112,26 @@ find-spec =
     ))
     (λ c κs. search needs)
     (λ c.
-    let c1 = c .before in
-    let c4 = c1 .before .before .before in
-    let c6 = c4 .before .before in
-    let c8 = c6 .before .before in
-    let c9 = c8 .before in
-    let c13 = c9 .before .before .before .before in
-    find-here _ (c13 .args .f .now) _ _ _ _ (place-next _ _ _ (c13 .args .f .now) (c13 .args .e) (c9 .loop .at) (c9 .loop .inv .2 .0)
-    (c8 .loop-test .taken) (c13 .pre .1) (c9 .loop .inv .2 .1) _ _ (sym (c6 .entry-at .ensures) ∙ c4 .s .given .1)) (sym
-    (c1 .is-named .ensures) ∙ c .if1 .taken) ∙ c9 .loop .inv .2 .2)
+    let at-is-named = c .before in
+    let at-s = at-is-named .before .before .before in
+    let at-entry-at = at-s .before .before in
+    let at-loop-test = at-entry-at .before .before in
+    let at-loop = at-loop-test .before in
+    let start = at-loop .before .before .before .before in
+    let args = start .args in
+    find-here _ (args .f .now) _ _ _ _ (place-next _ _ _ (args .f .now) (args .e) (at-loop .loop .at) (at-loop .loop .inv .2 .0)
+    (at-loop-test .loop-test .taken) (start .pre .1) (at-loop .loop .inv .2 .1) _ _ (sym (at-entry-at .entry-at .ensures) ∙ at-s .s .given .1)) (sym
+    (at-is-named .is-named .ensures) ∙ c .if1 .taken) ∙ at-loop .loop .inv .2 .2)
     (λ c.
-    let c4 = c .before .before .before .before in
-    let c6 = c4 .before .before in
-    let c8 = c6 .before .before in
-    let c9 = c8 .before in
-    let c13 = c9 .before .before .before .before in
-    let b = place-bounds _ _ _ (c13 .args .f .now) (c13 .args .e) (c9 .loop .at) (c9 .loop .inv .2 .0) (c8 .loop-test .taken) (c13 .pre .1)
-    (c9 .loop .inv .2 .1) _ _ (sym (c6 .entry-at .ensures) ∙ c4 .s .given .1) in omega (
+    let at-s = c .before .before .before .before in
+    let at-entry-at = at-s .before .before in
+    let at-loop-test = at-entry-at .before .before in
+    let at-loop = at-loop-test .before in
+    let start = at-loop .before .before .before .before in
+    let args = start .args in
+    let b = place-bounds _ _ _ (args .f .now) (args .e) (at-loop .loop .at) (at-loop .loop .inv .2 .0) (at-loop-test .loop-test .taken)
+    (start .pre .1)
+    (at-loop .loop .inv .2 .1) _ _ (sym (at-entry-at .entry-at .ensures) ∙ at-s .s .given .1) in omega (
       arith,
       b .0,
       b .1,
@@ -129,13 +141,15 @@ find-spec =
       b .2 .3,
     ))
     (λ c.
-    let c4 = c .before .before .before .before in
-    let c6 = c4 .before .before in
-    let c8 = c6 .before .before in
-    let c9 = c8 .before in
-    let c13 = c9 .before .before .before .before in
-    let b = place-bounds _ _ _ (c13 .args .f .now) (c13 .args .e) (c9 .loop .at) (c9 .loop .inv .2 .0) (c8 .loop-test .taken) (c13 .pre .1)
-    (c9 .loop .inv .2 .1) _ _ (sym (c6 .entry-at .ensures) ∙ c4 .s .given .1) in omega (
+    let at-s = c .before .before .before .before in
+    let at-entry-at = at-s .before .before in
+    let at-loop-test = at-entry-at .before .before in
+    let at-loop = at-loop-test .before in
+    let start = at-loop .before .before .before .before in
+    let args = start .args in
+    let b = place-bounds _ _ _ (args .f .now) (args .e) (at-loop .loop .at) (at-loop .loop .inv .2 .0) (at-loop-test .loop-test .taken)
+    (start .pre .1)
+    (at-loop .loop .inv .2 .1) _ _ (sym (at-entry-at .entry-at .ensures) ∙ at-s .s .given .1) in omega (
       arith,
       b .0,
       b .1,
@@ -145,26 +159,31 @@ find-spec =
       b .2 .3,
     ))
     (λ c.
-    let c1 = c .before in
-    let c4 = c1 .before .before .before in
-    let c6 = c4 .before .before in
-    let c8 = c6 .before .before in
-    let c9 = c8 .before in
-    let c13 = c9 .before .before .before .before in
-    let b = place-bounds _ _ _ (c13 .args .f .now) (c13 .args .e) (c9 .loop .at) (c9 .loop .inv .2 .0) (c8 .loop-test .taken) (c13 .pre .1)
-    (c9 .loop .inv .2 .1) _ _ (sym (c6 .entry-at .ensures) ∙ c4 .s .given .1) in (
+    let at-is-named = c .before in
+    let at-s = at-is-named .before .before .before in
+    let at-entry-at = at-s .before .before in
+    let at-loop-test = at-entry-at .before .before in
+    let at-loop = at-loop-test .before in
+    let start = at-loop .before .before .before .before in
+    let args = start .args in
+    let b = place-bounds _ _ _ (args .f .now) (args .e) (at-loop .loop .at) (at-loop .loop .inv .2 .0) (at-loop-test .loop-test .taken)
+    (start .pre .1)
+    (at-loop .loop .inv .2 .1) _ _ (sym (at-entry-at .entry-at .ensures) ∙ at-s .s .given .1) in (
       omega (arith, b .1),
       b .1,
       (
-        c9 .loop .inv .2 .0 - 1,
+        at-loop .loop .inv .2 .0 - 1,
         omega (arith, b .0),
-        find-later _ (c13 .args .f .now) _ _ _ _ (place-next _ _ _
-            (c13 .args .f .now) (c13 .args .e) (c9 .loop .at) (c9 .loop .inv .2 .0) (c8 .loop-test .taken) (c13 .pre .1) (c9 .loop .inv .2 .1) _
-            _ (sym (c6 .entry-at .ensures) ∙ c4 .s .given .1)) (sym (c1 .is-named .ensures) ∙ c .if1 .left) ∙ c9 .loop .inv .2 .2,
+        find-later _ (args .f .now) _ _ _ _ (place-next _ _ _
+            (args .f .now) (args .e) (at-loop .loop .at) (at-loop .loop .inv .2 .0) (at-loop-test .loop-test .taken) (start .pre .1)
+            (at-loop .loop .inv .2 .1) _
+            _ (sym (at-entry-at .entry-at .ensures) ∙ at-s .s .given .1)) (sym (at-is-named .is-named .ensures) ∙ c .if1 .left) ∙
+            at-loop .loop .inv .2 .2,
       ),
     ))
     (λ c.
-    let c1 = c .before in
-    let c5 = c1 .before .before .before .before in
-    find-none _ _ _ _ (place-over _ _ _ (c5 .args .f .now) (c5 .args .e) (c1 .loop .at) (c1 .loop .inv .2 .0) (c .loop-test .left)) ∙
-    c1 .loop .inv .2 .2))
+    let at-loop = c .before in
+    let start = at-loop .before .before .before .before in
+    let args = start .args in
+    find-none _ _ _ _ (place-over _ _ _ (args .f .now) (args .e) (at-loop .loop .at) (at-loop .loop .inv .2 .0) (c .loop-test .left)) ∙
+    at-loop .loop .inv .2 .2))

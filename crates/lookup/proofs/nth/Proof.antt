@@ -27,13 +27,14 @@ nth-spec =
     Inv-loop
     μ-loop
     (λ c.
-    let c2 = c .before .before in (
+    let start = c .before .before in
+    let args = start .args in (
       search needs,
       search needs,
       (
-        length (part (c2 .args .a) (c2 .args .e) (c2 .args .f .now)),
-        le-of-eq (sym (length-part (c2 .args .a)
-            (c2 .args .e) (c2 .args .f .now) (c2 .pre .1))),
+        length (part (args .a) (args .e) (args .f .now)),
+        le-of-eq (sym (length-part (args .a)
+            (args .e) (args .f .now) (start .pre .1))),
         refl,
       ),
     ))
@@ -41,35 +42,41 @@ nth-spec =
     (λ c. search needs)
     (λ c. search needs)
     (λ c κs.
-    let c2 = c .before .before in
-    let c5 = c2 .before .before .before in
-    let w = length-part (c2 .loop .at) (c5 .args .e) (c5 .args .f .now) (c5 .pre .1) in omega arith)
+    let at-loop = c .before .before in
+    let start = at-loop .before .before .before in
+    let args = start .args in
+    let w = length-part (at-loop .loop .at) (args .e) (args .f .now) (start .pre .1) in omega arith)
     (λ c. search needs)
     (λ c.
-    let c2 = c .before .before in
-    let c4 = c2 .before .before in
-    let c5 = c4 .before in
-    let c8 = c5 .before .before .before in
-    nth-none _ _ (place-stop _ _ _ (c8 .args .f .now) (c8 .args .e) (c5 .loop .at) (c5 .loop .inv .2 .0) (c4 .loop-test .taken)
-    (c8 .pre .1) (c5 .loop .inv .2 .1) (sym (c2 .entry-at .ensures) ∙ c .enum-told .given .1)) ∙ c5 .loop .inv .2 .2)
+    let at-entry-at = c .before .before in
+    let at-loop-test = at-entry-at .before .before in
+    let at-loop = at-loop-test .before in
+    let start = at-loop .before .before .before in
+    let args = start .args in
+    nth-none _ _ (place-stop _ _ _ (args .f .now) (args .e) (at-loop .loop .at) (at-loop .loop .inv .2 .0) (at-loop-test .loop-test .taken)
+    (start .pre .1) (at-loop .loop .inv .2 .1) (sym (at-entry-at .entry-at .ensures) ∙ c .enum-told .given .1)) ∙ at-loop .loop .inv .2 .2)
     (λ c. search needs)
     (λ c.
-    let c2 = c .before .before in
-    let c4 = c2 .before .before in
-    let c6 = c4 .before .before in
-    let c7 = c6 .before in
-    let c10 = c7 .before .before .before in
-    nth-first _ _ _ _ (place-next _ _ _ (c10 .args .f .now) (c10 .args .e) (c7 .loop .at) (c7 .loop .inv .2 .0) (c6 .loop-test .taken)
-    (c10 .pre .1) (c7 .loop .inv .2 .1) _ _ (sym (c4 .entry-at .ensures) ∙ c2 .s .given .1)) (c .if1 .taken) ∙ c7 .loop .inv .2 .2)
+    let at-s = c .before .before in
+    let at-entry-at = at-s .before .before in
+    let at-loop-test = at-entry-at .before .before in
+    let at-loop = at-loop-test .before in
+    let start = at-loop .before .before .before in
+    let args = start .args in
+    nth-first _ _ _ _ (place-next _ _ _ (args .f .now) (args .e) (at-loop .loop .at) (at-loop .loop .inv .2 .0) (at-loop-test .loop-test .taken)
+    (start .pre .1) (at-loop .loop .inv .2 .1) _ _ (sym (at-entry-at .entry-at .ensures) ∙ at-s .s .given .1)) (c .if1 .taken) ∙
+    at-loop .loop .inv .2 .2)
     (λ c. omega (arith, c .if1 .left))
     (λ c.
-    let c2 = c .before .before in
-    let c4 = c2 .before .before in
-    let c6 = c4 .before .before in
-    let c7 = c6 .before in
-    let c10 = c7 .before .before .before in
-    let b = place-bounds _ _ _ (c10 .args .f .now) (c10 .args .e) (c7 .loop .at) (c7 .loop .inv .2 .0) (c6 .loop-test .taken) (c10 .pre .1)
-    (c7 .loop .inv .2 .1) _ _ (sym (c4 .entry-at .ensures) ∙ c2 .s .given .1) in omega (
+    let at-s = c .before .before in
+    let at-entry-at = at-s .before .before in
+    let at-loop-test = at-entry-at .before .before in
+    let at-loop = at-loop-test .before in
+    let start = at-loop .before .before .before in
+    let args = start .args in
+    let b = place-bounds _ _ _ (args .f .now) (args .e) (at-loop .loop .at) (at-loop .loop .inv .2 .0) (at-loop-test .loop-test .taken)
+    (start .pre .1)
+    (at-loop .loop .inv .2 .1) _ _ (sym (at-entry-at .entry-at .ensures) ∙ at-s .s .given .1) in omega (
       arith,
       b .0,
       b .1,
@@ -79,13 +86,15 @@ nth-spec =
       b .2 .3,
     ))
     (λ c.
-    let c2 = c .before .before in
-    let c4 = c2 .before .before in
-    let c6 = c4 .before .before in
-    let c7 = c6 .before in
-    let c10 = c7 .before .before .before in
-    let b = place-bounds _ _ _ (c10 .args .f .now) (c10 .args .e) (c7 .loop .at) (c7 .loop .inv .2 .0) (c6 .loop-test .taken) (c10 .pre .1)
-    (c7 .loop .inv .2 .1) _ _ (sym (c4 .entry-at .ensures) ∙ c2 .s .given .1) in omega (
+    let at-s = c .before .before in
+    let at-entry-at = at-s .before .before in
+    let at-loop-test = at-entry-at .before .before in
+    let at-loop = at-loop-test .before in
+    let start = at-loop .before .before .before in
+    let args = start .args in
+    let b = place-bounds _ _ _ (args .f .now) (args .e) (at-loop .loop .at) (at-loop .loop .inv .2 .0) (at-loop-test .loop-test .taken)
+    (start .pre .1)
+    (at-loop .loop .inv .2 .1) _ _ (sym (at-entry-at .entry-at .ensures) ∙ at-s .s .given .1) in omega (
       arith,
       b .0,
       b .1,
@@ -95,25 +104,29 @@ nth-spec =
       b .2 .3,
     ))
     (λ c.
-    let c2 = c .before .before in
-    let c4 = c2 .before .before in
-    let c6 = c4 .before .before in
-    let c7 = c6 .before in
-    let c10 = c7 .before .before .before in
-    let b = place-bounds _ _ _ (c10 .args .f .now) (c10 .args .e) (c7 .loop .at) (c7 .loop .inv .2 .0) (c6 .loop-test .taken) (c10 .pre .1)
-    (c7 .loop .inv .2 .1) _ _ (sym (c4 .entry-at .ensures) ∙ c2 .s .given .1) in (
+    let at-s = c .before .before in
+    let at-entry-at = at-s .before .before in
+    let at-loop-test = at-entry-at .before .before in
+    let at-loop = at-loop-test .before in
+    let start = at-loop .before .before .before in
+    let args = start .args in
+    let b = place-bounds _ _ _ (args .f .now) (args .e) (at-loop .loop .at) (at-loop .loop .inv .2 .0) (at-loop-test .loop-test .taken)
+    (start .pre .1)
+    (at-loop .loop .inv .2 .1) _ _ (sym (at-entry-at .entry-at .ensures) ∙ at-s .s .given .1) in (
       omega (arith, b .1),
       b .1,
       (
-        c7 .loop .inv .2 .0 - 1,
+        at-loop .loop .inv .2 .0 - 1,
         omega (arith, b .0),
-        nth-later _ _ _ _ (place-next _ _ _ (c10 .args .f .now)
-            (c10 .args .e) (c7 .loop .at) (c7 .loop .inv .2 .0) (c6 .loop-test .taken) (c10 .pre .1) (c7 .loop .inv .2 .1) _ _ (sym
-            (c4 .entry-at .ensures) ∙ c2 .s .given .1)) (c .if1 .left) ∙ c7 .loop .inv .2 .2,
+        nth-later _ _ _ _ (place-next _ _ _ (args .f .now)
+            (args .e) (at-loop .loop .at) (at-loop .loop .inv .2 .0) (at-loop-test .loop-test .taken) (start .pre .1) (at-loop .loop .inv .2 .1) _ _
+            (sym
+            (at-entry-at .entry-at .ensures) ∙ at-s .s .given .1)) (c .if1 .left) ∙ at-loop .loop .inv .2 .2,
       ),
     ))
     (λ c.
-    let c1 = c .before in
-    let c4 = c1 .before .before .before in
-    nth-none _ _ (place-over _ _ _ (c4 .args .f .now) (c4 .args .e) (c1 .loop .at) (c1 .loop .inv .2 .0) (c .loop-test .left)) ∙
-    c1 .loop .inv .2 .2))
+    let at-loop = c .before in
+    let start = at-loop .before .before .before in
+    let args = start .args in
+    nth-none _ _ (place-over _ _ _ (args .f .now) (args .e) (at-loop .loop .at) (at-loop .loop .inv .2 .0) (c .loop-test .left)) ∙
+    at-loop .loop .inv .2 .2))

@@ -20,4 +20,7 @@ file-block-spec =
     (λ c κs.
     let k = checked _ _ _ (sym (c .before .before .before .check .ensures) ∙ c .before .enum-told .given .1) in
     omega (arith, k .size, k .least))
-    (λ c. rw (sym (c .before .before .before .before .check .ensures) ∙ c .before .before .enum-told .given .1, c .file-block .ensures .0)))
+    (λ c.
+    let at-enum-told = c .before .before in
+    let at-check = at-enum-told .before .before in
+    rw (sym (at-check .check .ensures) ∙ at-enum-told .enum-told .given .1, c .file-block .ensures .0)))

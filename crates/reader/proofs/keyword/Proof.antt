@@ -29,8 +29,9 @@ keyword-spec =
     rw (sym (handed (λ (z : ℤ). findAnswer (args .how) (args .buffer .now) (args .n) z (args .key .now)) (args .part) (start .fits .part .sfits)
     (at-find .find .ensures)) ∙ c .enum-told2 .given .1))
     (λ c.
-    let at-find = c .before .before .before in
+    let at-s = c .before in
+    let at-find = at-s .before .before in
     let start = at-find .before .before .before in
     let args = start .args in
     rw (sym (handed (λ (z : ℤ). findAnswer (args .how) (args .buffer .now) (args .n) z (args .key .now)) (args .part) (start .fits .part .sfits)
-    (at-find .find .ensures)) ∙ c .before .s .given .1)))
+    (at-find .find .ensures)) ∙ at-s .s .given .1)))

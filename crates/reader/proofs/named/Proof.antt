@@ -9,8 +9,19 @@ named-spec =
     tie.close
     (tie.spec
     (λ c. whole (c .before .args .part) _ (c .before .fits .part .sfits) (c .if1 .taken))
-    (λ c. below (c .before .before .args .part) _ (c .before .before .fits .part .sfits) (c .before .if1 .left) (c .if2 .taken))
-    (λ c. casts (c .before .before .args .part) (c .before .before .fits .part .sfits) (c .if2 .left))
+    (λ c.
+    let at-if1 = c .before in
+    let start = at-if1 .before in
+    below (start .args .part) _ (start .fits .part .sfits) (at-if1 .if1 .left) (c .if2 .taken))
+    (λ c.
+    let start = c .before .before in
+    casts (start .args .part) (start .fits .part .sfits) (c .if2 .left))
     (λ c. search needs)
-    (λ c. one (c .before .before .before .args .part) _ (c .before .before .before .fits .part .sfits) (c .before .if2 .left) (c .if3 .taken))
-    (λ c. past (c .before .before .before .args .part) _ (c .before .before .before .fits .part .sfits) (c .before .if2 .left) (c .if3 .left)))
+    (λ c.
+    let at-if2 = c .before in
+    let start = at-if2 .before .before in
+    one (start .args .part) _ (start .fits .part .sfits) (at-if2 .if2 .left) (c .if3 .taken))
+    (λ c.
+    let at-if2 = c .before in
+    let start = at-if2 .before .before in
+    past (start .args .part) _ (start .fits .part .sfits) (at-if2 .if2 .left) (c .if3 .left)))

@@ -19,21 +19,21 @@ number-spec =
     (λ c κs. search needs)
     (λ c. search needs)
     (λ c.
-    let at-find = c .before .before .before in
+    let at-s = c .before in
+    let at-find = at-s .before .before in
     let start = at-find .before .before .before in
     let args = start .args in
     rw (sym (handed (λ (z : ℤ). findAnswer (args .how) (args .buffer .now) (args .n) z (args .key .now)) (args .part) (start .fits .part .sfits)
-    (at-find .find .ensures)) ∙ c .before .s .given .1))
+    (at-find .find .ensures)) ∙ at-s .s .given .1))
     (λ c κs. rw (c .before .find .ensures) (find-lent _ _ _ _ _))
     (λ c κs. search needs)
     (λ c.
-    let c1 = c .before in
-    let c2 = c1 .before in
-    let at-match = c2 in
+    let at-value-at = c .before in
+    let at-match = at-value-at .before in
     let at-find = at-match .before in
     let start = at-find .before .before .before in
     let args = start .args in
     c .number .ensures ∙ value-made _ number.Refused numberIn _ _ _ _ _ _ (handed (λ (z : ℤ). findAnswer (args .how)
     (args .buffer .now) (args .n) z (args .key .now))
-    (args .part) (start .fits .part .sfits) (at-find .find .ensures)) (c1 .value-at .ensures .0)
+    (args .part) (start .fits .part .sfits) (at-find .find .ensures)) (at-value-at .value-at .ensures .0)
     (answered number.Refused (at-find .find .result) (at-match .match .keys2))))

@@ -22,32 +22,35 @@ open-area-spec =
     (λ c. search needs)
     (λ c. sym (checked _ _ _ (sym (c .before .before .before .check .ensures) ∙ c .before .enum-told .given .1) .size))
     (λ c κs.
-    let at-check = c .before .before .before in
-    let k = checked _ _ _ (sym (at-check .check .ensures) ∙ c .before .enum-told .given .1) in
+    let k = checked _ _ _ (sym (c .before .before .before .check .ensures) ∙ c .before .enum-told .given .1) in
     (omega (arith, k .size, k .least), k .image))
     (λ c. search needs)
     (λ c κs. search needs)
     (λ c. search needs)
     (λ c.
-    let at-area-of = c .before .before .before in
+    let at-enum-told2 = c .before in
+    let at-area-of = at-enum-told2 .before .before in
     let at-enum-told = at-area-of .before .before in
     let at-check = at-enum-told .before .before in
     let start = at-check .before .before in
     let args = start .args in
     rw (
       (sym (at-check .check .ensures) ∙ at-enum-told .enum-told .given .1),
-      (sym (handed (λ (z : ℤ). areaAsked (take (args .n) (args .buffer .now)) z) (args .part) (start .fits .part .sfits) (at-area-of .area-of .ensures))
-          ∙ c .before .enum-told2 .given .1),
+      (sym (handed (λ (z : ℤ). areaAsked (take (args .n) (args .buffer .now)) z) (args .part) (start .fits .part .sfits)
+          (at-area-of .area-of .ensures))
+          ∙ at-enum-told2 .enum-told2 .given .1),
       c .no-trace .ensures,
     ))
     (λ c.
-    let at-area-of = c .before .before .before in
+    let at-w = c .before in
+    let at-area-of = at-w .before .before in
     let at-enum-told = at-area-of .before .before in
     let at-check = at-enum-told .before .before in
     let start = at-check .before .before in
     let args = start .args in
     rw (
       (sym (at-check .check .ensures) ∙ at-enum-told .enum-told .given .1),
-      (sym (handed (λ (z : ℤ). areaAsked (take (args .n) (args .buffer .now)) z) (args .part) (start .fits .part .sfits) (at-area-of .area-of .ensures))
-          ∙ c .before .w .given .1),
+      (sym (handed (λ (z : ℤ). areaAsked (take (args .n) (args .buffer .now)) z) (args .part) (start .fits .part .sfits)
+          (at-area-of .area-of .ensures))
+          ∙ at-w .w .given .1),
     )))

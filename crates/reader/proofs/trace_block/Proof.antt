@@ -21,7 +21,9 @@ trace-block-spec =
     (λ c. rw (sym (c .before .before .before .check .ensures) ∙ c .before .v .given .1))
     (λ c. search needs)
     (λ c. sym (checked _ _ _ (sym (c .before .before .before .check .ensures) ∙ c .before .enum-told .given .1) .size))
-    (λ c κs. let k = checked _ _ _ (sym (c .before .before .before .check .ensures) ∙ c .before .enum-told .given .1) in omega (arith, k .size, k .least))
+    (λ c κs.
+    let k = checked _ _ _ (sym (c .before .before .before .check .ensures) ∙ c .before .enum-told .given .1) in
+    omega (arith, k .size, k .least))
     (λ c. search needs)
     (λ c κs.
     let at-enum-told = c .before .before .before .before .before in
@@ -41,7 +43,8 @@ trace-block-spec =
     (λ c. search needs)
     (λ c κs. search needs)
     (λ c.
-    let at-w = c .before .before .before in
+    let at-is-high = c .before in
+    let at-w = at-is-high .before .before in
     let at-whose-in = at-w .before .before in
     let at-enum-told = at-whose-in .before .before in
     let at-check = at-enum-told .before .before in
@@ -52,10 +55,11 @@ trace-block-spec =
       (sym (handed (λ (z : ℤ). whoseOf z (countOf (take (args .n) (args .buffer .now)))) (args .trace) (start .fits .trace .sfits)
           (at-whose-in .whose-in .ensures)) ∙ at-w .w .given .1),
       c .trace-block .ensures,
-      c .before .is-high .ensures,
+      at-is-high .is-high .ensures,
     ))
     (λ c.
-    let at-whose-in = c .before .before .before in
+    let at-enum-told2 = c .before in
+    let at-whose-in = at-enum-told2 .before .before in
     let at-enum-told = at-whose-in .before .before in
     let at-check = at-enum-told .before .before in
     let start = at-check .before .before in
@@ -63,11 +67,12 @@ trace-block-spec =
     rw (
       (sym (at-check .check .ensures) ∙ at-enum-told .enum-told .given .1),
       (sym (handed (λ (z : ℤ). whoseOf z (countOf (take (args .n) (args .buffer .now)))) (args .trace) (start .fits .trace .sfits)
-          (at-whose-in .whose-in .ensures)) ∙ c .before .enum-told2 .given .1),
+          (at-whose-in .whose-in .ensures)) ∙ at-enum-told2 .enum-told2 .given .1),
       c .no-trace .ensures,
     ))
     (λ c.
-    let at-whose-in = c .before .before .before in
+    let at-enum-told3 = c .before in
+    let at-whose-in = at-enum-told3 .before .before in
     let at-enum-told = at-whose-in .before .before in
     let at-check = at-enum-told .before .before in
     let start = at-check .before .before in
@@ -75,6 +80,6 @@ trace-block-spec =
     rw (
       (sym (at-check .check .ensures) ∙ at-enum-told .enum-told .given .1),
       (sym (handed (λ (z : ℤ). whoseOf z (countOf (take (args .n) (args .buffer .now)))) (args .trace) (start .fits .trace .sfits)
-          (at-whose-in .whose-in .ensures)) ∙ c .before .enum-told3 .given .1),
+          (at-whose-in .whose-in .ensures)) ∙ at-enum-told3 .enum-told3 .given .1),
       c .no-trace2 .ensures,
     )))

@@ -15,8 +15,9 @@ value-spec =
     (λ c κs. search needs)
     (λ c κs. rw (c .find .ensures) (find-lent _ _ _ _ _))
     (λ c.
-    let s = c .before .before .before .before in
-    let a = s .args in
-    let f = c .before .find .ensures in
-    let e = handed (λ (z : ℤ). findAnswer (a .how) (a .buffer .now) (a .n) z (a .key .now)) (a .part) (s .fits .part .sfits) f in
+    let at-find = c .before in
+    let start = at-find .before .before .before in
+    let a = start .args in
+    let f = at-find .find .ensures in
+    let e = handed (λ (z : ℤ). findAnswer (a .how) (a .buffer .now) (a .n) z (a .key .now)) (a .part) (start .fits .part .sfits) f in
     (c .value-at .ensures .0 ∙ value-told _ _ _ _ _ _ e, span-told _ _ _ _ _ _ e (c .value-at .ensures .1))))

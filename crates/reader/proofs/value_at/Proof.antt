@@ -13,13 +13,19 @@ value-at-spec =
     (tie.spec
     (λ c. search needs)
     (λ c.
-    let b = held _ (c .before .before .before .args .s) _ (c .before .s .given .1) (c .before .before .before .pre) in
+    let at-s = c .before in
+    let start = at-s .before .before in
+    let b = held _ (start .args .s) _ (at-s .s .given .1) (start .pre) in
     omega (arith, b .0, b .1, b .2, b .3))
     (λ c.
-    let b = held _ (c .before .before .before .args .s) _ (c .before .s .given .1) (c .before .before .before .pre) in
+    let at-s = c .before in
+    let start = at-s .before .before in
+    let b = held _ (start .args .s) _ (at-s .s .given .1) (start .pre) in
     omega (arith, b .0, b .1, b .2, b .3))
     (λ c.
-    let b = held _ (c .before .before .before .args .s) _ (c .before .s .given .1) (c .before .before .before .pre) in
+    let at-s = c .before in
+    let start = at-s .before .before in
+    let b = held _ (start .args .s) _ (at-s .s .given .1) (start .pre) in
     omega (arith, b .0, b .1, b .2, b .3))
     (λ c. search needs)
     (λ c. search needs)

@@ -17,4 +17,10 @@ whose-in-spec =
     (λ c κs. search needs)
     (λ c. search needs)
     (λ c κs. search needs)
-    (λ c. handed (λ (z : ℤ). whoseOf z (countOf (c .before .before .before .before .args .f .now))) (c .before .before .before .before .args .part) (c .before .before .before .before .fits .part .sfits) (c .named .ensures ∙ rw (count-read _ _ (c .before .before .is-high .ensures) _ (c .before .word2 .ensures .0)))))
+    (λ c.
+    let at-word2 = c .before in
+    let at-is-high = at-word2 .before in
+    let start = at-is-high .before .before in
+    let args = start .args in
+    handed (λ (z : ℤ). whoseOf z (countOf (args .f .now))) (args .part) (start .fits .part .sfits)
+    (c .named .ensures ∙ rw (count-read _ _ (at-is-high .is-high .ensures) _ (at-word2 .word2 .ensures .0)))))

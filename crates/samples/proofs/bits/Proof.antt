@@ -34,11 +34,12 @@ bits-spec =
     (at-trace-block .trace-block .ensures)) ∙ at-a2 .a2 .given .1) in
     (omega (arith, h .known .size, h .known .least), told-fits _ _ _ _ _ h))
     (λ c.
-    let at-trace-block = c .before .before .before in
+    let at-a = c .before in
+    let at-trace-block = at-a .before .before in
     let start = at-trace-block .before .before .before .before in
     let args = start .args in
     bits-bad _ _ _ _ _ (sym (handed (λ (z : ℤ). traceAnswer (args .how) (args .buffer .now) (args .n) z) (args .trace) (start .fits .trace .sfits)
-    (at-trace-block .trace-block .ensures)) ∙ c .before .a .given .1) _ _)
+    (at-trace-block .trace-block .ensures)) ∙ at-a .a .given .1) _ _)
     (λ c. search needs)
     (λ c. search needs)
     (λ c.

@@ -34,17 +34,19 @@ integers-spec =
     (at-trace-block .trace-block .ensures)) ∙ at-a2 .a2 .given .1) in
     (omega (arith, h .known .size, h .known .least), told-fits _ _ _ _ _ h))
     (λ c.
-    let at-trace-block = c .before .before .before in
+    let at-a = c .before in
+    let at-trace-block = at-a .before .before in
     let start = at-trace-block .before .before in
     let args = start .args in
     integers-bad _ _ _ _ _ (sym (handed (λ (z : ℤ). traceAnswer (args .how) (args .buffer .now) (args .n) z) (args .trace) (start .fits .trace .sfits)
-    (at-trace-block .trace-block .ensures)) ∙ c .before .a .given .1) _)
+    (at-trace-block .trace-block .ensures)) ∙ at-a .a .given .1) _)
     (λ c. search needs)
     (λ c.
-    let at-a2 = c .before .before .before .before .before in
+    let at-integers-of = c .before in
+    let at-a2 = at-integers-of .before .before .before .before in
     let at-trace-block = at-a2 .before .before in
     let start = at-trace-block .before .before in
     let args = start .args in
     let h = told _ _ _ _ _ (sym (handed (λ (z : ℤ). traceAnswer (args .how) (args .buffer .now) (args .n) z) (args .trace) (start .fits .trace .sfits)
     (at-trace-block .trace-block .ensures)) ∙ at-a2 .a2 .given .1) in
-    (c .before .integers-of .ensures .0 ∙ integers-answer _ _ _ _ _ h _, c .before .integers-of .ensures .1 ∙ integers-left _ _ _ _ _ h _)))
+    (at-integers-of .integers-of .ensures .0 ∙ integers-answer _ _ _ _ _ h _, at-integers-of .integers-of .ensures .1 ∙ integers-left _ _ _ _ _ h _)))

@@ -15,10 +15,11 @@ integers-of-spec =
     (λ c. rw (c .refusing .ensures) (integers-kind _ _ _ (sym (c .before .before .is-integers .ensures) ∙ not-true _ (c .before .if1 .taken))))
     (λ c κs. search needs)
     (λ c.
-    let c1 = c .before in
-    let c2 = c1 .before in
-    let c3 = c2 .before in
-    rw (c .refusing2 .ensures) (integers-long _ _ _ (sym (c3 .is-integers .ensures) ∙ not-false _ (c2 .if1 .left)) (c1 .if2 .taken)))
+    let at-if2 = c .before in
+    let at-if1 = at-if2 .before in
+    let at-is-integers = at-if1 .before in
+    rw (c .refusing2 .ensures) (integers-long _ _ _ (sym (at-is-integers .is-integers .ensures) ∙ not-false _ (at-if1 .if1 .left))
+    (at-if2 .if2 .taken)))
     (λ c. search needs)
     (λ c. search needs)
     (λ c. search needs)
@@ -29,11 +30,11 @@ integers-of-spec =
     (λ c κs. search needs)
     (λ c. search needs)
     (λ c.
-    let c1 = c .before in
-    let c3 = c1 .before .before in
-    let c5 = c3 .before .before in
-    let c6 = c5 .before in
-    let c7 = c6 .before in
-    let c9 = c7 .before .before in
-    integers-done _ _ _ _ _ (sym (c7 .is-integers .ensures) ∙ not-false _ (c6 .if1 .left)) (c5 .if2 .left) (c9 .pre .1)
-    (c3 .is-high .ensures) (c1 .read-integers .ensures .1)))
+    let at-read-integers = c .before in
+    let at-is-high = at-read-integers .before .before in
+    let at-if2 = at-is-high .before .before in
+    let at-if1 = at-if2 .before in
+    let at-is-integers = at-if1 .before in
+    let start = at-is-integers .before .before in
+    integers-done _ _ _ _ _ (sym (at-is-integers .is-integers .ensures) ∙ not-false _ (at-if1 .if1 .left)) (at-if2 .if2 .left) (start .pre .1)
+    (at-is-high .is-high .ensures) (at-read-integers .read-integers .ensures .1)))

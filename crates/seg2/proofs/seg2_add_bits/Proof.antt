@@ -12,4 +12,6 @@ seg2-add-bits-spec =
     (λ c κs. search needs)
     (λ c κs. search needs)
     (λ c. search needs)
-    (λ c. (c .length-told .ensures ∙ ap asLength (c .before .before .before .add-bits .ensures .0), c .before .before .before .add-bits .ensures .1)))
+    (λ c.
+    let at-add-bits = c .before .before .before in
+    (c .length-told .ensures ∙ ap asLength (at-add-bits .add-bits .ensures .0), at-add-bits .add-bits .ensures .1)))

@@ -13,5 +13,5 @@ seg2-add-integers-spec =
     (λ c κs. search needs)
     (λ c. search needs)
     (λ c.
-    let c3 = c .before .before .before in
-    (c .length-told .ensures ∙ ap asLength (c3 .add-integers .ensures .0), c3 .add-integers .ensures .1)))
+    let at-add-integers = c .before .before .before in
+    (c .length-told .ensures ∙ ap asLength (at-add-integers .add-integers .ensures .0), at-add-integers .add-integers .ensures .1)))

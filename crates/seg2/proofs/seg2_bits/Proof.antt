@@ -16,12 +16,12 @@ seg2-bits-spec =
     (λ c. search needs)
     (λ c. search needs)
     (λ c.
-    let c5 = c .before .before .before .before .before in
-    let c11 = c5 .before .before .before .before .before .before in (
-      c .told .ensures ∙ ap asVerdict (rw (toZ-ofZ {w = w32} (c11 .fits .trace)) at (c5 .bits .ensures .0)),
+    let at-bits = c .before .before .before .before .before in
+    let start = at-bits .before .before .before .before .before .before in (
+      c .told .ensures ∙ ap asVerdict (rw (toZ-ofZ {w = w32} (start .fits .trace)) at (at-bits .bits .ensures .0)),
       (
         rw (toZ-ofZ {w = w32}
-            (c11 .fits .trace)) at (c5 .bits .ensures .1 .0),
-        rw (toZ-ofZ {w = w32} (c11 .fits .trace)) at (c5 .bits .ensures .1 .1),
+            (start .fits .trace)) at (at-bits .bits .ensures .1 .0),
+        rw (toZ-ofZ {w = w32} (start .fits .trace)) at (at-bits .bits .ensures .1 .1),
       ),
     )))

@@ -13,4 +13,5 @@ seg2-double-spec =
     (tie.spec
     (λ c κs. search needs)
     (λ c κs. search needs)
-    (λ c. c .double-told .ensures ∙ ap asDouble (rw (toZ-ofZ {w = w32} (c .before .before .before .before .fits .part)) at (c .before .double .ensures))))
+    (λ c. c .double-told .ensures ∙ ap asDouble (rw (toZ-ofZ {w = w32} (c .before .before .before .before .fits .part)) at
+    (c .before .double .ensures))))

@@ -15,9 +15,9 @@ seg2-integers-spec =
     (λ c κs. search needs)
     (λ c. search needs)
     (λ c.
-    let c2 = c .before .before in
-    let c5 = c2 .before .before .before in (
-      c .told .ensures ∙ ap asVerdict (rw (toZ-ofZ {w = w32} (c5 .fits .trace)) at (c2 .integers .ensures .0)),
+    let at-integers = c .before .before in
+    let start = at-integers .before .before .before in (
+      c .told .ensures ∙ ap asVerdict (rw (toZ-ofZ {w = w32} (start .fits .trace)) at (at-integers .integers .ensures .0)),
       rw (toZ-ofZ {w = w32}
-          (c5 .fits .trace)) at (c2 .integers .ensures .1),
+          (start .fits .trace)) at (at-integers .integers .ensures .1),
     )))

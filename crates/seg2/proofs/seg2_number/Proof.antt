@@ -13,4 +13,5 @@ seg2-number-spec =
     (tie.spec
     (λ c κs. search needs)
     (λ c κs. search needs)
-    (λ c. c .number-told .ensures ∙ ap asNumber (rw (toZ-ofZ {w = w32} (c .before .before .before .before .fits .part)) at (c .before .number .ensures))))
+    (λ c. c .number-told .ensures ∙ ap asNumber (rw (toZ-ofZ {w = w32} (c .before .before .before .before .fits .part)) at
+    (c .before .number .ensures))))

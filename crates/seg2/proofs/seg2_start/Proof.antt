@@ -12,4 +12,6 @@ seg2-start-spec =
     (λ c κs. search needs)
     (λ c κs. search needs)
     (λ c. search needs)
-    (λ c. (c .length-told .ensures ∙ ap asLength (c .before .before .before .start .ensures .0), c .before .before .before .start .ensures .1)))
+    (λ c.
+    let at-start = c .before .before .before in
+    (c .length-told .ensures ∙ ap asLength (at-start .start .ensures .0), at-start .start .ensures .1)))

@@ -12,7 +12,16 @@ add-spec =
     tie.close
     (tie.spec
     (λ c. (sym (capped-over (c .before .args .n + c .before .args .m) (omega arith)), search needs))
-    (λ c. (sym (capped-over (c .before .before .args .n + c .before .before .args .m) (omega arith)), search needs))
+    (λ c.
+    let start = c .before .before in
+    let args = start .args in
+    (sym (capped-over (args .n + args .m) (omega arith)), search needs))
     (λ c. search needs)
-    (λ c. (sym (capped-over (c .before .before .before .args .n + c .before .before .before .args .m) (omega arith)), search needs))
-    (λ c. (sym (capped-le (c .before .before .before .args .n + c .before .before .before .args .m) (omega arith)), search needs)))
+    (λ c.
+    let start = c .before .before .before in
+    let args = start .args in
+    (sym (capped-over (args .n + args .m) (omega arith)), search needs))
+    (λ c.
+    let start = c .before .before .before in
+    let args = start .args in
+    (sym (capped-le (args .n + args .m) (omega arith)), search needs)))

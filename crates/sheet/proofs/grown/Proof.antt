@@ -12,9 +12,27 @@ grown-spec =
     (tie.spec
     (λ c κs. search needs)
     (λ c κs. search needs)
-    (λ c. (grown-note (c .before .before .before .before .before .args .n) (length (c .before .before .before .before .before .args .u .now)) (c .before .before .before .before .before .args .v) _ _ (c .before .add .ensures .0) (c .add2 .ensures .0) ∙ rw (c .before .before .if1 .taken), search needs))
+    (λ c.
+    let at-add = c .before in
+    let at-if1 = at-add .before in
+    let start = at-if1 .before .before .before in
+    let args = start .args in (
+      grown-note (args .n) (length (args .u .now)) (args .v) _ _ (at-add .add .ensures .0) (c .add2 .ensures .0) ∙ rw (at-if1 .if1 .taken),
+      search
+          needs,
+    ))
     (λ c κs. search needs)
     (λ c κs. search needs)
     (λ c κs. search needs)
     (λ c κs. search needs)
-    (λ c. (grown-string (c .before .before .before .before .before .before .before .args .n) (c .before .before .before .before .before .before .before .args .w) (c .before .before .before .before .before .before .before .args .v) (length (c .before .before .before .before .before .before .before .args .t .now)) _ _ _ _ (c .before .before .before .add3 .ensures .0) (c .before .before .add4 .ensures .0) (c .before .add5 .ensures .0) (c .add6 .ensures .0) ∙ rw (c .before .before .before .before .if1 .left), search needs)))
+    (λ c.
+    let at-add5 = c .before in
+    let at-add4 = at-add5 .before in
+    let at-add3 = at-add4 .before in
+    let at-if1 = at-add3 .before in
+    let start = at-if1 .before .before .before in
+    let args = start .args in (
+      grown-string (args .n) (args .w) (args .v) (length (args .t .now)) _ _ _ _ (at-add3 .add3 .ensures .0) (at-add4 .add4 .ensures .0)
+          (at-add5 .add5 .ensures .0) (c .add6 .ensures .0) ∙ rw (at-if1 .if1 .left),
+      search needs,
+    )))

@@ -23,11 +23,49 @@ judge-spec =
     (λ c. search needs)
     (λ c. search needs)
     (λ c κs. search needs)
-    (λ c. judged-value _ _ _ (c .before .before .before .before .before .before .before .key-run .ensures .0) (omega arith) (c .before .before .before .if3 .left) ((rw part-rest at (sym (c .before .all-plain .ensures))) ∙ not-true _ (c .if4 .taken)))
+    (λ c.
+    let at-all = c .before in
+    let at-if3 = at-all .before .before in
+    let at-key-run = at-if3 .before .before .before .before in
+    judged-value _ _ _ (at-key-run .key-run .ensures .0) (omega arith) (at-if3 .if3 .left)
+    ((rw part-rest at (sym (at-all .all .ensures))) ∙ not-true _ (c .if4 .taken)))
     (λ c. sym (length-take-le _ _ (c .before .before .before .before .before .before .before .before .key-run .ensures .1)))
     (λ c κs. search needs)
     (λ c κs. search needs)
-    (λ c. judged-space _ _ _ (c .before .before .before .before .before .before .before .before .before .before .before .key-run .ensures .0) (omega arith) (c .before .before .before .before .before .before .before .if3 .left) ((rw part-rest at (sym (c .before .before .before .before .before .all-plain .ensures))) ∙ not-false _ (c .before .before .before .before .if4 .left)) (rw (c .before .is-spaced .ensures, c .before .before .is-continued .ensures, part-rest) at (c .if5 .taken)))
+    (λ c.
+    let at-is-spaced = c .before in
+    let at-is-continued = at-is-spaced .before in
+    let at-if4 = at-is-continued .before .before in
+    let at-all = at-if4 .before in
+    let at-if3 = at-all .before .before in
+    let at-key-run = at-if3 .before .before .before .before in
+    judged-space _ _ _ (at-key-run .key-run .ensures .0) (omega arith) (at-if3 .if3 .left)
+    ((rw part-rest at (sym (at-all .all .ensures))) ∙ not-false _ (at-if4 .if4 .left))
+    (rw (at-is-spaced .is-spaced .ensures, at-is-continued .is-continued .ensures, part-rest) at (c .if5 .taken)))
     (λ c κs. search needs)
-    (λ c. judged-order _ _ _ (c .before .before .before .before .before .before .before .before .before .before .before .before .before .key-run .ensures .0) (omega arith) (c .before .before .before .before .before .before .before .before .before .if3 .left) ((rw part-rest at (sym (c .before .before .before .before .before .before .before .all-plain .ensures))) ∙ not-false _ (c .before .before .before .before .before .before .if4 .left)) (rw (c .before .before .before .is-spaced .ensures, c .before .before .before .before .is-continued .ensures, part-rest) at (c .before .before .if5 .left)) (not-true _ (rw (c .before .before .before .before .is-continued .ensures, c .before .rising .ensures) at (c .if6 .taken))))
-    (λ c. judged-good _ _ _ (c .before .before .before .before .before .before .before .before .before .before .before .before .before .key-run .ensures .0) (omega arith) (c .before .before .before .before .before .before .before .before .before .if3 .left) ((rw part-rest at (sym (c .before .before .before .before .before .before .before .all-plain .ensures))) ∙ not-false _ (c .before .before .before .before .before .before .if4 .left)) (rw (c .before .before .before .is-spaced .ensures, c .before .before .before .before .is-continued .ensures, part-rest) at (c .before .before .if5 .left)) (not-false _ (rw (c .before .before .before .before .is-continued .ensures, c .before .rising .ensures) at (c .if6 .left)))))
+    (λ c.
+    let at-rising = c .before in
+    let at-if5 = at-rising .before in
+    let at-is-spaced = at-if5 .before in
+    let at-is-continued = at-is-spaced .before in
+    let at-if4 = at-is-continued .before .before in
+    let at-all = at-if4 .before in
+    let at-if3 = at-all .before .before in
+    let at-key-run = at-if3 .before .before .before .before in
+    judged-order _ _ _ (at-key-run .key-run .ensures .0) (omega arith) (at-if3 .if3 .left)
+    ((rw part-rest at (sym (at-all .all .ensures))) ∙ not-false _ (at-if4 .if4 .left))
+    (rw (at-is-spaced .is-spaced .ensures, at-is-continued .is-continued .ensures, part-rest) at (at-if5 .if5 .left))
+    (not-true _ (rw (at-is-continued .is-continued .ensures, at-rising .rising .ensures) at (c .if6 .taken))))
+    (λ c.
+    let at-rising = c .before in
+    let at-if5 = at-rising .before in
+    let at-is-spaced = at-if5 .before in
+    let at-is-continued = at-is-spaced .before in
+    let at-if4 = at-is-continued .before .before in
+    let at-all = at-if4 .before in
+    let at-if3 = at-all .before .before in
+    let at-key-run = at-if3 .before .before .before .before in
+    judged-good _ _ _ (at-key-run .key-run .ensures .0) (omega arith) (at-if3 .if3 .left)
+    ((rw part-rest at (sym (at-all .all .ensures))) ∙ not-false _ (at-if4 .if4 .left))
+    (rw (at-is-spaced .is-spaced .ensures, at-is-continued .is-continued .ensures, part-rest) at (at-if5 .if5 .left))
+    (not-false _ (rw (at-is-continued .is-continued .ensures, at-rising .rising .ensures) at (c .if6 .left)))))

@@ -30,25 +30,158 @@ measure-spec =
     (λ c. search needs)
     (λ c κs. search needs)
     (λ c. search needs)
-    (λ c. counted-bad _ _ (c .before .before .before .before .before .before .before .before .before .before .before .args .sheet .now) (c .before .before .before .before .before .before .before .loop .at) (c .before .before .before .before .before .before .before .loop .k) (c .before .before .before .before .before .before .before .loop .g) (c .before .before .before .before .before .before .before .loop .n) (c .before .before .before .before .before .before .before .loop .inv .4) (c .before .before .before .before .before .before .loop-test .taken) _ ((rw part-rest at (sym (c .before .before .before .step-at .ensures))) ∙ c .before .s .given .1))
-    (λ c. search needs)
-    (λ c. let b = turn-fits _ (c .before .before .before .before .before .before .before .before .before .before .before .args .sheet .now) (c .before .before .before .before .before .before .before .loop .at) _ _ (c .before .before .before .before .before .before .loop-test .taken) ((rw part-rest at (sym (c .before .before .before .step-at .ensures))) ∙ c .before .s2 .given .1) in omega (arith, b .0, b .1))
-    (λ c. let b = turn-fits _ (c .before .before .before .before .before .before .before .before .before .before .before .args .sheet .now) (c .before .before .before .before .before .before .before .loop .at) _ _ (c .before .before .before .before .before .before .loop-test .taken) ((rw part-rest at (sym (c .before .before .before .step-at .ensures))) ∙ c .before .s2 .given .1) in omega (arith, b .0, b .1))
-    (λ c. let b = turn-fits _ (c .before .before .before .before .before .before .before .before .before .before .before .args .sheet .now) (c .before .before .before .before .before .before .before .loop .at) _ _ (c .before .before .before .before .before .before .loop-test .taken) ((rw part-rest at (sym (c .before .before .before .step-at .ensures))) ∙ c .before .s2 .given .1) in omega (arith, b .0, b .1))
-    (λ c. let b = turn-fits _ (c .before .before .before .before .before .before .before .before .before .before .before .args .sheet .now) (c .before .before .before .before .before .before .before .loop .at) _ _ (c .before .before .before .before .before .before .loop-test .taken) ((rw part-rest at (sym (c .before .before .before .step-at .ensures))) ∙ c .before .s2 .given .1) in omega (arith, b .0, b .1))
-    (λ c. let b = turn-fits _ (c .before .before .before .before .before .before .before .before .before .before .before .before .args .sheet .now) (c .before .before .before .before .before .before .before .before .loop .at) _ _ (c .before .before .before .before .before .before .before .loop-test .taken) ((rw part-rest at (sym (c .before .before .before .before .step-at .ensures))) ∙ c .before .before .s2 .given .1) in omega (arith, b .0, b .1))
-    (λ c. let b = turn-fits _ (c .before .before .before .before .before .before .before .before .before .before .before .before .args .sheet .now) (c .before .before .before .before .before .before .before .before .loop .at) _ _ (c .before .before .before .before .before .before .before .loop-test .taken) ((rw part-rest at (sym (c .before .before .before .before .step-at .ensures))) ∙ c .before .before .s2 .given .1) in omega (arith, b .0, b .1))
-    (λ c. let b = turn-fits _ (c .before .before .before .before .before .before .before .before .before .before .before .before .args .sheet .now) (c .before .before .before .before .before .before .before .before .loop .at) _ _ (c .before .before .before .before .before .before .before .loop-test .taken) ((rw part-rest at (sym (c .before .before .before .before .step-at .ensures))) ∙ c .before .before .s2 .given .1) in omega (arith, b .0, b .1))
-    (λ c κs. search needs)
-    (λ c. let b = turn-fits _ (c .before .before .before .before .before .before .before .before .before .before .before .before .before .before .args .sheet .now) (c .before .before .before .before .before .before .before .before .before .before .loop .at) _ _ (c .before .before .before .before .before .before .before .before .before .loop-test .taken) ((rw part-rest at (sym (c .before .before .before .before .before .before .step-at .ensures))) ∙ c .before .before .before .before .s2 .given .1) in omega (arith, b .0, b .1))
-    (λ c. let b = turn-fits _ (c .before .before .before .before .before .before .before .before .before .before .before .before .before .before .args .sheet .now) (c .before .before .before .before .before .before .before .before .before .before .loop .at) _ _ (c .before .before .before .before .before .before .before .before .before .loop-test .taken) ((rw part-rest at (sym (c .before .before .before .before .before .before .step-at .ensures))) ∙ c .before .before .before .before .s2 .given .1) in omega (arith, b .0, b .1))
-    (λ c κs. search needs)
-    (λ c. let b = turn-fits _ (c .before .before .before .before .before .before .before .before .before .before .before .before .before .before .before .args .sheet .now) (c .before .before .before .before .before .before .before .before .before .before .before .loop .at) _ _ (c .before .before .before .before .before .before .before .before .before .before .loop-test .taken) ((rw part-rest at (sym (c .before .before .before .before .before .before .before .step-at .ensures))) ∙ c .before .before .before .before .before .s2 .given .1) in omega (arith, b .0, b .1))
-    (λ c. let b = turn-fits _ (c .before .before .before .before .before .before .before .before .before .before .before .before .before .before .before .args .sheet .now) (c .before .before .before .before .before .before .before .before .before .before .before .loop .at) _ _ (c .before .before .before .before .before .before .before .before .before .before .loop-test .taken) ((rw part-rest at (sym (c .before .before .before .before .before .before .before .step-at .ensures))) ∙ c .before .before .before .before .before .s2 .given .1) in omega (arith, b .0, b .1))
-    (λ c. let b = turn-fits _ (c .before .before .before .before .before .before .before .before .before .before .before .before .before .before .before .args .sheet .now) (c .before .before .before .before .before .before .before .before .before .before .before .loop .at) _ _ (c .before .before .before .before .before .before .before .before .before .before .loop-test .taken) ((rw part-rest at (sym (c .before .before .before .before .before .before .before .step-at .ensures))) ∙ c .before .before .before .before .before .s2 .given .1) in omega (arith, b .0, b .1))
     (λ c.
-    let b = turn-fits _ (c .before .before .before .before .before .before .before .before .before .before .before .before .before .before .before .args .sheet .now) (c .before .before .before .before .before .before .before .before .before .before .before .loop .at) _ _ (c .before .before .before .before .before .before .before .before .before .before .loop-test .taken) ((rw part-rest at (sym (c .before .before .before .before .before .before .before .step-at .ensures))) ∙ c .before .before .before .before .before .s2 .given .1) in
-    (omega (arith, b .1), omega (arith, b .0, b .1), omega (arith, b .0, b .1), c .grown .ensures .1, counted-turn _ _ (c .before .before .before .before .before .before .before .before .before .before .before .before .before .before .before .args .sheet .now) (c .before .before .before .before .before .before .before .before .before .before .before .loop .at) (c .before .before .before .before .before .before .before .before .before .before .before .loop .k) (c .before .before .before .before .before .before .before .before .before .before .before .loop .g) (c .before .before .before .before .before .before .before .before .before .before .before .loop .n) (c .before .before .before .before .before .before .before .before .before .before .before .loop .inv .4) (c .before .before .before .before .before .before .before .before .before .before .loop-test .taken) _ _ _ ((rw part-rest at (sym (c .before .before .before .before .before .before .before .step-at .ensures))) ∙ c .before .before .before .before .before .s2 .given .1) (c .grown .ensures .0 ∙ rw (c .before .is-continued .ensures))))
+    let at-s = c .before in
+    let at-step-at = at-s .before .before in
+    let at-loop-test = at-step-at .before .before .before in
+    let at-loop = at-loop-test .before in
+    let start = at-loop .before .before .before .before in
+    counted-bad _ _ (start .args .sheet .now) (at-loop .loop .at) (at-loop .loop .k) (at-loop .loop .g) (at-loop .loop .n) (at-loop .loop .inv .4)
+    (at-loop-test .loop-test .taken) _ ((rw part-rest at (sym (at-step-at .step-at .ensures))) ∙ at-s .s .given .1))
+    (λ c. search needs)
+    (λ c.
+    let at-s2 = c .before in
+    let at-step-at = at-s2 .before .before in
+    let at-loop-test = at-step-at .before .before .before in
+    let at-loop = at-loop-test .before in
+    let start = at-loop .before .before .before .before in
+    let b = turn-fits _ (start .args .sheet .now) (at-loop .loop .at) _ _ (at-loop-test .loop-test .taken)
+    ((rw part-rest at (sym (at-step-at .step-at .ensures))) ∙ at-s2 .s2 .given .1) in
+    omega (arith, b .0, b .1))
+    (λ c.
+    let at-s2 = c .before in
+    let at-step-at = at-s2 .before .before in
+    let at-loop-test = at-step-at .before .before .before in
+    let at-loop = at-loop-test .before in
+    let start = at-loop .before .before .before .before in
+    let b = turn-fits _ (start .args .sheet .now) (at-loop .loop .at) _ _ (at-loop-test .loop-test .taken)
+    ((rw part-rest at (sym (at-step-at .step-at .ensures))) ∙ at-s2 .s2 .given .1) in
+    omega (arith, b .0, b .1))
+    (λ c.
+    let at-s2 = c .before in
+    let at-step-at = at-s2 .before .before in
+    let at-loop-test = at-step-at .before .before .before in
+    let at-loop = at-loop-test .before in
+    let start = at-loop .before .before .before .before in
+    let b = turn-fits _ (start .args .sheet .now) (at-loop .loop .at) _ _ (at-loop-test .loop-test .taken)
+    ((rw part-rest at (sym (at-step-at .step-at .ensures))) ∙ at-s2 .s2 .given .1) in
+    omega (arith, b .0, b .1))
+    (λ c.
+    let at-s2 = c .before in
+    let at-step-at = at-s2 .before .before in
+    let at-loop-test = at-step-at .before .before .before in
+    let at-loop = at-loop-test .before in
+    let start = at-loop .before .before .before .before in
+    let b = turn-fits _ (start .args .sheet .now) (at-loop .loop .at) _ _ (at-loop-test .loop-test .taken)
+    ((rw part-rest at (sym (at-step-at .step-at .ensures))) ∙ at-s2 .s2 .given .1) in
+    omega (arith, b .0, b .1))
+    (λ c.
+    let at-s2 = c .before .before in
+    let at-step-at = at-s2 .before .before in
+    let at-loop-test = at-step-at .before .before .before in
+    let at-loop = at-loop-test .before in
+    let start = at-loop .before .before .before .before in
+    let b = turn-fits _ (start .args .sheet .now) (at-loop .loop .at) _ _ (at-loop-test .loop-test .taken)
+    ((rw part-rest at (sym (at-step-at .step-at .ensures))) ∙ at-s2 .s2 .given .1) in
+    omega (arith, b .0, b .1))
+    (λ c.
+    let at-s2 = c .before .before in
+    let at-step-at = at-s2 .before .before in
+    let at-loop-test = at-step-at .before .before .before in
+    let at-loop = at-loop-test .before in
+    let start = at-loop .before .before .before .before in
+    let b = turn-fits _ (start .args .sheet .now) (at-loop .loop .at) _ _ (at-loop-test .loop-test .taken)
+    ((rw part-rest at (sym (at-step-at .step-at .ensures))) ∙ at-s2 .s2 .given .1) in
+    omega (arith, b .0, b .1))
+    (λ c.
+    let at-s2 = c .before .before in
+    let at-step-at = at-s2 .before .before in
+    let at-loop-test = at-step-at .before .before .before in
+    let at-loop = at-loop-test .before in
+    let start = at-loop .before .before .before .before in
+    let b = turn-fits _ (start .args .sheet .now) (at-loop .loop .at) _ _ (at-loop-test .loop-test .taken)
+    ((rw part-rest at (sym (at-step-at .step-at .ensures))) ∙ at-s2 .s2 .given .1) in
+    omega (arith, b .0, b .1))
     (λ c κs. search needs)
-    (λ c. counted-large _ _ (c .before .before .before .before .before .before .before .args .sheet .now) (c .before .before .before .loop .at) (c .before .before .before .loop .k) (c .before .before .before .loop .g) (c .before .before .before .loop .n) (c .before .before .before .loop .inv .4) (c .before .before .loop-test .left) (rw (c .before .round-up .ensures) at (c .if1 .taken)))
-    (λ c. rw (c .before .round-up .ensures) (counted-size _ _ (c .before .before .before .before .before .before .before .args .sheet .now) (c .before .before .before .loop .at) (c .before .before .before .loop .k) (c .before .before .before .loop .g) (c .before .before .before .loop .n) (c .before .before .before .loop .inv .4) (c .before .before .loop-test .left) (rw (c .before .round-up .ensures) at (c .if1 .left)))))
+    (λ c.
+    let at-s2 = c .before .before .before .before in
+    let at-step-at = at-s2 .before .before in
+    let at-loop-test = at-step-at .before .before .before in
+    let at-loop = at-loop-test .before in
+    let start = at-loop .before .before .before .before in
+    let b = turn-fits _ (start .args .sheet .now) (at-loop .loop .at) _ _ (at-loop-test .loop-test .taken)
+    ((rw part-rest at (sym (at-step-at .step-at .ensures))) ∙ at-s2 .s2 .given .1) in
+    omega (arith, b .0, b .1))
+    (λ c.
+    let at-s2 = c .before .before .before .before in
+    let at-step-at = at-s2 .before .before in
+    let at-loop-test = at-step-at .before .before .before in
+    let at-loop = at-loop-test .before in
+    let start = at-loop .before .before .before .before in
+    let b = turn-fits _ (start .args .sheet .now) (at-loop .loop .at) _ _ (at-loop-test .loop-test .taken)
+    ((rw part-rest at (sym (at-step-at .step-at .ensures))) ∙ at-s2 .s2 .given .1) in
+    omega (arith, b .0, b .1))
+    (λ c κs. search needs)
+    (λ c.
+    let at-s2 = c .before .before .before .before .before in
+    let at-step-at = at-s2 .before .before in
+    let at-loop-test = at-step-at .before .before .before in
+    let at-loop = at-loop-test .before in
+    let start = at-loop .before .before .before .before in
+    let b = turn-fits _ (start .args .sheet .now) (at-loop .loop .at) _ _ (at-loop-test .loop-test .taken)
+    ((rw part-rest at (sym (at-step-at .step-at .ensures))) ∙ at-s2 .s2 .given .1) in
+    omega (arith, b .0, b .1))
+    (λ c.
+    let at-s2 = c .before .before .before .before .before in
+    let at-step-at = at-s2 .before .before in
+    let at-loop-test = at-step-at .before .before .before in
+    let at-loop = at-loop-test .before in
+    let start = at-loop .before .before .before .before in
+    let b = turn-fits _ (start .args .sheet .now) (at-loop .loop .at) _ _ (at-loop-test .loop-test .taken)
+    ((rw part-rest at (sym (at-step-at .step-at .ensures))) ∙ at-s2 .s2 .given .1) in
+    omega (arith, b .0, b .1))
+    (λ c.
+    let at-s2 = c .before .before .before .before .before in
+    let at-step-at = at-s2 .before .before in
+    let at-loop-test = at-step-at .before .before .before in
+    let at-loop = at-loop-test .before in
+    let start = at-loop .before .before .before .before in
+    let b = turn-fits _ (start .args .sheet .now) (at-loop .loop .at) _ _ (at-loop-test .loop-test .taken)
+    ((rw part-rest at (sym (at-step-at .step-at .ensures))) ∙ at-s2 .s2 .given .1) in
+    omega (arith, b .0, b .1))
+    (λ c.
+    let at-is-continued = c .before in
+    let at-s2 = at-is-continued .before .before .before .before in
+    let at-step-at = at-s2 .before .before in
+    let at-loop-test = at-step-at .before .before .before in
+    let at-loop = at-loop-test .before in
+    let start = at-loop .before .before .before .before in
+    let args = start .args in
+    let b = turn-fits _ (args .sheet .now) (at-loop .loop .at) _ _ (at-loop-test .loop-test .taken)
+    ((rw part-rest at (sym (at-step-at .step-at .ensures))) ∙ at-s2 .s2 .given .1) in (
+      omega (arith, b .1),
+      omega (arith, b .0, b .1),
+      omega (arith, b .0, b .1),
+      c .grown .ensures .1,
+      counted-turn _ _ (args .sheet .now)
+          (at-loop .loop .at) (at-loop .loop .k) (at-loop .loop .g) (at-loop .loop .n) (at-loop .loop .inv .4) (at-loop-test .loop-test .taken) _ _ _
+          ((rw part-rest at (sym (at-step-at .step-at .ensures))) ∙ at-s2 .s2 .given .1)
+          (c .grown .ensures .0 ∙ rw (at-is-continued .is-continued .ensures)),
+    ))
+    (λ c κs. search needs)
+    (λ c κs. search needs)
+    (λ c.
+    let at-if1 = c .before in
+    let at-round-up = at-if1 .before in
+    let at-loop-test = at-round-up .before in
+    let at-loop = at-loop-test .before in
+    let start = at-loop .before .before .before .before in
+    rw (c .of-file .ensures) (counted-large _ _ (start .args .sheet .now) (at-loop .loop .at) (at-loop .loop .k) (at-loop .loop .g)
+    (at-loop .loop .n) (at-loop .loop .inv .4) (at-loop-test .loop-test .left) (rw (at-round-up .round-up .ensures) at (at-if1 .if1 .taken))))
+    (λ c.
+    let at-round-up = c .before in
+    let at-loop-test = at-round-up .before in
+    let at-loop = at-loop-test .before in
+    let start = at-loop .before .before .before .before in
+    rw (at-round-up .round-up .ensures) (counted-size _ _ (start .args .sheet .now) (at-loop .loop .at) (at-loop .loop .k) (at-loop .loop .g)
+    (at-loop .loop .n) (at-loop .loop .inv .4) (at-loop-test .loop-test .left) (rw (at-round-up .round-up .ensures) at (c .if1 .left)))))

@@ -11,10 +11,23 @@ step-at-spec =
     tie.close
     (tie.spec
     (λ c κs. search needs)
-    (λ c. step-open _ _ _ _ (c .before .line-len .ensures .0) (c .if1 .taken))
+    (λ c κs. search needs)
+    (λ c. rw (c .of-file .ensures) (step-open _ _ _ _ (c .before .before .line-len .ensures .0) (c .before .if1 .taken)))
     (λ c. sym (length-take-le _ _ (c .before .before .line-len .ensures .1)))
     (λ c κs. search needs)
     (λ c. search needs)
     (λ c. search needs)
-    (λ c. step-good _ _ _ _ (c .before .before .before .before .before .before .line-len .ensures .0) (c .before .before .before .before .before .if1 .left) _ (sym (c .before .before .before .judge .ensures) ∙ c .before .j .given .1))
-    (λ c. step-bad _ _ _ _ (c .before .before .before .before .before .before .line-len .ensures .0) (c .before .before .before .before .before .if1 .left) _ (sym (c .before .before .before .judge .ensures) ∙ c .before .j2 .given .1)))
+    (λ c κs. search needs)
+    (λ c.
+    let at-j = c .before in
+    let at-judge = at-j .before .before in
+    let at-if1 = at-judge .before .before in
+    let at-line-len = at-if1 .before in
+    step-good _ _ _ _ (at-line-len .line-len .ensures .0) (at-if1 .if1 .left) _ (sym (at-judge .judge .ensures) ∙ at-j .j .given .1))
+    (λ c.
+    let at-j2 = c .before .before in
+    let at-judge = at-j2 .before .before in
+    let at-if1 = at-judge .before .before in
+    let at-line-len = at-if1 .before in
+    rw (c .of-file2 .ensures)
+    (step-bad _ _ _ _ (at-line-len .line-len .ensures .0) (at-if1 .if1 .left) _ (sym (at-judge .judge .ensures) ∙ at-j2 .j2 .given .1))))

@@ -25,20 +25,21 @@ check-spec =
     Inv-loop
     μ-loop
     (λ c.
-    let c4 = c .before .before .before .before in
-    walk-none _ _ _ _ _ (c4 .args .f .now) (c4 .args .a) (c4 .args .e) (c .if1 .taken))
+    let start = c .before .before .before .before in
+    let args = start .args in
+    walk-none _ _ _ _ _ (args .f .now) (args .a) (args .e) (c .if1 .taken))
     (λ c.
-    let c4 = c .before .before .before .before in
-    let s = c4 .args in (
+    let start = c .before .before .before .before in
+    let s = start .args in (
       search needs,
       search needs,
       search needs,
       search needs,
       (
         length (part (s .a) (s .e) (s .f .now)),
-        le-of-eq (sym (length-part (s .a) (s .e) (s .f .now) (c4 .pre .1))),
+        le-of-eq (sym (length-part (s .a) (s .e) (s .f .now) (start .pre .1))),
         walk-start _ _ _ _ _
-            (s .f .now) (s .a) (s .e) (c .if1 .left) (c4 .pre .1),
+            (s .f .now) (s .a) (s .e) (c .if1 .left) (start .pre .1),
       ),
     ))
     (λ c. search needs)
@@ -50,104 +51,125 @@ check-spec =
     (λ c κs. search needs)
     (λ c. search needs)
     (λ c.
-    let c1 = c .before in
-    let c3 = c1 .before .before in
-    let c6 = c3 .before .before .before in
-    let c7 = c6 .before in
-    let c12 = c7 .before .before .before .before .before in
-    turn-bad _ _ _ _ _ (c12 .args .f .now) (c12 .args .e) (c7 .loop .at) (c7 .loop .k) (c7 .loop .g) (c7 .loop .inv .4 .0)
-    (c6 .loop-test .taken) (c12 .pre .1) (c7 .loop .inv .4 .1) _ (sym (c3 .step-at .ensures) ∙ c1 .s .given .1) ∙ c7 .loop .inv .4 .2)
+    let at-s = c .before in
+    let at-step-at = at-s .before .before in
+    let at-loop-test = at-step-at .before .before .before in
+    let at-loop = at-loop-test .before in
+    let start = at-loop .before .before .before .before .before in
+    let args = start .args in
+    turn-bad _ _ _ _ _ (args .f .now) (args .e) (at-loop .loop .at) (at-loop .loop .k) (at-loop .loop .g) (at-loop .loop .inv .4 .0)
+    (at-loop-test .loop-test .taken) (start .pre .1) (at-loop .loop .inv .4 .1) _ (sym (at-step-at .step-at .ensures) ∙ at-s .s .given .1) ∙
+    at-loop .loop .inv .4 .2)
     (λ c. search needs)
     (λ c.
-    let c2 = c .before .before in
-    let c5 = c2 .before .before .before in
-    let c6 = c5 .before in
-    let c11 = c6 .before .before .before .before .before in
-    turn-done _ _ _ _ _ (c11 .args .f .now) (c11 .args .e) (c6 .loop .at) (c6 .loop .k) (c6 .loop .g) (c6 .loop .inv .4 .0)
-    (c5 .loop-test .taken) (c11 .pre .1) (c6 .loop .inv .4 .1) (sym (c2 .step-at .ensures) ∙ c .enum-told .given .1) ∙
-    c6 .loop .inv .4 .2)
+    let at-step-at = c .before .before in
+    let at-loop-test = at-step-at .before .before .before in
+    let at-loop = at-loop-test .before in
+    let start = at-loop .before .before .before .before .before in
+    let args = start .args in
+    turn-done _ _ _ _ _ (args .f .now) (args .e) (at-loop .loop .at) (at-loop .loop .k) (at-loop .loop .g) (at-loop .loop .inv .4 .0)
+    (at-loop-test .loop-test .taken) (start .pre .1) (at-loop .loop .inv .4 .1) (sym (at-step-at .step-at .ensures) ∙ c .enum-told .given .1) ∙
+    at-loop .loop .inv .4 .2)
     (λ c. search needs)
     (λ c.
-    let c1 = c .before in
-    let c3 = c1 .before .before in
-    let c6 = c3 .before .before .before in
-    let c7 = c6 .before in
-    let c12 = c7 .before .before .before .before .before in
-    let b = turn-fits _ _ _ _ _ (c12 .args .f .now) (c12 .args .e) (c7 .loop .at) (c7 .loop .k) (c7 .loop .g) (c7 .loop .inv .4 .0)
-    (c6 .loop-test .taken) (c12 .pre .1) (c7 .loop .inv .4 .1) _ _ (sym (c3 .step-at .ensures) ∙ c1 .s2 .given .1) in omega (
+    let at-s2 = c .before in
+    let at-step-at = at-s2 .before .before in
+    let at-loop-test = at-step-at .before .before .before in
+    let at-loop = at-loop-test .before in
+    let start = at-loop .before .before .before .before .before in
+    let args = start .args in
+    let b = turn-fits _ _ _ _ _ (args .f .now) (args .e) (at-loop .loop .at) (at-loop .loop .k) (at-loop .loop .g) (at-loop .loop .inv .4 .0)
+    (at-loop-test .loop-test .taken) (start .pre .1) (at-loop .loop .inv .4 .1) _ _ (sym (at-step-at .step-at .ensures) ∙ at-s2 .s2 .given .1) in
+    omega (
       arith,
       b .0,
       b .1,
       b .2,
     ))
     (λ c.
-    let c1 = c .before in
-    let c3 = c1 .before .before in
-    let c6 = c3 .before .before .before in
-    let c7 = c6 .before in
-    let c12 = c7 .before .before .before .before .before in
-    let b = turn-fits _ _ _ _ _ (c12 .args .f .now) (c12 .args .e) (c7 .loop .at) (c7 .loop .k) (c7 .loop .g) (c7 .loop .inv .4 .0)
-    (c6 .loop-test .taken) (c12 .pre .1) (c7 .loop .inv .4 .1) _ _ (sym (c3 .step-at .ensures) ∙ c1 .s2 .given .1) in omega (
+    let at-s2 = c .before in
+    let at-step-at = at-s2 .before .before in
+    let at-loop-test = at-step-at .before .before .before in
+    let at-loop = at-loop-test .before in
+    let start = at-loop .before .before .before .before .before in
+    let args = start .args in
+    let b = turn-fits _ _ _ _ _ (args .f .now) (args .e) (at-loop .loop .at) (at-loop .loop .k) (at-loop .loop .g) (at-loop .loop .inv .4 .0)
+    (at-loop-test .loop-test .taken) (start .pre .1) (at-loop .loop .inv .4 .1) _ _ (sym (at-step-at .step-at .ensures) ∙ at-s2 .s2 .given .1) in
+    omega (
       arith,
       b .0,
       b .1,
       b .2,
     ))
     (λ c.
-    let c1 = c .before in
-    let c3 = c1 .before .before in
-    let c6 = c3 .before .before .before in
-    let c7 = c6 .before in
-    let c12 = c7 .before .before .before .before .before in
-    let b = turn-fits _ _ _ _ _ (c12 .args .f .now) (c12 .args .e) (c7 .loop .at) (c7 .loop .k) (c7 .loop .g) (c7 .loop .inv .4 .0)
-    (c6 .loop-test .taken) (c12 .pre .1) (c7 .loop .inv .4 .1) _ _ (sym (c3 .step-at .ensures) ∙ c1 .s2 .given .1) in omega (
+    let at-s2 = c .before in
+    let at-step-at = at-s2 .before .before in
+    let at-loop-test = at-step-at .before .before .before in
+    let at-loop = at-loop-test .before in
+    let start = at-loop .before .before .before .before .before in
+    let args = start .args in
+    let b = turn-fits _ _ _ _ _ (args .f .now) (args .e) (at-loop .loop .at) (at-loop .loop .k) (at-loop .loop .g) (at-loop .loop .inv .4 .0)
+    (at-loop-test .loop-test .taken) (start .pre .1) (at-loop .loop .inv .4 .1) _ _ (sym (at-step-at .step-at .ensures) ∙ at-s2 .s2 .given .1) in
+    omega (
       arith,
       b .0,
       b .1,
       b .2,
     ))
     (λ c.
-    let c1 = c .before in
-    let c3 = c1 .before .before in
-    let c6 = c3 .before .before .before in
-    let c7 = c6 .before in
-    let c12 = c7 .before .before .before .before .before in
-    let b = turn-fits _ _ _ _ _ (c12 .args .f .now) (c12 .args .e) (c7 .loop .at) (c7 .loop .k) (c7 .loop .g) (c7 .loop .inv .4 .0)
-    (c6 .loop-test .taken) (c12 .pre .1) (c7 .loop .inv .4 .1) _ _ (sym (c3 .step-at .ensures) ∙ c1 .s2 .given .1) in omega (
+    let at-s2 = c .before in
+    let at-step-at = at-s2 .before .before in
+    let at-loop-test = at-step-at .before .before .before in
+    let at-loop = at-loop-test .before in
+    let start = at-loop .before .before .before .before .before in
+    let args = start .args in
+    let b = turn-fits _ _ _ _ _ (args .f .now) (args .e) (at-loop .loop .at) (at-loop .loop .k) (at-loop .loop .g) (at-loop .loop .inv .4 .0)
+    (at-loop-test .loop-test .taken) (start .pre .1) (at-loop .loop .inv .4 .1) _ _ (sym (at-step-at .step-at .ensures) ∙ at-s2 .s2 .given .1) in
+    omega (
       arith,
       b .0,
       b .1,
       b .2,
     ))
     (λ c.
-    let c1 = c .before in
-    let c3 = c1 .before .before in
-    let c6 = c3 .before .before .before in
-    let c7 = c6 .before in
-    let c12 = c7 .before .before .before .before .before in
-    let h = sym (c3 .step-at .ensures) ∙ c1 .s2 .given .1 in
-    let b = turn-fits _ _ _ _ _ (c12 .args .f .now) (c12 .args .e) (c7 .loop .at) (c7 .loop .k) (c7 .loop .g) (c7 .loop .inv .4 .0)
-    (c6 .loop-test .taken) (c12 .pre .1) (c7 .loop .inv .4 .1) _ _ h in (
+    let at-s2 = c .before in
+    let at-step-at = at-s2 .before .before in
+    let at-loop-test = at-step-at .before .before .before in
+    let at-loop = at-loop-test .before in
+    let start = at-loop .before .before .before .before .before in
+    let args = start .args in
+    let h = sym (at-step-at .step-at .ensures) ∙ at-s2 .s2 .given .1 in
+    let b = turn-fits _ _ _ _ _ (args .f .now) (args .e) (at-loop .loop .at) (at-loop .loop .k) (at-loop .loop .g) (at-loop .loop .inv .4 .0)
+    (at-loop-test .loop-test .taken) (start .pre .1) (at-loop .loop .inv .4 .1) _ _ h in (
       omega (arith, b .1),
       b .1,
       omega arith,
       b .2,
       (
-        c7 .loop .inv .4 .0 - 1,
+        at-loop .loop .inv .4 .0 - 1,
         omega (arith, b .0),
-        turn-next _ _ _ _ _ (c12 .args .f .now)
-            (c12 .args .e) (c7 .loop .at) (c7 .loop .k) (c7 .loop .g) (c7 .loop .inv .4 .0) (c6 .loop-test .taken) (c12 .pre .1)
-            (c7 .loop .inv .4 .1) _ _ h ∙ c7 .loop .inv .4 .2,
+        turn-next _ _ _ _ _ (args .f .now)
+            (args .e) (at-loop .loop .at) (at-loop .loop .k) (at-loop .loop .g) (at-loop .loop .inv .4 .0) (at-loop-test .loop-test .taken)
+            (start .pre .1)
+            (at-loop .loop .inv .4 .1) _ _ h ∙ at-loop .loop .inv .4 .2,
       ),
     ))
     (λ c κs. search needs)
     (λ c.
-    let l = c .before .before .before in
-    let s = l .before .before .before .before .before .args in
-    let w = walk-over _ _ _ _ _ _ (s .f .now) (s .e) (l .loop .at) (l .loop .inv .4 .0) (c .before .before .loop-test .left) ∙ l .loop .inv .4 .2 in
-    rw (sym (c .before .open-end .ensures) ∙ c .if2 .taken) at w)
+    let at-open-end = c .before in
+    let at-loop-test = at-open-end .before in
+    let at-loop = at-loop-test .before in
+    let start = at-loop .before .before .before .before .before in
+    let s = start .args in
+    let w = walk-over _ _ _ _ _ _ (s .f .now) (s .e) (at-loop .loop .at) (at-loop .loop .inv .4 .0) (at-loop-test .loop-test .left) ∙
+    at-loop .loop .inv .4 .2 in
+    rw (sym (at-open-end .open-end .ensures) ∙ c .if2 .taken) at w)
     (λ c.
-    let l = c .before .before .before in
-    let s = l .before .before .before .before .before .args in
-    let w = walk-over _ _ _ _ _ _ (s .f .now) (s .e) (l .loop .at) (l .loop .inv .4 .0) (c .before .before .loop-test .left) ∙ l .loop .inv .4 .2 in
-    rw (sym (c .before .open-end .ensures) ∙ c .if2 .left) at w))
+    let at-open-end = c .before in
+    let at-loop-test = at-open-end .before in
+    let at-loop = at-loop-test .before in
+    let start = at-loop .before .before .before .before .before in
+    let s = start .args in
+    let w = walk-over _ _ _ _ _ _ (s .f .now) (s .e) (at-loop .loop .at) (at-loop .loop .inv .4 .0) (at-loop-test .loop-test .left) ∙
+    at-loop .loop .inv .4 .2 in
+    rw (sym (at-open-end .open-end .ensures) ∙ c .if2 .left) at w))

@@ -16,35 +16,43 @@ framed-spec =
     (λ c. frame-none _ _ _ _ (sym (c .before .before .is-cut .ensures) ∙ c .before .if1 .left) (c .if2 .taken))
     (λ c κs. search needs)
     (λ c.
-    let w = c .before in
-    frame-end _ _ _ _ _ (w .word2 .ensures .0) (sym (w .before .before .before .is-cut .ensures) ∙ w .before .before .if1 .left) (c .if3 .taken))
+    let at-word2 = c .before in
+    let at-if1 = at-word2 .before .before in
+    let at-is-cut = at-if1 .before in
+    frame-end _ _ _ _ _ (at-word2 .word2 .ensures .0) (sym (at-is-cut .is-cut .ensures) ∙ at-if1 .if1 .left) (c .if3 .taken))
     (λ c.
-    let c2 = c .before .before in
-    let w = c2 in
-    frame-small _ _ _ _ _ (w .word2 .ensures .0) (sym (w .before .before .before .is-cut .ensures) ∙ w .before .before .if1 .left) (omega
+    let at-word2 = c .before .before in
+    let at-if1 = at-word2 .before .before in
+    let at-is-cut = at-if1 .before in
+    frame-small _ _ _ _ _ (at-word2 .word2 .ensures .0) (sym (at-is-cut .is-cut .ensures) ∙ at-if1 .if1 .left) (omega
     arith) (omega arith))
     (λ c.
-    let c3 = c .before .before .before in
-    let w = c3 in
-    frame-small _ _ _ _ _ (w .word2 .ensures .0) (sym (w .before .before .before .is-cut .ensures) ∙ w .before .before .if1 .left) (omega
+    let at-word2 = c .before .before .before in
+    let at-if1 = at-word2 .before .before in
+    let at-is-cut = at-if1 .before in
+    frame-small _ _ _ _ _ (at-word2 .word2 .ensures .0) (sym (at-is-cut .is-cut .ensures) ∙ at-if1 .if1 .left) (omega
     arith) (omega arith))
     (λ c.
-    let w = c .before .before .before .before in
-    frame-past _ _ _ _ _ (w .word2 .ensures .0) (sym (w .before .before .before .is-cut .ensures) ∙ w .before .before .if1 .left) (omega arith) (omega arith))
+    let at-word2 = c .before .before .before .before in
+    let at-if1 = at-word2 .before .before in
+    let at-is-cut = at-if1 .before in
+    frame-past _ _ _ _ _ (at-word2 .word2 .ensures .0) (sym (at-is-cut .is-cut .ensures) ∙ at-if1 .if1 .left) (omega arith) (omega arith))
     (λ c. search needs)
     (λ c. search needs)
     (λ c. search needs)
     (λ c. search needs)
     (λ c κs. search needs)
     (λ c.
-    let c1 = c .before in
-    let c7 = c1 .before .before .before .before .before .before in
-    let w = c7 in
-    frame-open _ _ _ _ _ (w .word2 .ensures .0) (sym (w .before .before .before .is-cut .ensures) ∙ w .before .before .if1 .left) (omega
-    arith) (omega arith) (sym (c1 .is-same .ensures) ∙ not-true _ (c .if7 .taken)))
+    let at-is-same = c .before in
+    let at-word2 = at-is-same .before .before .before .before .before .before in
+    let at-if1 = at-word2 .before .before in
+    let at-is-cut = at-if1 .before in
+    frame-open _ _ _ _ _ (at-word2 .word2 .ensures .0) (sym (at-is-cut .is-cut .ensures) ∙ at-if1 .if1 .left) (omega
+    arith) (omega arith) (sym (at-is-same .is-same .ensures) ∙ not-true _ (c .if7 .taken)))
     (λ c.
-    let c1 = c .before in
-    let c7 = c1 .before .before .before .before .before .before in
-    let w = c7 in
-    frame-text _ _ _ _ _ (w .word2 .ensures .0) (sym (w .before .before .before .is-cut .ensures) ∙ w .before .before .if1 .left) (omega
-    arith) (omega arith) (sym (c1 .is-same .ensures) ∙ not-false _ (c .if7 .left))))
+    let at-is-same = c .before in
+    let at-word2 = at-is-same .before .before .before .before .before .before in
+    let at-if1 = at-word2 .before .before in
+    let at-is-cut = at-if1 .before in
+    frame-text _ _ _ _ _ (at-word2 .word2 .ensures .0) (sym (at-is-cut .is-cut .ensures) ∙ at-if1 .if1 .left) (omega
+    arith) (omega arith) (sym (at-is-same .is-same .ensures) ∙ not-false _ (c .if7 .left))))

@@ -22,37 +22,37 @@ judge-spec =
     (λ c.
     let c1 = c .before in
     let c4 = c1 .before .before .before in
-    judged-char _ _ _ _ _ (c4 .key-run .ensures .0) _ (rw part-rest at (c1 .gap-run .ensures .0)) (rw part-rest at (c .if2 .taken)))
+    judged-char _ _ _ _ _ (c4 .key-run .ensures .0) _ (rw part-rest at (c1 .run .ensures .0)) (rw part-rest at (c .if2 .taken)))
     (λ c. sym (length-take-le _ _ (c .before .before .before .before .before .key-run .ensures .1)))
     (λ c. search needs)
     (λ c. search needs)
     (λ c. search needs)
     (λ c κs. search needs)
     (λ c.
-    let c1 = c .before in
-    let c4 = c1 .before .before .before in
-    let c5 = c4 .before in
-    let c8 = c5 .before .before .before in
-    judged-value _ _ _ _ _ (c8 .key-run .ensures .0) _ (rw part-rest at (c5 .gap-run .ensures .0)) (omega arith) (rw part-rest at
-    (c4 .if2 .left)) ((rw (part-rest, part-rest) at (sym (c1 .value-ok .ensures))) ∙ not-true _ (c .if3 .taken)))
+    let at-value-ok = c .before in
+    let at-if2 = at-value-ok .before .before .before in
+    let at-run = at-if2 .before in
+    let at-key-run = at-run .before .before .before in
+    judged-value _ _ _ _ _ (at-key-run .key-run .ensures .0) _ (rw part-rest at (at-run .run .ensures .0)) (omega arith) (rw part-rest at
+    (at-if2 .if2 .left)) ((rw (part-rest, part-rest) at (sym (at-value-ok .value-ok .ensures))) ∙ not-true _ (c .if3 .taken)))
     (λ c κs. search needs)
     (λ c.
-    let c1 = c .before in
-    let c2 = c1 .before in
-    let c3 = c2 .before in
-    let c6 = c3 .before .before .before in
-    let c7 = c6 .before in
-    let c10 = c7 .before .before .before in
-    judged-order _ _ _ _ _ (c10 .key-run .ensures .0) _ (rw part-rest at (c7 .gap-run .ensures .0)) (omega arith) (rw part-rest at
-    (c6 .if2 .left)) ((rw (part-rest, part-rest) at (sym (c3 .value-ok .ensures))) ∙ not-false _ (c2 .if3 .left)) (sym
-    (c1 .following .ensures) ∙ not-true _ (c .if4 .taken)))
+    let at-following = c .before in
+    let at-if3 = at-following .before in
+    let at-value-ok = at-if3 .before in
+    let at-if2 = at-value-ok .before .before .before in
+    let at-run = at-if2 .before in
+    let at-key-run = at-run .before .before .before in
+    judged-order _ _ _ _ _ (at-key-run .key-run .ensures .0) _ (rw part-rest at (at-run .run .ensures .0)) (omega arith) (rw part-rest at
+    (at-if2 .if2 .left)) ((rw (part-rest, part-rest) at (sym (at-value-ok .value-ok .ensures))) ∙ not-false _ (at-if3 .if3 .left)) (sym
+    (at-following .following .ensures) ∙ not-true _ (c .if4 .taken)))
     (λ c.
-    let c1 = c .before in
-    let c2 = c1 .before in
-    let c3 = c2 .before in
-    let c6 = c3 .before .before .before in
-    let c7 = c6 .before in
-    let c10 = c7 .before .before .before in
-    judged-good _ _ _ _ _ (c10 .key-run .ensures .0) _ (rw part-rest at (c7 .gap-run .ensures .0)) (omega arith) (rw part-rest at
-    (c6 .if2 .left)) ((rw (part-rest, part-rest) at (sym (c3 .value-ok .ensures))) ∙ not-false _ (c2 .if3 .left)) (sym
-    (c1 .following .ensures) ∙ not-false _ (c .if4 .left))))
+    let at-following = c .before in
+    let at-if3 = at-following .before in
+    let at-value-ok = at-if3 .before in
+    let at-if2 = at-value-ok .before .before .before in
+    let at-run = at-if2 .before in
+    let at-key-run = at-run .before .before .before in
+    judged-good _ _ _ _ _ (at-key-run .key-run .ensures .0) _ (rw part-rest at (at-run .run .ensures .0)) (omega arith) (rw part-rest at
+    (at-if2 .if2 .left)) ((rw (part-rest, part-rest) at (sym (at-value-ok .value-ok .ensures))) ∙ not-false _ (at-if3 .if3 .left)) (sym
+    (at-following .following .ensures) ∙ not-false _ (c .if4 .left))))

@@ -26,14 +26,14 @@ step-at-spec =
     (λ c. rw (sym (c .before .before .framed .ensures) ∙ c .enum-told .given .1))
     (λ c. rw (sym (c .before .before .before .framed .ensures) ∙ c .before .s .given .1))
     (λ c.
-    let c1 = c .before in
-    let c3 = c1 .before .before in
-    let c6 = c3 .before .before .before in
-    let c8 = c6 .before .before in
-    rw ((sym (c8 .framed .ensures) ∙ c6 .s2 .given .1), sym (c3 .judge .ensures) ∙ c1 .j .given .1))
+    let at-j = c .before in
+    let at-judge = at-j .before .before in
+    let at-s2 = at-judge .before .before .before in
+    let at-framed = at-s2 .before .before in
+    rw ((sym (at-framed .framed .ensures) ∙ at-s2 .s2 .given .1), sym (at-judge .judge .ensures) ∙ at-j .j .given .1))
     (λ c.
-    let c1 = c .before in
-    let c3 = c1 .before .before in
-    let c6 = c3 .before .before .before in
-    let c8 = c6 .before .before in
-    rw ((sym (c8 .framed .ensures) ∙ c6 .s2 .given .1), sym (c3 .judge .ensures) ∙ c1 .j2 .given .1)))
+    let at-j2 = c .before in
+    let at-judge = at-j2 .before .before in
+    let at-s2 = at-judge .before .before .before in
+    let at-framed = at-s2 .before .before in
+    rw ((sym (at-framed .framed .ensures) ∙ at-s2 .s2 .given .1), sym (at-judge .judge .ensures) ∙ at-j2 .j2 .given .1)))

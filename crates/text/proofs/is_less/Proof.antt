@@ -23,12 +23,25 @@ is-less-spec =
     (λ c. less-short _ _ _ (c .before .loop-test .taken) (c .if1 .taken) ∙ c .before .before .loop .inv .1)
     (λ c. search needs)
     (λ c. search needs)
-    (λ c. less-below _ _ _ (c .before .before .before .before .loop-test .taken) (c .before .before .before .if1 .left) (c .if2 .taken) ∙ c .before .before .before .before .before .loop .inv .1)
+    (λ c.
+    let at-if1 = c .before .before .before in
+    let at-loop-test = at-if1 .before in
+    let at-loop = at-loop-test .before in
+    less-below _ _ _ (at-loop-test .loop-test .taken) (at-if1 .if1 .left) (c .if2 .taken) ∙ at-loop .loop .inv .1)
     (λ c. search needs)
     (λ c. search needs)
-    (λ c. less-above _ _ _ (c .before .before .before .before .before .before .before .loop-test .taken) (c .before .before .before .before .before .before .if1 .left) (c .if3 .taken) ∙ c .before .before .before .before .before .before .before .before .loop .inv .1)
+    (λ c.
+    let at-if1 = c .before .before .before .before .before .before in
+    let at-loop-test = at-if1 .before in
+    let at-loop = at-loop-test .before in
+    less-above _ _ _ (at-loop-test .loop-test .taken) (at-if1 .if1 .left) (c .if3 .taken) ∙ at-loop .loop .inv .1)
     (λ c. search needs)
     (λ c. search needs)
-    (λ c. (search needs, less-next _ _ _ (c .before .before .before .before .before .before .before .loop-test .taken) (c .before .before .before .before .before .before .if1 .left) (c .before .before .before .if2 .left) (c .if3 .left) ∙ c .before .before .before .before .before .before .before .before .loop .inv .1))
+    (λ c.
+    let at-if2 = c .before .before .before in
+    let at-if1 = at-if2 .before .before .before in
+    let at-loop-test = at-if1 .before in
+    let at-loop = at-loop-test .before in
+    (search needs, less-next _ _ _ (at-loop-test .loop-test .taken) (at-if1 .if1 .left) (at-if2 .if2 .left) (c .if3 .left) ∙ at-loop .loop .inv .1))
     (λ c. less-longer _ _ _ (c .before .loop-test .left) (c .if4 .taken) ∙ c .before .before .loop .inv .1)
     (λ c. less-ended _ _ _ (c .before .loop-test .left) (c .if4 .left) ∙ c .before .before .loop .inv .1))

@@ -13,6 +13,15 @@ rising-spec =
     (λ c κs. search needs)
     (λ c. rw (sym (c .before .is-note .ensures) ∙ c .if1 .taken))
     (λ c κs. search needs)
-    (λ c. rw (sym (c .before .before .before .is-note .ensures) ∙ c .before .before .if1 .left, sym (c .before .is-note2 .ensures) ∙ c .if2 .taken))
+    (λ c.
+    let at-is-note2 = c .before in
+    let at-if1 = at-is-note2 .before in
+    let at-is-note = at-if1 .before in
+    rw (sym (at-is-note .is-note .ensures) ∙ at-if1 .if1 .left, sym (at-is-note2 .is-note2 .ensures) ∙ c .if2 .taken))
     (λ c κs. search needs)
-    (λ c. c .is-less .ensures ∙ rw (sym (c .before .before .before .before .is-note .ensures) ∙ c .before .before .before .if1 .left, sym (c .before .before .is-note2 .ensures) ∙ c .before .if2 .left)))
+    (λ c.
+    let at-if2 = c .before in
+    let at-is-note2 = at-if2 .before in
+    let at-if1 = at-is-note2 .before in
+    let at-is-note = at-if1 .before in
+    c .is-less .ensures ∙ rw (sym (at-is-note .is-note .ensures) ∙ at-if1 .if1 .left, sym (at-is-note2 .is-note2 .ensures) ∙ at-if2 .if2 .left)))
