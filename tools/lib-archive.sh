@@ -1,8 +1,8 @@
 # Sourced by tools/native-archive and tools/phone-archive: how a proved crate becomes an archive for an AArch64 machine.
 #
-# `rt staticlib` proves a library and compiles it for x86-64 alone. Here the LLVM module that the kit made of the proved crate is kept while
-# `rt staticlib` runs, and the kit's own clang compiles the same module for another triple. Only what names x86-64 in it is changed: the triple, the
-# data layout and the processor's name. Whatever else could differ between the two machines ends the script.
+# The LLVM module that the kit made of the proved crate is kept while `rt staticlib` runs, and the kit's own clang compiles the same module for another
+# triple. Only the triple, the data layout and the processor's name are changed. Why the module means the same on both machines, and so what the tests
+# below end the script for: docs/DECISIONS.md, "The archive for the machine at hand".
 #
 # The script that sources this has set `me`, its own name for messages, stands in the repository's root and has sourced lib-install.sh.
 
@@ -122,9 +122,8 @@ same_everywhere() {
         head -n 5 "$2/left" >&2
         die "the module still has what is x86-64's alone"
     fi
-    # Nothing in it is left to a data layout but the sizes of plain numbers and pointers: every place is counted in bytes, and everything that lies in
-    # memory is a plain number, a pointer or a row of bytes (or a result's two words of 64 bits, between which neither has a gap), with its alignment
-    # written beside it.
+    # a place that is not counted in bytes, or something in memory that is no plain number, pointer, row of bytes or result of two words of 64 bits, with
+    # its alignment beside it
     held='(i8|i16|i32|i64|float|double|ptr)'
     if grep -E '(^|[ (])getelementptr ' "$2/plain.ll" | grep -vE ' getelementptr (inbounds |nuw |nusw )*i8, ptr ' >"$2/left" ||
         grep -E '(^|[ (])alloca ' "$2/plain.ll" | grep -vE " = alloca ($held|\[[0-9]+ x i8\]), align [0-9]+\$" >"$2/left" ||
@@ -133,10 +132,7 @@ same_everywhere() {
         head -n 5 "$2/left" >&2
         die "the module leaves a size or an alignment to the data layout"
     fi
-    # How arguments and results go is settled in the module, as C does it on x86-64. Numbers, bools and pointers go alike on both machines. So does a
-    # struct that C returns through memory: its place is the first argument of all, which is how a caller has to declare it on Arm (there C keeps that
-    # place in another register); and one of integers alone in two words of 64 bits, which both return in two registers. Any other struct in registers,
-    # or one on the stack, would not, and no other code may be called.
+    # an argument that is no number, bool or pointer; a result that is none of these, nor two words of 64 bits; a call of other code
     plain='(i1|i8|i16|i32|i64|float|double|ptr)'
     grep '^define ' "$2/plain.ll" | grep -v '^define internal ' >"$2/exported" || die "the module exports nothing"
     if grep -vE "^define (noundef )?((zeroext|signext) )?(void|\{ i64, i64 \}|$plain) @[A-Za-z0-9_]+\\(($plain noundef %a[0-9]+(, )?)*\\) #[0-9]+ \\{\$" "$2/exported" >"$2/left"; then
@@ -151,13 +147,11 @@ same_everywhere() {
 
 # compile_module NAME WORK TRIPLE ARCHIVE: compiles the module of WORK for TRIPLE into ARCHIVE.
 compile_module() {
-    # The layout is asked of the clang that compiles, and has to be the one that the words above were checked for: 64-bit pointers, low byte first,
-    # and i64 on 8 bytes, as on x86-64. What it says beyond that (i8:8:32, n32:64, Fn32) are preferences and the alignment of functions.
+    # the layout is asked of the clang that compiles, and has to be the one that is known
     layout=$(printf 'int x;\n' | "$clang" "--target=$3" -x c -S -emit-llvm -o - - | sed -n 's/^target datalayout = "\(.*\)"$/\1/p')
     [ "$layout" = e-m:e-p270:32:32-p271:32:32-p272:64:64-i8:8:32-i16:16:32-i64:64-i128:128-n32:64-S128-Fn32 ] || die "the layout of $3 is another: $layout"
     { printf 'target datalayout = "%s"\ntarget triple = "%s"\n' "$layout" "$3" && cat "$2/plain.ll"; } >"$2/$3.ll"
-    # No product and sum of floats become one operation, which x86-64 has not: each is rounded by itself, as it is proved. A clang that takes the module
-    # for another triple's says so, which is an error here.
+    # no product and sum of floats become one operation; a clang that takes the module for another triple's says so, which is an error here
     mkdir -p "$2/$3"
     "$clang" "--target=$3" -O3 -ffp-contract=off -fPIC -ffunction-sections -fdata-sections -Werror -c -x ir -o "$2/$3/$1.o" "$2/$3.ll"
     rm -f "$4"

@@ -1,4 +1,5 @@
--- What the listing program prints (document 01, the end of "Worked values"), byte by byte: 9 is the tab between fields, 10 the end of a line.
+-- What the listing program prints (document 01, the end of "Worked values"), byte by byte: 9 is the tab between fields,
+-- 10 the end of a line.
 -- Assumes nothing.
 use mathlib.Core.Bool.{false}
 use mathlib.Core.List.{List, [], _∷_, _++_}
@@ -66,16 +67,27 @@ unfoldable pub checkedText : Verdict → List ℕ → List ℕ
 checkedText Accepted f = fileText f
 checkedText (Refused r) f = refusalLine r
 
--- "19 the listing program's input exceeds 65,536 bytes, place 0"; "19 comes before all others"
+-- "A refusal prints one line only: R, number, part (F for -1), place"
 unfoldable pub listingOf : List ℕ → List ℕ
-listingOf input = pick (ltb 65536 (length input)) (refusalLine (refusal InputSize File 0)) (checkedText (checkOf Strict Read input (length input)) input)
+listingOf input = checkedText (checkOf Strict Read input (length input)) input
 
--- ---- the answer: how many bytes were stored, or that the row lent may be too short. 16 bytes for each of the input's and 64 more are enough
+-- "19 the listing program's input exceeds 65,536 bytes, place 0"; "19 comes before all others"
+unfoldable pub programOf : List ℕ → List ℕ
+programOf input = pick (ltb 65536 (length input)) (refusalLine (refusal InputSize File 0)) (listingOf input)
+
+-- ---- the answer where an input prints a text: how many bytes were stored, or that the row lent may be too short.
+-- 16 bytes for each of the input's and 64 more are enough
 abbrev pub roomFor : ℕ → ℕ
 roomFor n = 16 * n + 64
 
-unfoldable pub listAnswer : List ℕ → ℕ → Listed
-listAnswer input room = pick (ltb room (roomFor (length input))) Full (To (length (listingOf input)))
+unfoldable pub printAnswer : List ℕ → List ℕ → ℕ → Listed
+printAnswer text input room = pick (ltb room (roomFor (length input))) Full (To (length text))
+
+abbrev pub listAnswer : List ℕ → ℕ → Listed
+listAnswer input room = printAnswer (listingOf input) input room
+
+abbrev pub programAnswer : List ℕ → ℕ → Listed
+programAnswer input room = printAnswer (programOf input) input room
 
 -- the listing lies in the row
 abbrev pub Within : Listed → ℕ → Type 0
@@ -83,5 +95,11 @@ Within (To n) room = n ≤ room
 Within Full room = Unit {0}
 
 -- and what the row then holds
-unfoldable pub listLeft : List ℕ → List ℕ → List ℕ
-listLeft input out = pick (ltb (length out) (roomFor (length input))) out (put out 0 (listingOf input))
+unfoldable pub printLeft : List ℕ → List ℕ → List ℕ → List ℕ
+printLeft text input out = pick (ltb (length out) (roomFor (length input))) out (put out 0 text)
+
+abbrev pub listLeft : List ℕ → List ℕ → List ℕ
+listLeft input out = printLeft (listingOf input) input out
+
+abbrev pub programLeft : List ℕ → List ℕ → List ℕ
+programLeft input out = printLeft (programOf input) input out

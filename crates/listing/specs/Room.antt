@@ -1,4 +1,5 @@
--- How long a listing can be: 16 bytes for each of the input's, and 64 more. A string of o bytes prints at most 16 o, a trace of B bytes 16 B.
+-- How long a listing can be: 16 bytes for each of the input's, and 64 more. N and M are words of 2 bytes, so a trace's
+-- number has at most 5 digits. A string of o bytes prints at most 16 o, a trace of B bytes 16 B.
 -- Assumes nothing.
 use mathlib.Core.Path.{_≡_, refl, ap}
 use mathlib.Core.Bool.{Bool, true, false}
@@ -11,7 +12,9 @@ use lib.Dec.{leb}
 use borrow.Author.Tests.{leb-false}
 use Rattle.head.specs.declared.Purpose.the-variants.{Read}
 use Rattle.text.specs.declared.Manner.the-variants.{Strict}
+use Rattle.word.specs.Bytes.{Bytes}
 use Rattle.word.specs.Part.{part}
+use Rattle.word.specs.WordLaws.{word-small}
 use Rattle.refusal.specs.Rows.{pick}
 use Rattle.refusal.specs.declared.Part.{Part}
 use Rattle.refusal.specs.declared.Part.the-variants.{File, Trace}
@@ -26,11 +29,11 @@ use Rattle.note.specs.Note.{lineLen, linesOf, line-ends, starts-fits}
 use Rattle.strings.specs.Strings.{frameOf, placeOf, onText, placesFrom, placesOf, keyIn, valueIn}
 use Rattle.strings.specs.Walks.{Fits, place-fits}
 use Rattle.strings.specs.Spelled.{strsIn}
-use Rattle.head.specs.Head.{highFirst, roomOf, countOf, stringEnd, lineEnd}
+use Rattle.head.specs.Head.{maximum, highFirst, roomOf, countOf, stringEnd, lineEnd}
 use Rattle.block.specs.Block.{blockSize, dataSize, sampleCount, formatCode, dataAt, endAt}
 use Rattle.image.specs.Image.{imageOf}
 use Rattle.image.specs.Keeps.{traceAt, endBefore}
-use Rattle.image.specs.Accepted.{image-headed, before-next}
+use Rattle.image.specs.Accepted.{before-next}
 use Rattle.reader.specs.Reach.{some-trace, trace-pointed, trace-blocked}
 use Rattle.digits.specs.Digits.{digits, digits-few}
 use Rattle.lines.specs.Lines.{whose, headLine, traceLine, stringLine}
@@ -131,13 +134,15 @@ needed-low (suc (suc (suc (suc zero)))) s a b = omega arith
 needed-low (suc (suc (suc (suc (suc zero))))) s a b = omega arith
 needed-low (suc (suc (suc (suc (suc (suc c)))))) s a b = absurd (omega arith)
 
-trace-line-few : (k code s : ℕ) → k < 100000 → code < 10 → s < 100000 → length (traceLine k code s) ≤ 16
+-- a file of at most 67,108,864 bytes has no more than 33,554,432 samples
+trace-line-few : (k code s : ℕ) → k < 100000 → code < 10 → s < 100000000 → length (traceLine k code s) ≤ 19
 trace-line-few k code s a b c =
-    omega (arith, five k a, one code b, five s c, length-trace k code s, length-ended k 9, length-ended code 9, length-ended s 10)
+    omega (arith, five k a, one code b, digits-few 8 s (omega arith) c, length-trace k code s, length-ended k 9, length-ended code 9, length-ended s 10)
 
-module _ (f : List ℕ) (ok : imageOf Strict Read f ≡ Accepted) (size : 32 ≤ length f) (most : length f ≤ 65536) where
+module _ (f : List ℕ) (ok : imageOf Strict Read f ≡ Accepted) (size : 32 ≤ length f) (most : length f ≤ maximum) (bytes : Bytes f) where
   counts : (roomOf f < 100000) × (countOf f < 100000)
-  counts = let h = image-headed Strict Read f ok in (omega (arith, h .fits), omega (arith, h .fits, h .count))
+  unfolding roomOf countOf
+  counts = (omega (arith, word-small 2 (highFirst f) f 4 bytes), omega (arith, word-small 2 (highFirst f) f 6 bytes))
 
   trace-few : (k : ℕ) → k < countOf f → length (traceText f k) ≤ 16 * blockSize (highFirst f) f (traceAt f k)
   unfolding traceText

@@ -5,9 +5,10 @@ use mathlib.Core.Bool.{Bool, true, false}
 use mathlib.Core.List.{List, _++_}
 use Prim.Native.Nat.{ℕ, _+_, _-_, _*_, _≤_, _<_}
 use native.Mathlib.Omega.{arith}
+use lib.Dec.{ltb}
 use lib.ListN.{length, take}
 use lib.Seq.{take-all}
-use borrow.Author.Tests.{lt-ltb, le-ltb}
+use borrow.Author.Tests.{ltb-false, lt-ltb, le-ltb}
 use Rattle.head.specs.declared.Purpose.the-variants.{Read}
 use Rattle.text.specs.declared.Manner.the-variants.{Strict}
 use Rattle.word.specs.Part.{part}
@@ -21,7 +22,7 @@ use Rattle.strings.specs.Strings.{placesOf}
 use Rattle.strings.specs.Spelled.{strsIn}
 use Rattle.head.specs.declared.FileBlock.{FileBlock}
 use Rattle.block.specs.declared.TraceBlock.{TraceBlock}
-use Rattle.head.specs.Head.{highFirst, countOf, stringEnd, lineEnd, goodTerminator}
+use Rattle.head.specs.Head.{maximum, highFirst, countOf, stringEnd, lineEnd, goodTerminator}
 use Rattle.head.specs.HeadLaws.{good-most, length-terminator}
 use Rattle.block.specs.Block.{pointerOf, traceBlockOf}
 use Rattle.head.specs.Head.{fileBlockOf}
@@ -31,7 +32,7 @@ use Rattle.image.specs.Accepted.{image-headed}
 use Rattle.reader.specs.Reach.{checked, some-trace, pointer-slot, trace-pointed, trace-blocked}
 use Rattle.listing.specs.declared.Listed.the-variants.{To, Full}
 use Rattle.lines.specs.Lines.{headLine, traceLine, refusalLine}
-use Rattle.listing.specs.Listing.{stringsText, stringsIn, traceText, tracesText, fileText, checkedText, listingOf, roomFor, listAnswer, Within, listLeft}
+use Rattle.listing.specs.Listing.{stringsText, stringsIn, traceText, tracesText, fileText, checkedText, listingOf, programOf, roomFor, printAnswer, Within, printLeft}
 use Rattle.word.specs.Wrote.{Room, Wrote, room-front, room-back, joined, first-room, second-room, both-wrote}
 
 module _ (f : List ℕ) (ok : imageOf Strict Read f ≡ Accepted) (size : 32 ≤ length f) where
@@ -90,10 +91,6 @@ module _ (f : List ℕ) (ok : imageOf Strict Read f ≡ Accepted) (size : 32 ≤
     unfolding fileBlockOf
     count-told = rw eb
 
-    pub room-told : (32 + b .m ≤ length f) × (4 * b .n ≤ b .m)
-    unfolding fileBlockOf
-    room-told = let h = image-headed Strict Read f ok in rw eb (h .fits, omega (arith, h .count))
-
     module _ (first : ℕ) (ef : first ≡ pointerOf (b .high) f 0) where
       pub file-area : (32 + b .m ≤ first) × (first ≤ length f)
       unfolding fileBlockOf endBefore
@@ -130,38 +127,45 @@ module _ (f : List ℕ) (ok : imageOf Strict Read f ≡ Accepted) (size : 32 ≤
             pub file-all : (q : ℕ) (new : List ℕ) → Wrote zs s (tracesText f (b .n) 0) q new → Wrote out 0 (fileText f) q new
             file-all q new x = both-wrote out 0 (fileText f) head (strings t u ++ tracesText f (b .n) 0) (file-text t u et eu) r ys q new w (joined ys r (strings t u) (tracesText f (b .n) 0) s zs q new v x)
 
--- ---- the answer
-module _ (input out : List ℕ) where
-  pub list-full : length out < roomFor (length input) → (Full ≡ listAnswer input (length out)) × (Within Full (length out) × (out ≡ listLeft input out))
-  unfolding listAnswer listLeft
-  list-full h = let e = lt-ltb (length out) (roomFor (length input)) h in (rw e, (tt, rw e))
+-- ---- the answer, where an input prints a text
+pub enough : (input out : List ℕ) → ltb (length out) (roomFor (length input)) ≡ false → roomFor (length input) ≤ length out
+enough input out e = ltb-false (length out) (roomFor (length input)) e
 
-  module _ (room : roomFor (length input) ≤ length out) where
-    told : (r : ℕ) (new text : List ℕ) → text ≡ listingOf input → Wrote out 0 text r new → r ≤ length out → (To r ≡ listAnswer input (length out)) × (Within (To r) (length out) × (new ≡ listLeft input out))
-    unfolding listAnswer listLeft
-    told r new text e (d, w) f =
-        let q = le-ltb (length out) (roomFor (length input)) room in
-        let s : r ≡ length (listingOf input) = d ∙ omega arith ∙ ap length e in
-        (rw q (ap To s), (f, w ∙ rw q (ap (λ (z : List ℕ). put out 0 z) e)))
+module _ (text input out : List ℕ) where
+  pub print-full : ltb (length out) (roomFor (length input)) ≡ true
+      → (Full ≡ printAnswer text input (length out)) × (Within Full (length out) × (out ≡ printLeft text input out))
+  unfolding printAnswer printLeft
+  print-full e = (rw e, (tt, rw e))
 
-    pub list-large : 65536 < length input → (r : ℕ) (new : List ℕ) → Wrote out 0 (refusalLine (refusal InputSize File 0)) r new
-        → r ≤ length out → (To r ≡ listAnswer input (length out)) × (Within (To r) (length out) × (new ≡ listLeft input out))
-    unfolding listingOf
-    list-large h r new w f = told r new _ (rw (lt-ltb 65536 (length input) h)) w f
+  pub print-told : ltb (length out) (roomFor (length input)) ≡ false → (r : ℕ) (new t : List ℕ) → t ≡ text → Wrote out 0 t r new → r ≤ length out
+      → (To r ≡ printAnswer text input (length out)) × (Within (To r) (length out) × (new ≡ printLeft text input out))
+  unfolding printAnswer printLeft
+  print-told q r new t e (d, w) f =
+      let s : r ≡ length text = d ∙ omega arith ∙ ap length e in
+      (rw q (ap To s), (f, w ∙ rw q (ap (λ (z : List ℕ). put out 0 z) e)))
 
-    pub list-refused : length input ≤ 65536 → (x : Refusal) → checkOf Strict Read input (length input) ≡ Refused x → (r : ℕ) (new : List ℕ) → Wrote out 0 (refusalLine x) r new
-        → r ≤ length out → (To r ≡ listAnswer input (length out)) × (Within (To r) (length out) × (new ≡ listLeft input out))
-    unfolding listingOf checkedText
-    list-refused h x e r new w f = told r new _ (rw (le-ltb 65536 (length input) h, e)) w f
+-- ---- the text
+module _ (input : List ℕ) where
+  pub prints-refusal : {x : Refusal} → checkOf Strict Read input (length input) ≡ Refused x → refusalLine x ≡ listingOf input
+  unfolding listingOf checkedText
+  prints-refusal e = rw e
 
-    pub list-file : length input ≤ 65536 → checkOf Strict Read input (length input) ≡ Accepted → (r : ℕ) (new : List ℕ) → Wrote out 0 (fileText input) r new
-        → r ≤ length out → (To r ≡ listAnswer input (length out)) × (Within (To r) (length out) × (new ≡ listLeft input out))
-    unfolding listingOf checkedText
-    list-file h e r new w f = told r new _ (rw (le-ltb 65536 (length input) h, e)) w f
+  pub prints-file : checkOf Strict Read input (length input) ≡ Accepted → fileText input ≡ listingOf input
+  unfolding listingOf checkedText
+  prints-file e = rw e
+
+  pub prints-large : 65536 < length input → refusalLine (refusal InputSize File 0) ≡ programOf input
+  unfolding programOf
+  prints-large h = rw (lt-ltb 65536 (length input) h)
+
+  pub prints-listing : length input ≤ 65536 → listingOf input ≡ programOf input
+  unfolding programOf
+  prints-listing h = rw (le-ltb 65536 (length input) h)
 
 -- an accepted input is its own image
-pub whole-image : (input : List ℕ) → checkOf Strict Read input (length input) ≡ Accepted → (imageOf Strict Read input ≡ Accepted) × (32 ≤ length input)
+pub whole-image : (input : List ℕ) → checkOf Strict Read input (length input) ≡ Accepted
+    → (imageOf Strict Read input ≡ Accepted) × (32 ≤ length input) × (length input ≤ maximum)
 whole-image input e =
     let c = checked Strict input (length input) e in
     let t : take (length input) input ≡ input = take-all (length input) input (omega arith) in
-    (rw t at (c .image), c .least)
+    (rw t at (c .image), c .least, c .most)

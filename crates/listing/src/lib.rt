@@ -1,16 +1,18 @@
-// What the listing program prints, into a row of bytes that the caller lends (document 01, the end of "Worked values", and row 19).
-// Listing has the definitions; Room proves that 16 bytes for each of the input's and 64 more are enough, Printed that the strings are those that the file spells.
+// The listing of a file, and what the listing program prints, into a row of bytes that the caller lends (document 01,
+// the end of "Worked values"). Row 19 is the program's: `list` takes a file of any length that the check takes.
+// Listing has the definitions; Room proves that 16 bytes for each of the input's and 64 more are enough, Printed that
+// the strings are those that the file spells.
 // Stands on `lines`, `lookup`, `image` and what they stand on.
 // The rules in words: docs/FORMAT.md, "Worked values".
 use head::Purpose;
 use refusal::Part;
-use refusal::Refusal;
 use refusal::Rule;
 use refusal::Verdict;
 use strings::Found;
 use text::Manner;
 ghost use mathlib.Core.Path.{_≡_};
 ghost use Prim.Native.Nat.{_≤_, _<_};
+ghost use lib.Dec.{ltb};
 ghost use lib.ListN.{length};
 ghost use Rattle.word.specs.Part as parts;
 ghost use Rattle.refusal.specs.declared.Verdict.the-variants.{Accepted};
@@ -21,7 +23,7 @@ ghost use Rattle.strings.specs.Strings.{placesOf};
 ghost use Rattle.strings.specs.Spelled.{strsIn};
 ghost use Rattle.head.specs.Head.{countOf};
 ghost use Rattle.image.specs.Image.{imageOf};
-ghost use Rattle.listing.specs.Listing.{linesText, valuesOf, stringsText, traceText, tracesText, fileText, listAnswer, Within, listLeft};
+ghost use Rattle.listing.specs.Listing.{linesText, valuesOf, stringsText, traceText, tracesText, fileText, roomFor, listAnswer, Within, listLeft, programAnswer, programLeft};
 ghost use Rattle.word.specs.Wrote.{Room, Wrote};
 
 // How many bytes the listing has; or that the row lent may be too short for it.
@@ -132,7 +134,7 @@ fn put_traces(out: &mut [u8], at: usize, f: &[u8], n: u16) -> usize
 
 // An accepted file.
 fn put_file(out: &mut [u8], f: &[u8]) -> usize
-    requires { ⌜ (imageOf Strict Read (now f) ≡ Accepted) × (32 ≤ length (now f)) × (length (now f) ≤ 65536) × Room (now out) 0 (fileText (now f)) ⌝ }
+    requires { ⌜ (imageOf Strict Read (now f) ≡ Accepted) × (32 ≤ length (now f)) × Room (now out) 0 (fileText (now f)) ⌝ }
     ensures { λ r. ⌜ Wrote (now (out .entry)) 0 (fileText (now (f .entry))) r (now (out .exit)) ⌝ }
 {
     let b = head::file_block(f);
@@ -154,34 +156,48 @@ fn put_file(out: &mut [u8], f: &[u8]) -> usize
     put_traces(out, d, f, b.n as u16)
 }
 
-// The listing of a file: 19 first, then the check, once. The row lent has room where it has 16 bytes for each of the input's and 64 more; else nothing
-// is written.
+// Whether a row may be too short for the listing of n bytes: 16 bytes for each and 64 more are enough. The row's length
+// is divided, so that no product can wrap.
+fn too_short(room: usize, n: usize) -> bool
+    ensures { λ r. ⌜ r ≡ ltb room (roomFor n) ⌝ }
+{
+    if room < 64 {
+        return true;
+    }
+    if (room - 64) / 16 < n {
+        return true;
+    }
+    false
+}
+
+// The listing of a file: the check, once. Where the row lent may be too short nothing is written.
 pub fn list(input: &[u8], out: &mut [u8]) -> Listed
     ensures answer { λ r. ⌜ r ≡ listAnswer (now (input .entry)) (length (now (out .entry))) ⌝ }
     ensures within { λ r. ⌜ Within r (length (now (out .entry))) ⌝ }
     ensures left { λ _. ⌜ now (out .exit) ≡ listLeft (now (input .entry)) (now (out .entry)) ⌝ }
 {
     let n = input.len();
-    if out.len() < 64 {
+    if too_short(out.len(), n) {
         return Listed::Full;
-    }
-    if (out.len() - 64) / 16 < n {
-        return Listed::Full;
-    }
-    if 65536 < n {
-        return Listed::To(lines::put_refusal(
-            out,
-            0,
-            Refusal {
-                rule: Rule::InputSize,
-                part: Part::File,
-                place: 0,
-            },
-        ));
     }
     let v = image::check(input, n, Purpose::Read, Manner::Strict);
     match v {
         Verdict::Refused(r) => Listed::To(lines::put_refusal(out, 0, r)),
         Verdict::Accepted => Listed::To(put_file(out, input)),
     }
+}
+
+// What the program prints of its input: 19 first, else the listing.
+pub fn program(input: &[u8], out: &mut [u8]) -> Listed
+    ensures answer { λ r. ⌜ r ≡ programAnswer (now (input .entry)) (length (now (out .entry))) ⌝ }
+    ensures within { λ r. ⌜ Within r (length (now (out .entry))) ⌝ }
+    ensures left { λ _. ⌜ now (out .exit) ≡ programLeft (now (input .entry)) (now (out .entry)) ⌝ }
+{
+    if input.len() <= 65536 {
+        return list(input, out);
+    }
+    if too_short(out.len(), input.len()) {
+        return Listed::Full;
+    }
+    Listed::To(lines::put_refusal(out, 0, refusal::of_file(Rule::InputSize, 0)))
 }

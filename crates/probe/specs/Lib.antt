@@ -1,3 +1,1 @@
-pub mod Told
-pub mod Written
 pub mod Listed

@@ -1,5 +1,5 @@
-// The listing program: one file from standard input, its listing to standard output (document 01, the end of "Worked values"). It reads one byte more
-// than 65,536, so that row 19 is seen. The work is in `listing`.
+// The listing program: one file from standard input, its listing to standard output (document 01, the end of
+// "Worked values"). It reads one byte more than 65,536, so that row 19 is seen. The work is in `listing::program`.
 // The rules in words: docs/FORMAT.md, "Worked values".
 use listing::Listed;
 ghost use mathlib.Core.Path.{_≡_};
@@ -19,7 +19,7 @@ fn listing_row() -> [u8; 1048656] {
 
 // What was read, listed.
 fn print(input: &[u8], out: &mut [u8]) {
-    let answer = listing::list(input, out);
+    let answer = listing::program(input, out);
     if let Listed::To(n) = answer {
         io::write_all(1, &out[..n]);
     }

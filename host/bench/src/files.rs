@@ -1,6 +1,8 @@
 //! Files as a crew records them, made by the reference.
 
-use seg2_reference::{file_of, Row, TraceGiven};
+use seg2_reference::generate::{plain_file, PlainTrace, Rng};
+use seg2_reference::samples::needed_bytes;
+use seg2_reference::{file_of, start, Order, Row, TraceGiven};
 
 /// A few strings, as a seismograph writes them into each trace.
 pub fn trace_sheet(channel: usize) -> Vec<u8> {
@@ -35,4 +37,28 @@ pub fn file_with(
         })
         .collect();
     file_of(order, traces as u64 + 1, FILE_SHEET, &list).expect("a file")
+}
+
+/// A file with one trace of so many samples, whose data bytes have no pattern.
+pub fn file_of_one(order: Order, code: u8, samples: usize) -> Vec<u8> {
+    let needed = needed_bytes(code, samples as u64).expect("a code") as usize;
+    let mut rng = Rng::new(7);
+    let data: Vec<u8> = (0..needed.next_multiple_of(4))
+        .map(|_| rng.byte())
+        .collect();
+    let trace = PlainTrace {
+        strings: &[b"STACK 4"],
+        code,
+        count: samples as u32,
+        data: &data,
+    };
+    plain_file(order, &[b"UNITS METERS"], &[trace])
+}
+
+/// A started file of one slot: what a trace is added to.
+pub fn started(order: u32) -> Vec<u8> {
+    let mut buffer = vec![0; 1000];
+    let length = start(&mut buffer, order, 1, b"UNITS\tMETERS\n").expect("a start");
+    buffer.truncate(length);
+    buffer
 }

@@ -1,14 +1,11 @@
 //! The proved archive beside plain Rust and beside a copy of the same bytes, on the
 //! same buffers in one run. Usage: `seg2_bench [ROUNDS]`.
 
-use seg2::raw;
-use seg2_bench::files::{file, file_with, trace_sheet};
+use seg2::calls;
+use seg2_bench::files::{file, file_of_one, file_with, started, trace_sheet};
 use seg2_bench::time::{least, Work};
 use seg2_bench::{plain, plain_file, processor};
-use seg2_probe as proved;
-use seg2_reference::generate::Rng;
-use seg2_reference::samples::needed_bytes;
-use seg2_reference::Row;
+use seg2_reference::{trace_block, Order, Row};
 use std::hint::black_box;
 
 /// Enough for a long trace; a multiple of 4, as code 3 needs.
@@ -45,50 +42,20 @@ fn main() {
 // ---- the archive, as the other side is called
 
 fn check(buffer: &[u8]) -> plain_file::Refused {
-    let (at, size) = (buffer.as_ptr(), buffer.len());
-    // SAFETY: a pointer and its size are those of one slice, here and below, and what is
-    // written overlaps nothing else.
-    let verdict = unsafe { raw::seg2_check(at, size, size) };
+    let verdict = calls::check(buffer, buffer.len());
     (verdict.number, verdict.part, verdict.place)
 }
 
 fn value(buffer: &[u8], part: i32, key: &[u8]) -> (u32, usize, usize) {
-    let (at, size) = (buffer.as_ptr(), buffer.len());
-    let mut answer = raw::Value {
-        number: 1,
-        part: 0,
-        place: 0,
-        value_start: 0,
-        value_length: 0,
-    };
-    // SAFETY: as above.
-    unsafe { raw::seg2_value(&mut answer, at, size, size, part, key.as_ptr(), key.len()) }
+    let answer = calls::value(buffer, buffer.len(), part, key);
     (answer.number, answer.value_start, answer.value_length)
 }
 
 fn add(buffer: &mut [u8], length: usize, sheet: &[u8], code: u32, row: &Row) -> (u32, usize) {
-    let (at, size) = (buffer.as_mut_ptr(), buffer.len());
-    let (text, lines) = (sheet.as_ptr(), sheet.len());
-    let mut answer = raw::Length {
-        number: 1,
-        part: 0,
-        place: 0,
-        length: 0,
+    let answer = match row {
+        Row::Integers(row) => calls::add_integers(buffer, length, sheet, code, row),
+        Row::Bits(row) => calls::add_bits(buffer, length, sheet, code, row),
     };
-    let told = &mut answer;
-    // SAFETY: as above.
-    unsafe {
-        match row {
-            Row::Integers(row) => {
-                let (row, count) = (row.as_ptr(), row.len());
-                raw::seg2_add_integers(told, at, size, length, text, lines, code, row, count)
-            }
-            Row::Bits(row) => {
-                let (row, count) = (row.as_ptr(), row.len());
-                raw::seg2_add_bits(told, at, size, length, text, lines, code, row, count)
-            }
-        }
-    }
     (answer.number, answer.length)
 }
 
@@ -274,87 +241,100 @@ fn each_trace(rounds: usize) {
     }
 }
 
-/// What is read and written. Both functions of a pair use the same.
+/// A file with one trace, rows for its samples, and a place for the copy. Both sides use
+/// the same.
 struct Buffers {
-    /// A data block, and where one is written.
-    block: Vec<u8>,
+    file: Vec<u8>,
+    /// Where the data block begins.
+    data: usize,
     integers: Vec<i32>,
     patterns: Vec<u64>,
     classes: Vec<u8>,
     beside: Vec<u8>,
 }
 
+impl Buffers {
+    fn new(order: Order, code: u8) -> Buffers {
+        let file = file_of_one(order, code, SAMPLES);
+        let trace = trace_block(&file, file.len(), 0).expect("a trace");
+        let data = trace.data_start() as usize;
+        Buffers {
+            beside: vec![0; file.len() - data],
+            file,
+            data,
+            integers: vec![0; SAMPLES],
+            patterns: vec![0; SAMPLES],
+            classes: vec![0; SAMPLES],
+        }
+    }
+
+    /// Times of reading: proved, plain, and the copy of the data block. Both have to leave
+    /// the same in every row.
+    fn timed(&mut self, code: u8, rounds: usize) -> [f64; 3] {
+        let (ours, plain): (Work<Buffers>, Work<Buffers>) = match code {
+            1..=3 => (
+                &|b| {
+                    let answer = calls::integers(&b.file, b.file.len(), 0, &mut b.integers);
+                    assert_eq!(answer.number, 0);
+                },
+                &|b| {
+                    let answer = plain_file::integers(&b.file, b.file.len(), 0, &mut b.integers);
+                    assert!(answer.is_ok());
+                },
+            ),
+            _ => (
+                &|b| {
+                    let (row, classes) = (&mut b.patterns, &mut b.classes);
+                    let answer = calls::bits(&b.file, b.file.len(), 0, row, classes);
+                    assert_eq!(answer.number, 0);
+                },
+                &|b| {
+                    let (row, classes) = (&mut b.patterns, &mut b.classes);
+                    let answer = plain_file::bits(&b.file, b.file.len(), 0, row, classes);
+                    assert!(answer.is_ok());
+                },
+            ),
+        };
+        ours(self);
+        let integers = std::mem::replace(&mut self.integers, vec![0; SAMPLES]);
+        let patterns = std::mem::replace(&mut self.patterns, vec![0; SAMPLES]);
+        let classes = std::mem::replace(&mut self.classes, vec![0; SAMPLES]);
+        plain(self);
+        assert!(integers == self.integers && patterns == self.patterns);
+        assert!(classes == self.classes);
+        let copy: Work<Buffers> = &|b| {
+            b.beside.copy_from_slice(&b.file[b.data..]);
+            black_box(&mut b.beside);
+        };
+        least(self, rounds, [ours, plain, copy])
+    }
+}
+
 fn samples(rounds: usize) {
-    println!("\n{SAMPLES} samples of a data block, nanoseconds a sample; the copy is of the block's bytes.");
-    println!("Writing includes the search for a sample that the code cannot hold.\n");
+    println!("\n{SAMPLES} samples of a file's only trace, nanoseconds a sample: read out of it, and added to a started file. The check of the file is in both, and in adding the search for a sample that the code cannot hold; the copy is of the data, or of the new trace's bytes.\n");
     println!("| code | order | way | proved | plain | copy | proved/plain | proved/copy |");
     println!("|---|---|---|---|---|---|---|---|");
     for code in 1..=5 {
-        for high in [false, true] {
-            let mut buffers = filled(code);
-            let (a, b): (Work<Buffers>, Work<Buffers>) = match code {
-                1..=3 => (
-                    &|b| assert!(proved::read_integers(code, &b.block, high, &mut b.integers)),
-                    &|b| assert!(plain::read_integers(code, &b.block, high, &mut b.integers)),
-                ),
-                _ => (
-                    &|b| {
-                        let (row, classes) = (&mut b.patterns, &mut b.classes);
-                        assert!(proved::read_bits(code, &b.block, high, row, classes))
-                    },
-                    &|b| {
-                        let (row, classes) = (&mut b.patterns, &mut b.classes);
-                        assert!(plain::read_bits(code, &b.block, high, row, classes))
-                    },
-                ),
-            };
-            sample_line(&mut buffers, rounds, (code, high, "read"), a, b);
+        for (order, name) in [(Order::Low, 0), (Order::High, 1)] {
+            let mut buffers = Buffers::new(order, code);
+            sample_line(code, name, "read", buffers.timed(code, rounds));
             // What was read is what is written: every sample of it can be held.
-            let (a, b): (Work<Buffers>, Work<Buffers>) = match code {
-                1..=3 => (
-                    &|b| {
-                        assert!(proved::write_integers(
-                            code,
-                            &b.integers,
-                            high,
-                            &mut b.block
-                        ))
-                    },
-                    &|b| assert!(plain::write_integers(code, &b.integers, high, &mut b.block)),
-                ),
-                _ => (
-                    &|b| assert!(proved::write_bits(code, &b.patterns, high, &mut b.block)),
-                    &|b| assert!(plain::write_bits(code, &b.patterns, high, &mut b.block)),
-                ),
+            let row = match code {
+                1..=3 => Row::Integers(buffers.integers),
+                _ => Row::Bits(buffers.patterns),
             };
-            sample_line(&mut buffers, rounds, (code, high, "write"), a, b);
+            let sheet = b"STACK\t4\n".to_vec();
+            let mut growing = Growing::of(started(name), sheet, code.into(), row);
+            sample_line(code, name, "write", growing.timed(rounds));
         }
     }
 }
 
-/// Both have to leave the same in every buffer.
-fn sample_line(
-    buffers: &mut Buffers,
-    rounds: usize,
-    (code, high, way): (u8, bool, &str),
-    ours: Work<Buffers>,
-    plain: Work<Buffers>,
-) {
-    ours(buffers);
-    let block = buffers.block.clone();
-    let rows = (buffers.integers.clone(), buffers.patterns.clone());
-    let classes = buffers.classes.clone();
-    plain(buffers);
-    assert!(block == buffers.block && classes == buffers.classes);
-    assert!(rows.0 == buffers.integers && rows.1 == buffers.patterns);
-    let copy: Work<Buffers> = &|b| {
-        b.beside.copy_from_slice(&b.block);
-        black_box(&mut b.beside);
-    };
-    let [a, b, c] = least(buffers, rounds, [ours, plain, copy]).map(|t| t / SAMPLES as f64);
+fn sample_line(code: u8, order: u32, way: &str, times: [f64; 3]) {
+    let [a, b, c] = times.map(|t| t / SAMPLES as f64);
     println!(
         "| {code} | {} | {way} | {a:.3} | {b:.3} | {c:.3} | {:.2} | {:.1} |",
-        order_name(high.into()),
+        order_name(order),
         a / b,
         a / c
     );
@@ -393,20 +373,6 @@ fn search_line(code: u8, times: [f64; 2]) {
     println!("| {code} | {early:.3} | {runs:.3} |");
 }
 
-/// A block of bytes without a pattern, and rows for its samples.
-fn filled(code: u8) -> Buffers {
-    let needed = needed_bytes(code, SAMPLES as u64).expect("a code");
-    let size = (needed as usize).next_multiple_of(4);
-    let mut rng = Rng::new(7);
-    Buffers {
-        block: (0..size).map(|_| rng.byte()).collect(),
-        integers: vec![0; SAMPLES],
-        patterns: vec![0; SAMPLES],
-        classes: vec![0; SAMPLES],
-        beside: vec![0; size],
-    }
-}
-
 /// A file with a free end, what is added, and a place for the copy.
 struct Growing {
     buffer: Vec<u8>,
@@ -419,22 +385,28 @@ struct Growing {
 
 impl Growing {
     fn new(order: u32, traces: usize, samples: usize, code: u32, count: usize) -> Growing {
-        let mut buffer = file(order, traces, samples);
-        let length = buffer.len();
-        buffer.resize(length + 8 * count + 1000, 0);
         let row = match code {
             1..=3 => Row::Integers((0..count).map(|i| (i as i32 * 7919) % 30_000).collect()),
             _ => Row::Bits((0..count).map(|i| i as u64 * 7919).collect()),
         };
-        let sheet = trace_sheet(traces + 1);
-        let beside = Vec::new();
+        let file = file(order, traces, samples);
+        Growing::of(file, trace_sheet(traces + 1), code, row)
+    }
+
+    fn of(file: Vec<u8>, sheet: Vec<u8>, code: u32, row: Row) -> Growing {
+        let count = match &row {
+            Row::Integers(row) => row.len(),
+            Row::Bits(row) => row.len(),
+        };
+        let (length, mut buffer) = (file.len(), file);
+        buffer.resize(length + 8 * count + 1000, 0);
         Growing {
             buffer,
             length,
             sheet,
             code,
             row,
-            beside,
+            beside: Vec::new(),
         }
     }
 

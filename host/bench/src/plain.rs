@@ -131,14 +131,7 @@ pub fn first_wide(code: u8, row: &[u64]) -> Option<usize> {
     }
 }
 
-pub fn write_integers(code: u8, row: &[i32], high: bool, part: &mut [u8]) -> bool {
-    if first_outside(code, row).is_some() {
-        return false;
-    }
-    put_integers(code, row, high, part)
-}
-
-/// The same of samples that the code can hold.
+/// The data bytes of samples that the code can hold, from the part's start on.
 pub fn put_integers(code: u8, row: &[i32], high: bool, part: &mut [u8]) -> bool {
     let needed = match code {
         1 => 2 * row.len(),
@@ -190,13 +183,6 @@ fn float20_of(sample: i32) -> (u16, u16) {
     let mantissa = (magnitude >> exponent) as u16;
     let sign = (sample >> 31) as u16;
     (exponent as u16, mantissa ^ sign)
-}
-
-pub fn write_bits(code: u8, row: &[u64], high: bool, part: &mut [u8]) -> bool {
-    if first_wide(code, row).is_some() {
-        return false;
-    }
-    put_bits(code, row, high, part)
 }
 
 /// The same of patterns that the code can hold.

@@ -1,5 +1,5 @@
-//! The check of a file, a keyword's value and the addition of a trace as plain Rust
-//! does them: the same rows in the same order, and the same answers.
+//! The check of a file, a keyword's value, the samples of a trace and the addition of one
+//! as plain Rust does them: the same rows in the same order, and the same answers.
 
 use crate::plain;
 
@@ -278,27 +278,78 @@ pub fn value(
     Ok((0, 0))
 }
 
-/// Row 18, and where the part's strings stand.
-fn area(found: &Checked, part: i32) -> Result<(usize, usize), Refused> {
-    let word = |place: usize| match found.high {
+/// A number of 4 bytes in the file's own order.
+fn long(found: &Checked, place: usize) -> usize {
+    match found.high {
         true => four::<true>(at(found.file, place)),
         false => four::<false>(at(found.file, place)),
-    };
-    if part == -1 {
-        return Ok((32 + found.m, word(32)));
     }
-    match usize::try_from(part) {
+}
+
+/// Row 18, and where a trace's block stands, with its size.
+fn block(found: &Checked, trace: i32) -> Result<(usize, usize), Refused> {
+    match usize::try_from(trace) {
         Ok(k) if k < found.n => {
-            let p = word(32 + 4 * k);
+            let p = long(found, 32 + 4 * k);
             let size: [u8; 2] = at(found.file, p + 2);
             let b = match found.high {
                 true => two::<true>(size),
                 false => two::<false>(size),
             };
-            Ok((p + 32, p + b))
+            Ok((p, b))
         }
         _ => Err((18, -1, 0)),
     }
+}
+
+/// Where the part's strings stand.
+fn area(found: &Checked, part: i32) -> Result<(usize, usize), Refused> {
+    if part == -1 {
+        return Ok((32 + found.m, long(found, 32)));
+    }
+    block(found, part).map(|(p, b)| (p + 32, p + b))
+}
+
+/// The data block of a trace whose code is one of these, rows of whose samples have such
+/// lengths: rows 1 to 17, 18, 33, 32; with its code.
+fn data<'a>(
+    found: &Checked<'a>,
+    trace: i32,
+    codes: std::ops::RangeInclusive<u8>,
+    rows: [usize; 2],
+) -> Result<(u8, &'a [u8]), Refused> {
+    let (p, b) = block(found, trace)?;
+    let code = found.file[p + 12];
+    if !codes.contains(&code) {
+        return Err((33, -1, 0));
+    }
+    let (d, s) = (long(found, p + 4), long(found, p + 8));
+    if rows != [s, s] {
+        return Err((32, -1, 0));
+    }
+    Ok((code, &found.file[p + b..p + b + d]))
+}
+
+/// The samples of a trace of codes 1 to 3.
+pub fn integers(buffer: &[u8], length: usize, trace: i32, row: &mut [i32]) -> Result<(), Refused> {
+    let found = check(buffer, length, false)?;
+    let (code, data) = data(&found, trace, 1..=3, [row.len(); 2])?;
+    plain::read_integers(code, data, found.high, row);
+    Ok(())
+}
+
+/// The patterns of a trace of codes 4 and 5, and their classes.
+pub fn bits(
+    buffer: &[u8],
+    length: usize,
+    trace: i32,
+    row: &mut [u64],
+    classes: &mut [u8],
+) -> Result<(), Refused> {
+    let found = check(buffer, length, false)?;
+    let (code, data) = data(&found, trace, 4..=5, [row.len(), classes.len()])?;
+    plain::read_bits(code, data, found.high, row, classes);
+    Ok(())
 }
 
 /// A trace of integers behind the image: rows 1 to 17, then 24 to 30.

@@ -1,35 +1,43 @@
-//! The proved listing, beside the reference's: files that are valid, damaged or any
-//! bytes, and the cases that document 01 names.
+//! The proved listing, and what the listing program prints, beside the reference's: files
+//! that are valid, damaged or any bytes, and the cases that document 01 names.
 
 use seg2_probe as proved;
-use seg2_reference::generate::lay::{four, two};
 use seg2_reference::generate::*;
-use seg2_reference::listing::listing;
 use seg2_reference::worked::{example, EXAMPLE_LISTED};
-use seg2_reference::Order;
+use seg2_reference::{listing, listing_program, Order, MAXIMUM_LENGTH};
 
 /// A byte that stands behind the listing, which must stay.
 const BEHIND: u8 = 0xA5;
 
-/// The proved listing: into a row of the least length that is enough, and not into
-/// one that is shorter by one.
-fn list(input: &[u8]) -> Vec<u8> {
+type Proved = fn(&[u8], &mut [u8]) -> Option<usize>;
+
+/// A proved listing: into a row of the least length that is enough, and not into one
+/// that is shorter by one.
+fn listed(proved: Proved, input: &[u8]) -> Vec<u8> {
     let room = 16 * input.len() + 64;
     let mut short = vec![BEHIND; room - 1];
-    assert_eq!(proved::list(input, &mut short), None);
+    assert_eq!(proved(input, &mut short), None);
     assert!(short.iter().all(|&b| b == BEHIND));
     let mut out = vec![BEHIND; room];
-    let length = proved::list(input, &mut out).expect("room");
+    let length = proved(input, &mut out).expect("room");
     assert!(out[length..].iter().all(|&b| b == BEHIND));
     out.truncate(length);
     out
 }
 
+/// The listing of a file, and what the program prints of it.
 fn same(input: &[u8]) -> Vec<u8> {
-    let text = list(input);
+    let text = listed(proved::list, input);
+    let expected = listing(input);
     assert_eq!(
         String::from_utf8_lossy(&text),
-        String::from_utf8_lossy(&listing(input))
+        String::from_utf8_lossy(&expected)
+    );
+    let printed = listed(proved::program, input);
+    let expected = listing_program(input);
+    assert_eq!(
+        String::from_utf8_lossy(&printed),
+        String::from_utf8_lossy(&expected)
     );
     text
 }
@@ -38,56 +46,10 @@ fn is(input: &[u8], expected: &str) {
     assert_eq!(String::from_utf8(same(input)).unwrap(), expected);
 }
 
-/// One string: its offset, its text and the terminator 0.
-fn string(order: Order, text: &[u8]) -> Vec<u8> {
-    [&two(text.len() as u16 + 3, order)[..], text, &[0]].concat()
-}
-
-/// Strings one behind the other, the end mark and zeros to a multiple of 4.
-fn area(order: Order, texts: &[&[u8]]) -> Vec<u8> {
-    let mut bytes: Vec<u8> = texts.iter().flat_map(|t| string(order, t)).collect();
-    bytes.extend([0, 0]);
-    bytes.resize(bytes.len().next_multiple_of(4), 0);
-    bytes
-}
-
 /// A file of traces of code 1 with no samples, terminators 0 and 0Ah.
 fn file(order: Order, strings: &[&[u8]], traces: &[&[&[u8]]]) -> Vec<u8> {
-    let mark = match order {
-        Order::Low => [0x55, 0x3A],
-        Order::High => [0x3A, 0x55],
-    };
-    let m = 4 * traces.len() as u16;
-    let mut head = [
-        &mark[..],
-        &two(1, order),
-        &two(m, order),
-        &two(traces.len() as u16, order),
-        &[1, 0, 0, 1, 10, 0],
-    ]
-    .concat();
-    head.resize(32, 0);
-    let texts = area(order, strings);
-    let mut at = 32 + m as usize + texts.len();
-    let mut blocks = Vec::new();
-    for strings in traces {
-        head.extend(four(at as u32, order));
-        let texts = area(order, strings);
-        let size = 32 + texts.len();
-        let mut block = [
-            &two(0x4422, order)[..],
-            &two(size as u16, order),
-            &four(0, order),
-            &four(0, order),
-            &[1],
-        ]
-        .concat();
-        block.resize(32, 0);
-        blocks.extend(block);
-        blocks.extend(texts);
-        at += size;
-    }
-    [head, texts, blocks].concat()
+    let traces: Vec<PlainTrace> = traces.iter().map(|t| PlainTrace::of_strings(t)).collect();
+    plain_file(order, strings, &traces)
 }
 
 /// Also as the listing program's own test has it.
@@ -140,18 +102,52 @@ fn refusals_of_each_part() {
     is(&pointer, "R\t8\t1\t36\n");
 }
 
+/// 19 is the program's alone: the listing takes a file of any length.
 #[test]
 fn the_size_of_the_input() {
+    let lines = "SEG2\tlow\t1\t4\nS\tF\tUNITS\tMETERS\nT\t0\t1\t0\nS\t0\tSTACK\t1\n";
+    let prints = |input: &[u8], text: &str| {
+        assert_eq!(listed(proved::program, input), text.as_bytes());
+    };
+    let too_long = "R\t19\tF\t0\n";
     let mut bytes = file(Order::Low, &[b"UNITS METERS"], &[&[b"STACK 1"]]);
     bytes.resize(65_536, 0xEE);
-    is(
-        &bytes,
-        "SEG2\tlow\t1\t4\nS\tF\tUNITS\tMETERS\nT\t0\t1\t0\nS\t0\tSTACK\t1\n",
-    );
+    is(&bytes, lines);
+    prints(&bytes, lines);
     bytes.push(0xEE);
-    is(&bytes, "R\t19\tF\t0\n");
-    is(&[0; 65_537], "R\t19\tF\t0\n");
-    is(&too_long_for_listing(&mut Rng::new(5)), "R\t19\tF\t0\n");
+    is(&bytes, lines);
+    prints(&bytes, too_long);
+    is(&[0; 65_537], "R\t2\tF\t0\n");
+    prints(&[0; 65_537], too_long);
+    let long = too_long_for_listing(&mut Rng::new(5));
+    same(&long);
+    prints(&long, too_long);
+}
+
+/// More digits than a file of 65,536 bytes can need, and the longest file there is.
+#[test]
+fn large_files() {
+    let data = vec![0; 200_000];
+    let trace = PlainTrace {
+        code: 1,
+        count: 100_000,
+        data: &data,
+        ..PlainTrace::default()
+    };
+    let mut bytes = plain_file(Order::High, &[b"UNITS METERS"], &[trace]);
+    let lines = "SEG2\thigh\t1\t4\nS\tF\tUNITS\tMETERS\nT\t0\t1\t100000\n";
+    is(&bytes, lines);
+    // Zeros, which take no memory before they are written: the row has a gigabyte.
+    let mut out = vec![0; 16 * (MAXIMUM_LENGTH + 1) + 64];
+    for (size, text) in [
+        (MAXIMUM_LENGTH, lines),
+        (MAXIMUM_LENGTH + 1, "R\t1\tF\t0\n"),
+    ] {
+        bytes.resize(size, 0xEE);
+        let length = proved::list(&bytes, &mut out).expect("room");
+        assert_eq!(&out[..length], text.as_bytes());
+        assert_eq!(listing(&bytes), text.as_bytes());
+    }
 }
 
 /// The longest listing of its kind: as many traces as the slots allow, and a NOTE of

@@ -29,7 +29,7 @@ pub mod worked;
 pub mod write;
 
 pub use check::{check, check_for_addition, File, Trace, MAXIMUM_LENGTH};
-pub use listing::{listing, LISTING_MAXIMUM};
+pub use listing::{listing, listing_program, LISTING_MAXIMUM};
 pub use number::{double, location, number, Location, Number};
 pub use questions::{
     file_block, keyword, keyword_value, note_lines, samples_as_bits, samples_as_integers, string,

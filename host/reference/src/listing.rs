@@ -1,27 +1,30 @@
-//! The listing program's output: document 01, "Worked values".
+//! A file's listing, and the listing program's output: document 01, "Worked values".
 
 use crate::check::{check, File};
 use crate::questions::note_lines;
-use crate::refusal::{refuse_if, Refusal};
+use crate::refusal::Refusal;
 use crate::strings::{StringPlace, NOTE};
 use crate::words::Order;
 
 /// Row 19: "the listing program's input exceeds 65,536 bytes".
 pub const LISTING_MAXIMUM: usize = 65_536;
 
-/// What the listing program prints for one file from standard input. "A refusal
-/// prints one line only: R, number, part (F for -1), place".
-pub fn listing(input: &[u8]) -> Vec<u8> {
-    match checked(input) {
-        Ok(file) => file_lines(input, &file),
-        Err(refusal) => refusal_line(refusal),
+/// What the listing program prints for one file from standard input. "19 comes before
+/// all others."
+pub fn listing_program(input: &[u8]) -> Vec<u8> {
+    match input.len() > LISTING_MAXIMUM {
+        true => refusal_line(Refusal::file(19, 0)),
+        false => listing(input),
     }
 }
 
-/// "19 comes before all others."
-fn checked(input: &[u8]) -> Result<File, Refusal> {
-    refuse_if(input.len() > LISTING_MAXIMUM, Refusal::file(19, 0))?;
-    check(input, input.len())
+/// The listing of a file of any length. "A refusal prints one line only: R, number,
+/// part (F for -1), place".
+pub fn listing(input: &[u8]) -> Vec<u8> {
+    match check(input, input.len()) {
+        Ok(file) => file_lines(input, &file),
+        Err(refusal) => refusal_line(refusal),
+    }
 }
 
 fn refusal_line(refusal: Refusal) -> Vec<u8> {

@@ -25,7 +25,7 @@ fn samples_number(case: &SampleCase) -> u8 {
 
 /// What the listing program answers, by its refusal line.
 fn listed_number(input: &[u8]) -> u8 {
-    let lines = String::from_utf8_lossy(&listing(input)).into_owned();
+    let lines = String::from_utf8_lossy(&listing_program(input)).into_owned();
     match lines.strip_prefix("R\t").and_then(|l| l.split('\t').next()) {
         Some(number) => number.parse().expect("a number"),
         None => 0,

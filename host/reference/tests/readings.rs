@@ -465,10 +465,14 @@ fn listings() {
                     S\t0\tEMPTY\t\n";
     assert_eq!(String::from_utf8(listing(&bytes)).as_deref(), Ok(expected));
     bytes.resize(65_536, 0);
-    assert_eq!(String::from_utf8(listing(&bytes)).as_deref(), Ok(expected));
+    assert_eq!(listing_program(&bytes), expected.as_bytes());
+    // 19 is the program's alone: the listing takes a file of any length.
     bytes.push(0);
-    assert_eq!(listing(&bytes), b"R\t19\tF\t0\n");
-    assert_eq!(listing(&[0; 70_000]), b"R\t19\tF\t0\n");
+    assert_eq!(listing_program(&bytes), b"R\t19\tF\t0\n");
+    assert_eq!(listing(&bytes), expected.as_bytes());
+    assert_eq!(listing_program(&[0; 70_000]), b"R\t19\tF\t0\n");
+    assert_eq!(listing(&[0; 70_000]), b"R\t2\tF\t0\n");
+    assert_eq!(listing_program(&[]), b"R\t1\tF\t0\n");
     assert_eq!(listing(&[]), b"R\t1\tF\t0\n");
     let zero = image(ST, LT, &[0, 0]);
     assert_eq!(listing(&zero), b"R\t5\tF\t6\n");

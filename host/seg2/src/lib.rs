@@ -40,7 +40,8 @@
 #![deny(missing_docs)]
 #![deny(unsafe_code)]
 
-mod calls;
+#[doc(hidden)]
+pub mod calls;
 mod file;
 mod part;
 #[doc(hidden)]

@@ -1,7 +1,8 @@
--- `listing::list` meets its contract. A law for each answer. Assumes nothing.
+-- `listing::list` meets its contract: each answer prints its text. Assumes nothing.
 use mathlib.Core.Path.{sym, _∙_}
-use Rattle.listing.specs.Told.{list-full, list-large, list-refused, list-file, whole-image}
+use Rattle.word.specs.Bytes.{each-bytes}
 use Rattle.listing.specs.Room.{file-few}
+use Rattle.listing.specs.Told.{enough, print-full, print-told, prints-refusal, prints-file, whole-image}
 use native.Mathlib.Omega.{arith}
 use borrow.Author.Needs.{needs}
 use Rattle.listing.proofs.list.Statement.{statement}
@@ -11,18 +12,64 @@ pub list-spec : {M : Type 1} → statement M
 list-spec =
     tie.close
     (tie.spec
-    (λ c. list-full (c .before .before .before .args .input .now) (c .before .before .before .args .out .now) (omega (arith, c .if1 .taken)))
-    (λ c. omega (arith, c .if1 .left))
-    (λ c. list-full (c .before .before .before .before .args .input .now) (c .before .before .before .before .args .out .now) (omega (arith, c .before .if1 .left, c .if2 .taken)))
-    (λ c κs. omega (arith, c .before .before .before .if1 .left))
-    (λ c. search needs)
-    (λ c. list-large (c .before .before .before .before .before .before .before .before .before .args .input .now) (c .before .before .before .before .before .before .before .before .before .args .out .now) (omega (arith, c .before .before .before .before .before .before .if1 .left, c .before .before .before .before .before .if2 .left)) (c .before .before .before .before .if3 .taken) _ _ (c .before .before .put-refusal .ensures .0) (omega (arith, c .before .before .put-refusal .ensures .1, c .before .before .before .before .before .before .if1 .left)))
+    (λ c κs. search needs)
+    (λ c.
+    let at-too-short = c .before in
+    let start = at-too-short .before .before .before in
+    let args = start .args in
+    print-full _ (args .input .now) (args .out .now) (sym (at-too-short .too-short .ensures) ∙ c .if1 .taken))
     (λ c κs. search needs)
     (λ c. search needs)
-    (λ c κs. omega (arith, c .before .before .before .before .before .before .before .if1 .left))
+    (λ c κs.
+    let at-if1 = c .before .before .before .before .before in
+    let at-too-short = at-if1 .before in
+    let start = at-too-short .before .before .before in
+    let args = start .args in
+    let room = enough (args .input .now) (args .out .now) (sym (at-too-short .too-short .ensures) ∙ at-if1 .if1 .left) in omega (arith, room))
     (λ c. search needs)
-    (λ c κs. let w = whole-image (c .before .before .before .before .before .before .before .before .before .args .input .now) (sym (c .before .before .before .check .ensures) ∙ c .before .enum-told .given .1) in (w .0, w .1, c .before .before .before .before .if3 .left, omega (arith, file-few (c .before .before .before .before .before .before .before .before .before .args .input .now) (w .0) (w .1) (c .before .before .before .before .if3 .left), c .before .before .before .before .before .before .if1 .left, c .before .before .before .before .before .if2 .left)))
+    (λ c κs.
+    let at-enum-told = c .before in
+    let at-check = at-enum-told .before .before in
+    let at-if1 = at-check .before in
+    let at-too-short = at-if1 .before in
+    let at-shared-slice-known = at-too-short .before .before in
+    let start = at-shared-slice-known .before in
+    let args = start .args in
+    let room = enough (args .input .now) (args .out .now) (sym (at-too-short .too-short .ensures) ∙ at-if1 .if1 .left) in
+    let ok = sym (at-check .check .ensures) ∙ at-enum-told .enum-told .given .1 in
+    let whole = whole-image (args .input .now) ok in
+    let few = file-few (args .input .now) (whole .0) (whole .1) (whole .2)
+    (each-bytes (args .input .now) (λ i. at-shared-slice-known .shared-slice-known .given i .fits)) in
+    (whole .0, whole .1, omega (arith, few, room)))
     (λ c. search needs)
-    (λ c. list-refused (c .before .before .before .before .before .before .before .before .before .before .before .before .before .args .input .now) (c .before .before .before .before .before .before .before .before .before .before .before .before .before .args .out .now) (omega (arith, c .before .before .before .before .before .before .before .before .before .before .if1 .left, c .before .before .before .before .before .before .before .before .before .if2 .left)) (c .before .before .before .before .before .before .before .before .if3 .left) _ (sym (c .before .before .before .before .before .before .before .check .ensures) ∙ c .before .before .before .before .before .v .given .1) _ _ (c .before .before .put-refusal2 .ensures .0) (omega (arith, c .before .before .put-refusal2 .ensures .1, c .before .before .before .before .before .before .before .before .before .before .if1 .left)))
+    (λ c.
+    let at-put-refusal = c .before .before in
+    let at-v = at-put-refusal .before .before .before in
+    let at-check = at-v .before .before in
+    let at-if1 = at-check .before in
+    let at-too-short = at-if1 .before in
+    let start = at-too-short .before .before .before in
+    let args = start .args in
+    let tested = sym (at-too-short .too-short .ensures) ∙ at-if1 .if1 .left in
+    let room = enough (args .input .now) (args .out .now) tested in
+    print-told _ (args .input .now) (args .out .now) tested _ _ _
+    (prints-refusal (args .input .now) (sym (at-check .check .ensures) ∙ at-v .v .given .1)) (at-put-refusal .put-refusal .ensures .0)
+    (omega (arith, at-put-refusal .put-refusal .ensures .1, room)))
     (λ c. search needs)
-    (λ c. list-file (c .before .before .before .before .before .before .before .before .before .before .before .before .args .input .now) (c .before .before .before .before .before .before .before .before .before .before .before .before .args .out .now) (omega (arith, c .before .before .before .before .before .before .before .before .before .if1 .left, c .before .before .before .before .before .before .before .before .if2 .left)) (c .before .before .before .before .before .before .before .if3 .left) (sym (c .before .before .before .before .before .before .check .ensures) ∙ c .before .before .before .before .enum-told .given .1) _ _ (c .before .before .put-file .ensures) (let w = whole-image (c .before .before .before .before .before .before .before .before .before .before .before .before .args .input .now) (sym (c .before .before .before .before .before .before .check .ensures) ∙ c .before .before .before .before .enum-told .given .1) in omega (arith, c .before .before .put-file .ensures .0, file-few (c .before .before .before .before .before .before .before .before .before .before .before .before .args .input .now) (w .0) (w .1) (c .before .before .before .before .before .before .before .if3 .left), c .before .before .before .before .before .before .before .before .before .if1 .left, c .before .before .before .before .before .before .before .before .if2 .left))))
+    (λ c.
+    let at-put-file = c .before .before in
+    let at-enum-told = at-put-file .before .before in
+    let at-check = at-enum-told .before .before in
+    let at-if1 = at-check .before in
+    let at-too-short = at-if1 .before in
+    let at-shared-slice-known = at-too-short .before .before in
+    let start = at-shared-slice-known .before in
+    let args = start .args in
+    let tested = sym (at-too-short .too-short .ensures) ∙ at-if1 .if1 .left in
+    let room = enough (args .input .now) (args .out .now) tested in
+    let ok = sym (at-check .check .ensures) ∙ at-enum-told .enum-told .given .1 in
+    let whole = whole-image (args .input .now) ok in
+    let few = file-few (args .input .now) (whole .0) (whole .1) (whole .2)
+    (each-bytes (args .input .now) (λ i. at-shared-slice-known .shared-slice-known .given i .fits)) in
+    print-told _ (args .input .now) (args .out .now) tested _ _ _
+    (prints-file (args .input .now) ok) (at-put-file .put-file .ensures) (omega (arith, at-put-file .put-file .ensures .0, few, room))))

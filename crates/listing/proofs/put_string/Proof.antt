@@ -10,9 +10,37 @@ put-string-spec =
     tie.close
     (tie.spec
     (λ c κs. search needs)
-    (λ c κs. (c .before .before .before .before .before .before .before .pre .0, (rw (values-note (c .before .before .before .before .before .before .before .args .u .now) (c .before .before .before .before .before .before .before .args .key .now) (c .before .before .before .before .before .before .before .args .v .now) (sym (c .before .before .is-note .ensures) ∙ c .before .if1 .taken)) at (c .before .before .before .before .before .before .before .pre .1))))
+    (λ c κs.
+    let at-if1 = c .before in
+    let at-is-note = at-if1 .before in
+    let start = at-is-note .before .before .before .before .before in
+    let args = start .args in (
+      start .pre .0,
+      (rw (values-note (args .u .now) (args .key .now) (args .v .now) (sym (at-is-note .is-note .ensures) ∙ at-if1 .if1 .taken)) at
+          (start .pre .1)),
+    ))
     (λ c. search needs)
-    (λ c. rw (values-note (c .before .before .before .before .before .before .before .before .before .before .args .u .now) (c .before .before .before .before .before .before .before .before .before .before .args .key .now) (c .before .before .before .before .before .before .before .before .before .before .args .v .now) (sym (c .before .before .before .before .before .is-note .ensures) ∙ c .before .before .before .before .if1 .taken)) (c .before .before .put-lines .ensures))
-    (λ c κs. (rw (values-plain (c .before .before .before .before .before .before .before .args .u .now) (c .before .before .before .before .before .before .before .args .key .now) (c .before .before .before .before .before .before .before .args .v .now) (sym (c .before .before .is-note .ensures) ∙ c .before .if1 .left), lines-one) at (c .before .before .before .before .before .before .before .pre .1)))
+    (λ c.
+    let at-put-lines = c .before .before in
+    let at-if1 = at-put-lines .before .before in
+    let at-is-note = at-if1 .before in
+    let start = at-is-note .before .before .before .before .before in
+    let args = start .args in
+    rw (values-note (args .u .now) (args .key .now) (args .v .now) (sym (at-is-note .is-note .ensures) ∙ at-if1 .if1 .taken))
+    (at-put-lines .put-lines .ensures))
+    (λ c κs.
+    let at-if1 = c .before in
+    let at-is-note = at-if1 .before in
+    let start = at-is-note .before .before .before .before .before in
+    let args = start .args in
+    (rw (values-plain (args .u .now) (args .key .now) (args .v .now) (sym (at-is-note .is-note .ensures) ∙ at-if1 .if1 .left), lines-one) at
+    (start .pre .1)))
     (λ c. search needs)
-    (λ c. rw (values-plain (c .before .before .before .before .before .before .before .before .before .before .args .u .now) (c .before .before .before .before .before .before .before .before .before .before .args .key .now) (c .before .before .before .before .before .before .before .before .before .before .args .v .now) (sym (c .before .before .before .before .before .is-note .ensures) ∙ c .before .before .before .before .if1 .left), lines-one) (c .before .before .put-line .ensures)))
+    (λ c.
+    let at-put-line = c .before .before in
+    let at-if1 = at-put-line .before .before in
+    let at-is-note = at-if1 .before in
+    let start = at-is-note .before .before .before .before .before in
+    let args = start .args in
+    rw (values-plain (args .u .now) (args .key .now) (args .v .now) (sym (at-is-note .is-note .ensures) ∙ at-if1 .if1 .left), lines-one)
+    (at-put-line .put-line .ensures)))

@@ -19,21 +19,139 @@ put-strings-spec =
     (tie.spec
     Inv-loop
     μ-loop
-    (λ c. stringing-start (c .before .before .before .before .args .out .now) (c .before .before .before .before .args .at) (c .before .before .before .before .args .part) (c .before .before .before .before .args .f .now) (c .before .before .before .before .args .a) (c .before .before .before .before .args .e) (c .before .before .before .before .args .high) (c .before .before .before .before .args .t .now) (c .before .before .before .before .args .u .now) (c .before .before .before .before .pre .0) (c .before .before .before .before .pre .1))
+    (λ c.
+    let start = c .before .before .before .before in
+    let args = start .args in
+    stringing-start (args .out .now) (args .at) (args .part) (args .f .now) (args .a) (args .e) (args .high) (args .t .now) (args .u .now)
+    (start .pre .0) (start .pre .1))
     (λ c κs. (c .before .loop .inv .0, c .before .before .before .before .before .before .pre .1))
     (λ c. search needs)
     (λ c. c .before .before .before .before .loop .inv .1)
-    (λ c. stringing-none (c .before .before .before .before .before .before .before .before .before .args .out .now) (c .before .before .before .before .before .before .before .before .before .args .at) (c .before .before .before .before .before .before .before .before .before .args .part) (c .before .before .before .before .before .before .before .before .before .args .f .now) (c .before .before .before .before .before .before .before .before .before .args .a) (c .before .before .before .before .before .before .before .before .before .args .e) (c .before .before .before .before .before .before .before .before .before .args .high) (c .before .before .before .before .before .before .before .before .before .args .t .now) (c .before .before .before .before .before .before .before .before .before .args .u .now) (c .before .before .before .before .loop .s) (c .before .before .before .before .loop .to) (c .before .before .before .before .loop .out) (c .before .before .before .before .loop .inv) (c .before .before .before .loop-test .taken) (c .before .before .before .before .before .before .before .before .before .pre .1) (sym (c .before .before .nth .ensures) ∙ c .enum-told .given .1))
+    (λ c.
+    let at-nth = c .before .before in
+    let at-loop-test = at-nth .before in
+    let at-loop = at-loop-test .before in
+    let start = at-loop .before .before .before .before .before in
+    let args = start .args in
+    stringing-none (args .out .now) (args .at) (args .part) (args .f .now) (args .a) (args .e) (args .high) (args .t .now) (args .u .now)
+    (at-loop .loop .s) (at-loop .loop .to) (at-loop .loop .out) (at-loop .loop .inv) (at-loop-test .loop-test .taken) (start .pre .1)
+    (sym (at-nth .nth .ensures) ∙ c .enum-told .given .1))
     (λ c. search needs)
-    (λ c. let b = stringing-in (c .before .before .before .before .before .before .before .before .before .before .before .args .out .now) (c .before .before .before .before .before .before .before .before .before .before .before .args .at) (c .before .before .before .before .before .before .before .before .before .before .before .args .part) (c .before .before .before .before .before .before .before .before .before .before .before .args .f .now) (c .before .before .before .before .before .before .before .before .before .before .before .args .a) (c .before .before .before .before .before .before .before .before .before .before .before .args .e) (c .before .before .before .before .before .before .before .before .before .before .before .args .high) (c .before .before .before .before .before .before .before .before .before .before .before .args .t .now) (c .before .before .before .before .before .before .before .before .before .before .before .args .u .now) (c .before .before .before .before .before .before .loop .s) (c .before .before .before .before .before .before .loop .to) (c .before .before .before .before .before .before .loop .out) (c .before .before .before .before .before .before .loop .inv) (c .before .before .before .before .before .loop-test .taken) (c .before .before .before .before .before .before .before .before .before .before .before .pre .1) _ (sym (c .before .before .before .before .nth .ensures) ∙ c .before .before .first .given .1) in omega (arith, b .0 .0, b .0 .1, b .0 .2, b .0 .3, b .1, b .2, c .before .before .before .before .before .before .before .before .before .before .before .pre .1))
-    (λ c. let b = stringing-in (c .before .before .before .before .before .before .before .before .before .before .before .args .out .now) (c .before .before .before .before .before .before .before .before .before .before .before .args .at) (c .before .before .before .before .before .before .before .before .before .before .before .args .part) (c .before .before .before .before .before .before .before .before .before .before .before .args .f .now) (c .before .before .before .before .before .before .before .before .before .before .before .args .a) (c .before .before .before .before .before .before .before .before .before .before .before .args .e) (c .before .before .before .before .before .before .before .before .before .before .before .args .high) (c .before .before .before .before .before .before .before .before .before .before .before .args .t .now) (c .before .before .before .before .before .before .before .before .before .before .before .args .u .now) (c .before .before .before .before .before .before .loop .s) (c .before .before .before .before .before .before .loop .to) (c .before .before .before .before .before .before .loop .out) (c .before .before .before .before .before .before .loop .inv) (c .before .before .before .before .before .loop-test .taken) (c .before .before .before .before .before .before .before .before .before .before .before .pre .1) _ (sym (c .before .before .before .before .nth .ensures) ∙ c .before .before .first .given .1) in omega (arith, b .0 .0, b .0 .1, b .0 .2, b .0 .3, b .1, b .2, c .before .before .before .before .before .before .before .before .before .before .before .pre .1))
-    (λ c. let b = stringing-in (c .before .before .before .before .before .before .before .before .before .before .before .args .out .now) (c .before .before .before .before .before .before .before .before .before .before .before .args .at) (c .before .before .before .before .before .before .before .before .before .before .before .args .part) (c .before .before .before .before .before .before .before .before .before .before .before .args .f .now) (c .before .before .before .before .before .before .before .before .before .before .before .args .a) (c .before .before .before .before .before .before .before .before .before .before .before .args .e) (c .before .before .before .before .before .before .before .before .before .before .before .args .high) (c .before .before .before .before .before .before .before .before .before .before .before .args .t .now) (c .before .before .before .before .before .before .before .before .before .before .before .args .u .now) (c .before .before .before .before .before .before .loop .s) (c .before .before .before .before .before .before .loop .to) (c .before .before .before .before .before .before .loop .out) (c .before .before .before .before .before .before .loop .inv) (c .before .before .before .before .before .loop-test .taken) (c .before .before .before .before .before .before .before .before .before .before .before .pre .1) _ (sym (c .before .before .before .before .nth .ensures) ∙ c .before .before .first .given .1) in omega (arith, b .0 .0, b .0 .1, b .0 .2, b .0 .3, b .1, b .2, c .before .before .before .before .before .before .before .before .before .before .before .pre .1))
-    (λ c. let b = stringing-in (c .before .before .before .before .before .before .before .before .before .before .before .before .args .out .now) (c .before .before .before .before .before .before .before .before .before .before .before .before .args .at) (c .before .before .before .before .before .before .before .before .before .before .before .before .args .part) (c .before .before .before .before .before .before .before .before .before .before .before .before .args .f .now) (c .before .before .before .before .before .before .before .before .before .before .before .before .args .a) (c .before .before .before .before .before .before .before .before .before .before .before .before .args .e) (c .before .before .before .before .before .before .before .before .before .before .before .before .args .high) (c .before .before .before .before .before .before .before .before .before .before .before .before .args .t .now) (c .before .before .before .before .before .before .before .before .before .before .before .before .args .u .now) (c .before .before .before .before .before .before .before .loop .s) (c .before .before .before .before .before .before .before .loop .to) (c .before .before .before .before .before .before .before .loop .out) (c .before .before .before .before .before .before .before .loop .inv) (c .before .before .before .before .before .before .loop-test .taken) (c .before .before .before .before .before .before .before .before .before .before .before .before .pre .1) _ (sym (c .before .before .before .before .before .nth .ensures) ∙ c .before .before .before .first .given .1) in omega (arith, b .0 .0, b .0 .1, b .0 .2, b .0 .3, b .1, b .2, c .before .before .before .before .before .before .before .before .before .before .before .before .pre .1))
-    (λ c. let b = stringing-in (c .before .before .before .before .before .before .before .before .before .before .before .before .args .out .now) (c .before .before .before .before .before .before .before .before .before .before .before .before .args .at) (c .before .before .before .before .before .before .before .before .before .before .before .before .args .part) (c .before .before .before .before .before .before .before .before .before .before .before .before .args .f .now) (c .before .before .before .before .before .before .before .before .before .before .before .before .args .a) (c .before .before .before .before .before .before .before .before .before .before .before .before .args .e) (c .before .before .before .before .before .before .before .before .before .before .before .before .args .high) (c .before .before .before .before .before .before .before .before .before .before .before .before .args .t .now) (c .before .before .before .before .before .before .before .before .before .before .before .before .args .u .now) (c .before .before .before .before .before .before .before .loop .s) (c .before .before .before .before .before .before .before .loop .to) (c .before .before .before .before .before .before .before .loop .out) (c .before .before .before .before .before .before .before .loop .inv) (c .before .before .before .before .before .before .loop-test .taken) (c .before .before .before .before .before .before .before .before .before .before .before .before .pre .1) _ (sym (c .before .before .before .before .before .nth .ensures) ∙ c .before .before .before .first .given .1) in omega (arith, b .0 .0, b .0 .1, b .0 .2, b .0 .3, b .1, b .2, c .before .before .before .before .before .before .before .before .before .before .before .before .pre .1))
-    (λ c. let b = stringing-in (c .before .before .before .before .before .before .before .before .before .before .before .before .args .out .now) (c .before .before .before .before .before .before .before .before .before .before .before .before .args .at) (c .before .before .before .before .before .before .before .before .before .before .before .before .args .part) (c .before .before .before .before .before .before .before .before .before .before .before .before .args .f .now) (c .before .before .before .before .before .before .before .before .before .before .before .before .args .a) (c .before .before .before .before .before .before .before .before .before .before .before .before .args .e) (c .before .before .before .before .before .before .before .before .before .before .before .before .args .high) (c .before .before .before .before .before .before .before .before .before .before .before .before .args .t .now) (c .before .before .before .before .before .before .before .before .before .before .before .before .args .u .now) (c .before .before .before .before .before .before .before .loop .s) (c .before .before .before .before .before .before .before .loop .to) (c .before .before .before .before .before .before .before .loop .out) (c .before .before .before .before .before .before .before .loop .inv) (c .before .before .before .before .before .before .loop-test .taken) (c .before .before .before .before .before .before .before .before .before .before .before .before .pre .1) _ (sym (c .before .before .before .before .before .nth .ensures) ∙ c .before .before .before .first .given .1) in omega (arith, b .0 .0, b .0 .1, b .0 .2, b .0 .3, b .1, b .2, c .before .before .before .before .before .before .before .before .before .before .before .before .pre .1))
-    (λ c κs. (c .before .before .before .before .before .before .before .before .before .before .before .before .before .pre .2, stringing-room (c .before .before .before .before .before .before .before .before .before .before .before .before .before .args .out .now) (c .before .before .before .before .before .before .before .before .before .before .before .before .before .args .at) (c .before .before .before .before .before .before .before .before .before .before .before .before .before .args .part) (c .before .before .before .before .before .before .before .before .before .before .before .before .before .args .f .now) (c .before .before .before .before .before .before .before .before .before .before .before .before .before .args .a) (c .before .before .before .before .before .before .before .before .before .before .before .before .before .args .e) (c .before .before .before .before .before .before .before .before .before .before .before .before .before .args .high) (c .before .before .before .before .before .before .before .before .before .before .before .before .before .args .t .now) (c .before .before .before .before .before .before .before .before .before .before .before .before .before .args .u .now) (c .before .before .before .before .before .before .before .before .loop .s) (c .before .before .before .before .before .before .before .before .loop .to) (c .before .before .before .before .before .before .before .before .loop .out) (c .before .before .before .before .before .before .before .before .loop .inv) (c .before .before .before .before .before .before .before .loop-test .taken) (c .before .before .before .before .before .before .before .before .before .before .before .before .before .pre .1) _ (sym (c .before .before .before .before .before .before .nth .ensures) ∙ c .before .before .before .before .first .given .1) (c .before .before .before .before .before .before .before .before .before .before .before .before .before .pre .3)))
-    (λ c. let b = stringing-in (c .before .before .before .before .before .before .before .before .before .before .before .before .before .before .before .before .args .out .now) (c .before .before .before .before .before .before .before .before .before .before .before .before .before .before .before .before .args .at) (c .before .before .before .before .before .before .before .before .before .before .before .before .before .before .before .before .args .part) (c .before .before .before .before .before .before .before .before .before .before .before .before .before .before .before .before .args .f .now) (c .before .before .before .before .before .before .before .before .before .before .before .before .before .before .before .before .args .a) (c .before .before .before .before .before .before .before .before .before .before .before .before .before .before .before .before .args .e) (c .before .before .before .before .before .before .before .before .before .before .before .before .before .before .before .before .args .high) (c .before .before .before .before .before .before .before .before .before .before .before .before .before .before .before .before .args .t .now) (c .before .before .before .before .before .before .before .before .before .before .before .before .before .before .before .before .args .u .now) (c .before .before .before .before .before .before .before .before .before .before .before .loop .s) (c .before .before .before .before .before .before .before .before .before .before .before .loop .to) (c .before .before .before .before .before .before .before .before .before .before .before .loop .out) (c .before .before .before .before .before .before .before .before .before .before .before .loop .inv) (c .before .before .before .before .before .before .before .before .before .before .loop-test .taken) (c .before .before .before .before .before .before .before .before .before .before .before .before .before .before .before .before .pre .1) _ (sym (c .before .before .before .before .before .before .before .before .before .nth .ensures) ∙ c .before .before .before .before .before .before .before .first .given .1) in omega (arith, b .0 .0, b .0 .1, b .0 .2, b .0 .3, b .1, b .2, c .before .before .before .before .before .before .before .before .before .before .before .before .before .before .before .before .pre .1))
-    (λ c. let b = stringing-in (c .before .before .before .before .before .before .before .before .before .before .before .before .before .before .before .before .args .out .now) (c .before .before .before .before .before .before .before .before .before .before .before .before .before .before .before .before .args .at) (c .before .before .before .before .before .before .before .before .before .before .before .before .before .before .before .before .args .part) (c .before .before .before .before .before .before .before .before .before .before .before .before .before .before .before .before .args .f .now) (c .before .before .before .before .before .before .before .before .before .before .before .before .before .before .before .before .args .a) (c .before .before .before .before .before .before .before .before .before .before .before .before .before .before .before .before .args .e) (c .before .before .before .before .before .before .before .before .before .before .before .before .before .before .before .before .args .high) (c .before .before .before .before .before .before .before .before .before .before .before .before .before .before .before .before .args .t .now) (c .before .before .before .before .before .before .before .before .before .before .before .before .before .before .before .before .args .u .now) (c .before .before .before .before .before .before .before .before .before .before .before .loop .s) (c .before .before .before .before .before .before .before .before .before .before .before .loop .to) (c .before .before .before .before .before .before .before .before .before .before .before .loop .out) (c .before .before .before .before .before .before .before .before .before .before .before .loop .inv) (c .before .before .before .before .before .before .before .before .before .before .loop-test .taken) (c .before .before .before .before .before .before .before .before .before .before .before .before .before .before .before .before .pre .1) _ (sym (c .before .before .before .before .before .before .before .before .before .nth .ensures) ∙ c .before .before .before .before .before .before .before .first .given .1) in omega (arith, b .0 .0, b .0 .1, b .0 .2, b .0 .3, b .1, b .2, c .before .before .before .before .before .before .before .before .before .before .before .before .before .before .before .before .pre .1))
-    (λ c. stringing-turn (c .before .before .before .before .before .before .before .before .before .before .before .before .before .before .before .before .args .out .now) (c .before .before .before .before .before .before .before .before .before .before .before .before .before .before .before .before .args .at) (c .before .before .before .before .before .before .before .before .before .before .before .before .before .before .before .before .args .part) (c .before .before .before .before .before .before .before .before .before .before .before .before .before .before .before .before .args .f .now) (c .before .before .before .before .before .before .before .before .before .before .before .before .before .before .before .before .args .a) (c .before .before .before .before .before .before .before .before .before .before .before .before .before .before .before .before .args .e) (c .before .before .before .before .before .before .before .before .before .before .before .before .before .before .before .before .args .high) (c .before .before .before .before .before .before .before .before .before .before .before .before .before .before .before .before .args .t .now) (c .before .before .before .before .before .before .before .before .before .before .before .before .before .before .before .before .args .u .now) (c .before .before .before .before .before .before .before .before .before .before .before .loop .s) (c .before .before .before .before .before .before .before .before .before .before .before .loop .to) (c .before .before .before .before .before .before .before .before .before .before .before .loop .out) (c .before .before .before .before .before .before .before .before .before .before .before .loop .inv) (c .before .before .before .before .before .before .before .before .before .before .loop-test .taken) (c .before .before .before .before .before .before .before .before .before .before .before .before .before .before .before .before .pre .1) _ (sym (c .before .before .before .before .before .before .before .before .before .nth .ensures) ∙ c .before .before .before .before .before .before .before .first .given .1) _ _ (c .before .before .put-string .ensures))
+    (λ c.
+    let at-first = c .before .before in
+    let at-nth = at-first .before .before in
+    let at-loop-test = at-nth .before in
+    let at-loop = at-loop-test .before in
+    let start = at-loop .before .before .before .before .before in
+    let args = start .args in
+    let b = stringing-in (args .out .now) (args .at) (args .part) (args .f .now) (args .a) (args .e) (args .high) (args .t .now) (args .u .now)
+    (at-loop .loop .s) (at-loop .loop .to) (at-loop .loop .out) (at-loop .loop .inv) (at-loop-test .loop-test .taken) (start .pre .1) _
+    (sym (at-nth .nth .ensures) ∙ at-first .first .given .1) in
+    omega (arith, b .0 .0, b .0 .1, b .0 .2, b .0 .3, b .1, b .2, start .pre .1))
+    (λ c.
+    let at-first = c .before .before in
+    let at-nth = at-first .before .before in
+    let at-loop-test = at-nth .before in
+    let at-loop = at-loop-test .before in
+    let start = at-loop .before .before .before .before .before in
+    let args = start .args in
+    let b = stringing-in (args .out .now) (args .at) (args .part) (args .f .now) (args .a) (args .e) (args .high) (args .t .now) (args .u .now)
+    (at-loop .loop .s) (at-loop .loop .to) (at-loop .loop .out) (at-loop .loop .inv) (at-loop-test .loop-test .taken) (start .pre .1) _
+    (sym (at-nth .nth .ensures) ∙ at-first .first .given .1) in
+    omega (arith, b .0 .0, b .0 .1, b .0 .2, b .0 .3, b .1, b .2, start .pre .1))
+    (λ c.
+    let at-first = c .before .before in
+    let at-nth = at-first .before .before in
+    let at-loop-test = at-nth .before in
+    let at-loop = at-loop-test .before in
+    let start = at-loop .before .before .before .before .before in
+    let args = start .args in
+    let b = stringing-in (args .out .now) (args .at) (args .part) (args .f .now) (args .a) (args .e) (args .high) (args .t .now) (args .u .now)
+    (at-loop .loop .s) (at-loop .loop .to) (at-loop .loop .out) (at-loop .loop .inv) (at-loop-test .loop-test .taken) (start .pre .1) _
+    (sym (at-nth .nth .ensures) ∙ at-first .first .given .1) in
+    omega (arith, b .0 .0, b .0 .1, b .0 .2, b .0 .3, b .1, b .2, start .pre .1))
+    (λ c.
+    let at-first = c .before .before .before in
+    let at-nth = at-first .before .before in
+    let at-loop-test = at-nth .before in
+    let at-loop = at-loop-test .before in
+    let start = at-loop .before .before .before .before .before in
+    let args = start .args in
+    let b = stringing-in (args .out .now) (args .at) (args .part) (args .f .now) (args .a) (args .e) (args .high) (args .t .now) (args .u .now)
+    (at-loop .loop .s) (at-loop .loop .to) (at-loop .loop .out) (at-loop .loop .inv) (at-loop-test .loop-test .taken) (start .pre .1) _
+    (sym (at-nth .nth .ensures) ∙ at-first .first .given .1) in
+    omega (arith, b .0 .0, b .0 .1, b .0 .2, b .0 .3, b .1, b .2, start .pre .1))
+    (λ c.
+    let at-first = c .before .before .before in
+    let at-nth = at-first .before .before in
+    let at-loop-test = at-nth .before in
+    let at-loop = at-loop-test .before in
+    let start = at-loop .before .before .before .before .before in
+    let args = start .args in
+    let b = stringing-in (args .out .now) (args .at) (args .part) (args .f .now) (args .a) (args .e) (args .high) (args .t .now) (args .u .now)
+    (at-loop .loop .s) (at-loop .loop .to) (at-loop .loop .out) (at-loop .loop .inv) (at-loop-test .loop-test .taken) (start .pre .1) _
+    (sym (at-nth .nth .ensures) ∙ at-first .first .given .1) in
+    omega (arith, b .0 .0, b .0 .1, b .0 .2, b .0 .3, b .1, b .2, start .pre .1))
+    (λ c.
+    let at-first = c .before .before .before in
+    let at-nth = at-first .before .before in
+    let at-loop-test = at-nth .before in
+    let at-loop = at-loop-test .before in
+    let start = at-loop .before .before .before .before .before in
+    let args = start .args in
+    let b = stringing-in (args .out .now) (args .at) (args .part) (args .f .now) (args .a) (args .e) (args .high) (args .t .now) (args .u .now)
+    (at-loop .loop .s) (at-loop .loop .to) (at-loop .loop .out) (at-loop .loop .inv) (at-loop-test .loop-test .taken) (start .pre .1) _
+    (sym (at-nth .nth .ensures) ∙ at-first .first .given .1) in
+    omega (arith, b .0 .0, b .0 .1, b .0 .2, b .0 .3, b .1, b .2, start .pre .1))
+    (λ c κs.
+    let at-first = c .before .before .before .before in
+    let at-nth = at-first .before .before in
+    let at-loop-test = at-nth .before in
+    let at-loop = at-loop-test .before in
+    let start = at-loop .before .before .before .before .before in
+    let args = start .args in (
+      start .pre .2,
+      stringing-room (args .out .now) (args .at) (args .part) (args .f .now) (args .a) (args .e) (args .high) (args .t .now)
+          (args .u .now) (at-loop .loop .s) (at-loop .loop .to) (at-loop .loop .out) (at-loop .loop .inv) (at-loop-test .loop-test .taken) (start .pre .1)
+          _ (sym (at-nth .nth .ensures) ∙ at-first .first .given .1) (start .pre .3),
+    ))
+    (λ c.
+    let at-first = c .before .before .before .before .before .before .before in
+    let at-nth = at-first .before .before in
+    let at-loop-test = at-nth .before in
+    let at-loop = at-loop-test .before in
+    let start = at-loop .before .before .before .before .before in
+    let args = start .args in
+    let b = stringing-in (args .out .now) (args .at) (args .part) (args .f .now) (args .a) (args .e) (args .high) (args .t .now) (args .u .now)
+    (at-loop .loop .s) (at-loop .loop .to) (at-loop .loop .out) (at-loop .loop .inv) (at-loop-test .loop-test .taken) (start .pre .1) _
+    (sym (at-nth .nth .ensures) ∙ at-first .first .given .1) in
+    omega (arith, b .0 .0, b .0 .1, b .0 .2, b .0 .3, b .1, b .2, start .pre .1))
+    (λ c.
+    let at-first = c .before .before .before .before .before .before .before in
+    let at-nth = at-first .before .before in
+    let at-loop-test = at-nth .before in
+    let at-loop = at-loop-test .before in
+    let start = at-loop .before .before .before .before .before in
+    let args = start .args in
+    let b = stringing-in (args .out .now) (args .at) (args .part) (args .f .now) (args .a) (args .e) (args .high) (args .t .now) (args .u .now)
+    (at-loop .loop .s) (at-loop .loop .to) (at-loop .loop .out) (at-loop .loop .inv) (at-loop-test .loop-test .taken) (start .pre .1) _
+    (sym (at-nth .nth .ensures) ∙ at-first .first .given .1) in
+    omega (arith, b .0 .0, b .0 .1, b .0 .2, b .0 .3, b .1, b .2, start .pre .1))
+    (λ c.
+    let at-put-string = c .before .before in
+    let at-first = at-put-string .before .before .before .before .before in
+    let at-nth = at-first .before .before in
+    let at-loop-test = at-nth .before in
+    let at-loop = at-loop-test .before in
+    let start = at-loop .before .before .before .before .before in
+    let args = start .args in
+    stringing-turn (args .out .now) (args .at) (args .part) (args .f .now) (args .a) (args .e) (args .high) (args .t .now) (args .u .now)
+    (at-loop .loop .s) (at-loop .loop .to) (at-loop .loop .out) (at-loop .loop .inv) (at-loop-test .loop-test .taken) (start .pre .1) _
+    (sym (at-nth .nth .ensures) ∙ at-first .first .given .1) _ _ (at-put-string .put-string .ensures))
     (λ c. c .before .loop .inv .1)
-    (λ c. stringing-over (c .before .before .before .before .before .before .args .out .now) (c .before .before .before .before .before .before .args .at) (c .before .before .before .before .before .before .args .part) (c .before .before .before .before .before .before .args .f .now) (c .before .before .before .before .before .before .args .a) (c .before .before .before .before .before .before .args .e) (c .before .before .before .before .before .before .args .high) (c .before .before .before .before .before .before .args .t .now) (c .before .before .before .before .before .before .args .u .now) (c .before .loop .s) (c .before .loop .to) (c .before .loop .out) (c .before .loop .inv) (c .loop-test .left)))
+    (λ c.
+    let at-loop = c .before in
+    let start = at-loop .before .before .before .before .before in
+    let args = start .args in
+    stringing-over (args .out .now) (args .at) (args .part) (args .f .now) (args .a) (args .e) (args .high) (args .t .now) (args .u .now)
+    (at-loop .loop .s) (at-loop .loop .to) (at-loop .loop .out) (at-loop .loop .inv) (c .loop-test .left)))

@@ -18,10 +18,36 @@ put-traces-spec =
     (tie.spec
     Inv-loop
     μ-loop
-    (λ c. tracing-start (c .before .before .args .out .now) (c .before .before .args .at) (c .before .before .args .f .now) (c .before .before .args .n))
-    (λ c κs. (c .before .before .before .before .before .pre .0, c .before .before .before .before .before .pre .1, omega (arith, c .before .before .before .before .before .pre .2, c .before .loop-test .taken), tracing-room (c .before .before .before .before .before .args .out .now) (c .before .before .before .before .before .args .at) (c .before .before .before .before .before .args .f .now) (c .before .before .before .before .before .args .n) (c .before .before .loop .k) (c .before .before .loop .to) (c .before .before .loop .out) (c .before .before .loop .inv) (c .before .loop-test .taken) (c .before .before .before .before .before .pre .3)))
+    (λ c.
+    let start = c .before .before in
+    let args = start .args in
+    tracing-start (args .out .now) (args .at) (args .f .now) (args .n))
+    (λ c κs.
+    let at-loop-test = c .before in
+    let at-loop = at-loop-test .before in
+    let start = at-loop .before .before .before in
+    let args = start .args in (
+      start .pre .0,
+      start .pre .1,
+      omega (arith, start .pre .2, at-loop-test .loop-test .taken),
+      tracing-room (args .out .now) (args .at)
+          (args .f .now) (args .n) (at-loop .loop .k) (at-loop .loop .to) (at-loop .loop .out) (at-loop .loop .inv) (at-loop-test .loop-test .taken)
+          (start .pre .3),
+    ))
     (λ c. search needs)
     (λ c. search needs)
-    (λ c. tracing-turn (c .before .before .before .before .before .before .before .before .args .out .now) (c .before .before .before .before .before .before .before .before .args .at) (c .before .before .before .before .before .before .before .before .args .f .now) (c .before .before .before .before .before .before .before .before .args .n) (c .before .before .before .before .before .loop .k) (c .before .before .before .before .before .loop .to) (c .before .before .before .before .before .loop .out) (c .before .before .before .before .before .loop .inv) (c .before .before .before .before .loop-test .taken) _ _ (c .before .before .put-trace .ensures))
+    (λ c.
+    let at-put-trace = c .before .before in
+    let at-loop-test = at-put-trace .before .before in
+    let at-loop = at-loop-test .before in
+    let start = at-loop .before .before .before in
+    let args = start .args in
+    tracing-turn (args .out .now) (args .at) (args .f .now) (args .n) (at-loop .loop .k) (at-loop .loop .to) (at-loop .loop .out)
+    (at-loop .loop .inv) (at-loop-test .loop-test .taken) _ _ (at-put-trace .put-trace .ensures))
     (λ c. c .before .loop .inv .1)
-    (λ c. tracing-over (c .before .before .before .before .args .out .now) (c .before .before .before .before .args .at) (c .before .before .before .before .args .f .now) (c .before .before .before .before .args .n) (c .before .loop .k) (c .before .loop .to) (c .before .loop .out) (c .before .loop .inv) (c .loop-test .left)))
+    (λ c.
+    let at-loop = c .before in
+    let start = at-loop .before .before .before in
+    let args = start .args in
+    tracing-over (args .out .now) (args .at) (args .f .now) (args .n) (at-loop .loop .k) (at-loop .loop .to) (at-loop .loop .out)
+    (at-loop .loop .inv) (c .loop-test .left)))

@@ -1,5 +1,5 @@
--- `probe::probe_list` meets its contract. Each answer as a number. Assumes nothing.
-use mathlib.Core.Path.{sym, ap, _∙_}
+-- `probe::probe_list` meets its contract: the answer as a number. Assumes nothing.
+use mathlib.Core.Path.{ap, _∙_}
 use Rattle.probe.specs.Listed.{lengthTold}
 use borrow.Author.Needs.{needs}
 use Rattle.probe.proofs.probe_list.Statement.{statement}
@@ -10,9 +10,8 @@ probe-list-spec =
     tie.close
     (tie.spec
     (λ c κs. search needs)
+    (λ c κs. search needs)
     (λ c. search needs)
-    (λ c. search needs)
-    (λ c. search needs)
-    (λ c. (sym (ap lengthTold (c .before .answer .given .1)) ∙ ap lengthTold (c .before .before .before .before .before .list .ensures .0), c .before .before .before .before .before .list .ensures .1 .1))
-    (λ c. search needs)
-    (λ c. (sym (ap lengthTold (c .enum-told .given .1)) ∙ ap lengthTold (c .before .before .before .before .list .ensures .0), c .before .before .before .before .list .ensures .1 .1)))
+    (λ c.
+    let at-list = c .before .before .before in
+    (c .told .ensures ∙ ap lengthTold (at-list .list .ensures .0), at-list .list .ensures .1 .1)))

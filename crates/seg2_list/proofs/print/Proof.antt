@@ -12,8 +12,11 @@ print-spec =
     (tie.spec
     (λ c κs. search needs)
     (λ c. search needs)
-    (λ c. let w = rw (c .before .answer .given .1) at (c .before .before .before .before .before .list .ensures .1) in omega (arith, w))
-    (λ c. let w = rw (c .before .before .answer .given .1) at (c .before .before .before .before .before .before .list .ensures .1) in sym (length-take-le _ _ (omega (arith, w))))
+    (λ c. let w = rw (c .before .answer .given .1) at (c .before .before .before .before .before .program .ensures .1) in omega (arith, w))
+    (λ c.
+    let at-answer = c .before .before in
+    let at-program = at-answer .before .before .before .before in
+    let w = rw (at-answer .answer .given .1) at (at-program .program .ensures .1) in sym (length-take-le _ _ (omega (arith, w))))
     (λ c κs. search needs)
     (λ c. search needs)
     (λ c. search needs)

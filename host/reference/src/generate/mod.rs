@@ -5,7 +5,7 @@
 //! document 01 allows and the writer never uses. A damage ([`damage`], [`ways`])
 //! breaks one rule of such a file in one named way and knows the refusal it must
 //! give. The inputs of rows 18 to 33 are in [`asking`], [`numbers`], [`sheets`] and
-//! [`writing`]. The same seed gives the same cases on every machine.
+//! [`writing`]; [`plain`] makes a file around one text or data block. The same seed gives the same cases on every machine.
 
 pub mod asking;
 pub mod damage;
@@ -13,6 +13,7 @@ mod expected;
 pub mod lay;
 pub mod model;
 pub mod numbers;
+pub mod plain;
 pub mod rng;
 pub mod sheets;
 pub mod ways;
@@ -23,6 +24,7 @@ pub use damage::{damaged, damaged_image, several_damages, Damaged, Scope, Way};
 pub use lay::Laid;
 pub use model::Model;
 pub use numbers::{location_case, number_case, LocationCase, NumberCase};
+pub use plain::{plain_file, PlainTrace};
 pub use rng::Rng;
 pub use sheets::{good_sheet, sheet_case, SheetCase};
 pub use ways::WAYS;
