@@ -12,4 +12,7 @@ put-ends-spec =
     (λ c κs. search needs)
     (λ c κs. search needs)
     (λ c. search needs)
-    (λ c. rw (c .before .before .zeros .ensures, c .before .before .before .before .before .before .copy .ensures) (ends-put _)))
+    (λ c.
+    let at-zeros = c .before .before in
+    let at-copy = at-zeros .before .before .before .before in
+    rw (at-zeros .zeros .ensures, at-copy .copy .ensures) (ends-put _)))

@@ -1,21 +1,42 @@
--- `writer::integers_fit` meets its contract. The tests are those of row 28. Assumes nothing.
-use mathlib.Core.Path.{_∙_}
-use Rattle.word.specs.Tests.{at-most}
-use Rattle.writer.specs.Writes.{integers-code, integers-groups, integers-judged}
-use borrow.Author.Needs.{needs}
+-- `writer::integers_fit` meets its contract. Row 28, then what row 29 says. Assumes nothing.
+use mathlib.Core.Path.{sym, _∙_}
 use native.Mathlib.Omega.{arith}
+use borrow.Author.Tests.{not-true, not-false}
+use Rattle.layout.specs.Layout.{integers, fitting, unfit}
+use Rattle.layout.specs.LayoutLaws.{kinded}
+use Rattle.writer.specs.Writes.{of-other, of-kind}
+use borrow.Author.Needs.{needs}
 use Rattle.writer.proofs.integers_fit.Statement.{statement}
 use Rattle.writer.proofs.integers_fit.Tie as tie
 
 pub integers-fit-spec : {M : Type 1} → statement M
+unfolding fitting unfit
 integers-fit-spec =
     tie.close
     (tie.spec
     (λ c κs. search needs)
-    (λ c. c .wrong .ensures ∙ integers-code _ _ (c .before .if1 .taken))
     (λ c κs. search needs)
-    (λ c. c .wrong2 .ensures ∙ integers-groups _ _ (c .before .if2 .taken))
-    (λ c. omega (arith, at-most (c .before .before .args .code) 1 3 (c .before .if1 .left)))
+    (λ c.
+    let at-if1 = c .before in
+    let at-is-of-integers = at-if1 .before in
+    let start = at-is-of-integers .before in
+    c .refusing .ensures ∙ of-other _ (integers (start .args .row .now))
+    (sym (at-is-of-integers .is-of-integers .ensures) ∙ not-true _ (at-if1 .if1 .taken)))
+    (λ c.
+    let at-is-of-integers = c .before in
+    let start = at-is-of-integers .before in
+    let args = start .args in
+    omega (
+      arith,
+      kinded (args .code) (integers (args .row .now)) (sym (at-is-of-integers .is-of-integers .ensures) ∙ not-false _
+          (c .if1 .left)) .most,
+    ))
     (λ c κs. search needs)
     (λ c κs. search needs)
-    (λ c. c .fitted .ensures ∙ rw (c .before .unfit-integers .ensures) (integers-judged _ _ (c .before .before .before .if1 .left) (c .before .before .if2 .left))))
+    (λ c.
+    let at-unfit-integers = c .before in
+    let at-if1 = at-unfit-integers .before in
+    let at-is-of-integers = at-if1 .before in
+    let start = at-is-of-integers .before in
+    c .fitted .ensures ∙ rw (at-unfit-integers .unfit-integers .ensures)
+    (of-kind _ (integers (start .args .row .now)) (sym (at-is-of-integers .is-of-integers .ensures) ∙ not-false _ (at-if1 .if1 .left)))))
