@@ -5,9 +5,9 @@ use mathlib.Core.Bool.{Bool, true}
 use mathlib.Core.List.{List, [], _∷_, _++_, append-assoc}
 use Prim.Native.Nat.{ℕ, zero, suc, _+_, _-_, _*_, _≤_, _<_}
 use native.Mathlib.Omega.{arith}
-use lib.ListN.{length, getD, take, drop, replicate, length-append, length-replicate}
+use lib.ListN.{length, getD, take, drop, replicate, length-append, length-replicate, length-drop}
 use lib.Seq.{length-take-le, getD-take, drop-cons}
-use Rattle.word.specs.Put.{put, put-append, length-put, take-put-before}
+use Rattle.word.specs.Put.{put, put-append, length-put, take-put-before, lent-back}
 use Rattle.word.specs.Round.{round4}
 use Rattle.word.specs.Word.{bytesOf}
 use Rattle.sample.specs.Needed.{room}
@@ -48,11 +48,9 @@ pub record Slotted (xs : List ℕ) (n : ℕ) : Type 0 where
   pub low : 32 ≤ n
   pub most : n ≤ maximum
   pub within : n ≤ length xs
+  pub size : length (take n xs) ≡ n
   pub slot : 36 + 4 * countOf (take n xs) ≤ length xs
   pub few : countOf (take n xs) < 65535
-
-pub whole : {xs : List ℕ} {n : ℕ} → Slotted xs n → length (take n xs) ≡ n
-whole {xs} {n} s = length-take-le n xs (s .within)
 
 pub record Begins (xs : List ℕ) (n : ℕ) (sheet : List ℕ) (end code s : ℕ) : Type 0 where
   pub slotted : Slotted xs n
@@ -87,6 +85,11 @@ block-count f b e = ap (λ (k : FileBlock). k .n) e
 pub block-high : (f : List ℕ) (b : FileBlock) → b ≡ fileBlockOf f → b .high ≡ highFirst f
 unfolding fileBlockOf
 block-high f b e = ap (λ (k : FileBlock). k .high) e
+
+pub register-put : (xs : List ℕ) (n : ℕ) {b : FileBlock} → b ≡ fileBlockOf (take n xs)
+    → put (put xs (32 + 4 * b .n) (bytesOf 4 (b .high) (round4 n))) 6 (bytesOf 2 (b .high) (b .n + 1)) ≡ registered xs n
+unfolding registered
+register-put xs n {b} e = rw (block-count (take n xs) b e, block-high (take n xs) b e)
 
 -- a terminator as the code takes it out of the buffer
 pub end-taken : (xs : List ℕ) (n at k : ℕ) → at + 3 ≤ n → n ≤ length xs → goodTerminator (take n xs) at ≡ true → k ≡ getD (take n xs) at 0
@@ -137,24 +140,28 @@ module _ {xs : List ℕ} {n : ℕ} {sheet : List ℕ} {end code s : ℕ} (g : Be
       }
 
   -- the block and the strings have room, and B is what lies between the trace's place and its data's
-  pub head-room : {at d : ℕ} {t u ys : List ℕ} (zs : List ℕ) → at ≡ round4 n → d ≡ room code s → t ≡ stringEnd (take n xs) → u ≡ lineEnd (take n xs) → ys ≡ put xs n zs
-      → (at + (32 + (end - d - at - 32)) ≤ length ys) × (measuredOf t u sheet ≡ Size (end - d - at - 32)) × (room code s < 4294967296)
+  pub head-room : {at d : ℕ} {t u ys : List ℕ} (zs : List ℕ) → at ≡ round4 n → d ≡ room code s → t ≡ stringEnd (take n xs) → u ≡ lineEnd (take n xs)
+      → ys ≡ put xs n zs → (32 + (end - d - at - 32) ≤ length (take (length ys - at) (drop at ys)))
+      × (measuredOf t u sheet ≡ Size (end - d - at - 32)) × (room code s < 4294967296)
   head-room {at} {d} {t} {u} {ys} zs ea ed et eu ey =
       let z : end - d - at - 32 ≡ areaSize (stringEnd (take n xs)) (lineEnd (take n xs)) sheet = omega (arith, g .new) in
       let l : length ys ≡ length xs = rw ey (length-put xs n zs) in
+      let q : length (take (length ys - at) (drop at ys)) ≡ length ys - at = length-take-le _ _ (omega (arith, length-drop at ys)) in
       (omega (arith, z, g .new, g .in-buffer), rw (z, et, eu) (g .sized), small g .data-word)
 
 -- ---- the stores, one behind the other
 
-pub front-put : (xs : List ℕ) (n : ℕ) (sheet : List ℕ) (code s : ℕ) (high : Bool) (t u : List ℕ) → high ≡ highFirst (take n xs)
-    → t ≡ stringEnd (take n xs) → u ≡ lineEnd (take n xs)
-    → put (put xs n (replicate (round4 n - n) 0)) (round4 n) (headBytes high t u sheet code s) ≡ put xs n (newFront (take n xs) n sheet code s)
+-- ys has the gap, zs is its free end with the block and the strings
+pub front-put : (xs : List ℕ) (n : ℕ) (sheet : List ℕ) (code s : ℕ) {high : Bool} {t u : List ℕ} {at : ℕ} {ys zs : List ℕ} → high ≡ highFirst (take n xs)
+    → t ≡ stringEnd (take n xs) → u ≡ lineEnd (take n xs) → at ≡ round4 n → ys ≡ put xs n (replicate (at - n) 0)
+    → zs ≡ put (take (length ys - at) (drop at ys)) 0 (headBytes high t u sheet code s)
+    → take at ys ++ (zs ++ drop (length ys - at) (drop at ys)) ≡ put xs n (newFront (take n xs) n sheet code s)
 unfolding newFront
-front-put xs n sheet code s high t u eh et eu =
+front-put xs n sheet code s {at = at} {ys = ys} {zs = zs} eh et eu ea ey ez =
     let e : n + (round4 n - n) ≡ round4 n = omega arith in
     let p = put-append (replicate (round4 n - n) 0) (headBytes (highFirst (take n xs)) (stringEnd (take n xs)) (lineEnd (take n xs)) sheet code s) xs n in
     let l = length-replicate {A = ℕ} (round4 n - n) 0 in
-    rw (eh, et, eu, p, l, e)
+    lent-back ys _ zs at ez ∙ rw (eh, et, eu, ey, ea, p, l, e)
 
 -- a buffer xs in which a trace is begun, then its samples stored: ys, then zs
 module _ (samples : Samples) {xs : List ℕ} {n : ℕ} {sheet : List ℕ} {end code : ℕ} (b : Begins xs n sheet end code (count samples))
@@ -189,7 +196,7 @@ module _ (samples : Samples) {xs : List ℕ} {n : ℕ} {sheet : List ℕ} {end c
     still-slotted =
         let s = b .slotted in
         let l : length zs ≡ length xs = rw all-stored (length-put xs n _) in
-        record { low = s .low; most = s .most; within = rw l (s .within); slot = rw (same-file, l) (s .slot); few = rw same-file (s .few) }
+        record { low = s .low; most = s .most; within = rw l (s .within); size = rw same-file (s .size); slot = rw (same-file, l) (s .slot); few = rw same-file (s .few) }
 
     pub grown-put : registered zs n ≡ grown xs n (record { sheet = sheet; code = code; samples = samples })
     unfolding registered grown

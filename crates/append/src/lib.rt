@@ -2,17 +2,15 @@
 // Grown has the definition. What differs by the kind of the samples is their encoding alone. Stands on `layout`, `head`.
 // The rules in words: docs/FORMAT.md, "What we write".
 ghost use mathlib.Core.Path.{_≡_};
-ghost use Prim.Native.Nat.{_+_, _-_, _≤_, _<_};
+ghost use Prim.Native.Nat.{_-_};
 ghost use lib.ListN.{length, take};
 ghost use Rattle.word.specs.Put.{put};
 ghost use Rattle.sample.specs.Needed.{room};
-ghost use Rattle.sheet.specs.Area.{measuredOf};
 ghost use Rattle.head.specs.Head.{highFirst};
 ghost use Rattle.layout.specs.Layout.{integers, patterns, integersTrace, patternsTrace};
-ghost use Rattle.layout.specs.Stores.{headBytes, Held};
+ghost use Rattle.layout.specs.Stores.{Held};
 ghost use Rattle.append.specs.GrownLaws.{newFront, registered, Slotted, Begins};
 ghost use Rattle.append.specs.Grown.{grown};
-use sheet::Measured;
 
 // Where the samples of a trace that is begun go, and in which byte order.
 pub struct Begun {
@@ -20,26 +18,8 @@ pub struct Begun {
     pub high: bool,
 }
 
-// The free end of the buffer, from the new trace on, is lent.
-fn lend_head(
-    buffer: &mut [u8],
-    at: usize,
-    high: bool,
-    t: &[u8],
-    u: &[u8],
-    sheet: &[u8],
-    size: usize,
-    code: u8,
-    s: u32,
-)
-    requires { ⌜ (at + (32 + size) ≤ length (now buffer)) × (measuredOf (now t) (now u) (now sheet) ≡ Measured.Size size) × (room code s < 4294967296) ⌝ }
-    ensures { λ _. ⌜ now (buffer .exit) ≡ put (now (buffer .entry)) at (headBytes high (now (t .entry)) (now (u .entry)) (now (sheet .entry)) code s) ⌝ }
-{
-    layout::put_head(&mut buffer[at..], high, t, u, sheet, size, code, s);
-}
-
-// All before the samples: the gap, the block, the strings. The terminators are taken out of the file first: the end of the buffer is then lent, and
-// they stand at its start.
+// All before the samples: the gap, and the block and the strings into the free end of the buffer, which is lent from the new trace on. The terminators
+// are taken out of the file first: they stand at the buffer's start.
 fn begin(buffer: &mut [u8], n: usize, sheet: &[u8], end: usize, code: u32, count: usize) -> Begun
     requires { ⌜ Begins (now buffer) n (now sheet) end code count ⌝ }
     ensures place { λ r. ⌜ (r .at ≡ end - room code count) × (r .high ≡ highFirst (take n (now (buffer .entry)))) ⌝ }
@@ -55,9 +35,8 @@ fn begin(buffer: &mut [u8], n: usize, sheet: &[u8], end: usize, code: u32, count
     let t_len = b.strings;
     let u_len = b.lines;
     word::zeros(buffer, n, at); // the gap
-    lend_head(
-        buffer,
-        at,
+    layout::put_head(
+        &mut buffer[at..],
         b.high,
         &t[..t_len],
         &u[..u_len],

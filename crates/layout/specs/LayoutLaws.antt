@@ -144,17 +144,6 @@ pub room-enough : (code s : ℕ) → (needed code s ≤ room code s) × (room co
 unfolding room
 room-enough code s = (omega arith, omega arith)
 
--- a sample has 8 bytes at most
-pub room-most : (code s : ℕ) → room code s ≤ 8 * s + 3
-unfolding room needed
-room-most zero s = omega arith
-room-most (suc zero) s = omega arith
-room-most (suc (suc zero)) s = omega arith
-room-most (suc (suc (suc zero))) s = omega arith
-room-most (suc (suc (suc (suc zero)))) s = omega arith
-room-most (suc (suc (suc (suc (suc zero))))) s = omega arith
-room-most (suc (suc (suc (suc (suc (suc c)))))) s = omega arith
-
 -- ---- sizes of a trace
 
 pub length-traceBlock : (high : Bool) (b d s code : ℕ) → length (traceBlock high b d s code) ≡ 32

@@ -1,7 +1,7 @@
 -- The stores of a start and of a trace, one behind the other, are the layout.
 -- Assumes nothing.
-use mathlib.Core.Path.{_≡_, sym}
-use mathlib.Core.Bool.{Bool, true}
+use mathlib.Core.Path.{_≡_, refl, sym}
+use mathlib.Core.Bool.{Bool, true, false}
 use mathlib.Core.List.{List, [], _∷_, _++_, append-assoc}
 use Prim.Native.Nat.{ℕ, _+_, _-_, _*_, _%_, _≤_}
 use native.Mathlib.Omega.{arith}
@@ -9,7 +9,7 @@ use lib.IntN.{ℤ}
 use lib.ListN.{length, replicate, length-append, length-replicate}
 use Rattle.block.specs.Block.{traceMark}
 use Rattle.word.specs.Put.{put, put-append}
-use Rattle.word.specs.Word.{bytesOf}
+use Rattle.word.specs.Word.{lowBytes, bytesOf}
 use Rattle.word.specs.WordLaws.{length-bytesOf}
 use Rattle.encode.specs.declared.Fit.the-variants.{All}
 use Rattle.sample.specs.Needed.{room}
@@ -23,23 +23,30 @@ use Rattle.layout.specs.LayoutLaws.{length-mark, length-fileBlock, lengt
 
 -- ---- a start
 
-pub ends-put : (xs : List ℕ) → put (put xs 8 (1 ∷ 0 ∷ 0 ∷ 1 ∷ 10 ∷ 0 ∷ [])) 14 (replicate 18 0) ≡ put xs 8 plainEnds
-ends-put xs = sym (put-append (1 ∷ 0 ∷ 0 ∷ 1 ∷ 10 ∷ 0 ∷ []) (replicate 18 0) xs 8)
+-- 3A55h in the file's order
+mark-word : (high : Bool) → orderMark high ≡ bytesOf 2 high 14933
+unfolding bytesOf lowBytes
+mark-word true = refl
+mark-word false = refl
 
 pub file-block-put : (high : Bool) (m : ℕ) (xs : List ℕ)
-    → put (put (put (put (put xs 0 (orderMark high)) 2 (bytesOf 2 high 1)) 4 (bytesOf 2 high m)) 6 (bytesOf 2 high 0)) 8 plainEnds ≡ put xs 0 (fileBlock high m 0)
+    → put (put (put (put (put (put xs 0 (bytesOf 2 high 14933)) 2 (bytesOf 2 high 1)) 4 (bytesOf 2 high m)) 6 (bytesOf 2 high 0)) 8 (1 ∷ 0 ∷ 0 ∷ 1 ∷ 10 ∷ 0 ∷ [])) 14
+    (replicate 18 0)
+    ≡ put xs 0 (fileBlock high m 0)
 unfolding fileBlock
 file-block-put high m xs =
     sym (rw (
       put-append (orderMark high) (bytesOf 2 high 1 ++ (bytesOf 2 high m ++ (bytesOf 2 high 0 ++ plainEnds))) xs 0,
       length-mark high,
+      mark-word high,
       put-append (bytesOf 2 high 1) (bytesOf 2 high m ++ (bytesOf 2 high 0 ++ plainEnds)),
       length-bytesOf 2 high 1,
       put-append (bytesOf 2 high m) (bytesOf 2 high 0 ++ plainEnds),
       length-bytesOf 2 high m,
       put-append (bytesOf 2 high 0) plainEnds,
       length-bytesOf 2 high 0,
-    ))
+    )
+    (put-append (1 ∷ 0 ∷ 0 ∷ 1 ∷ 10 ∷ 0 ∷ []) (replicate 18 0) _ 8))
 
 pub start-put : (high : Bool) (slots : ℕ) (sheet xs : List ℕ)
     → put (put (put xs 0 (fileBlock high (4 * slots) 0)) 32 (replicate (32 + 4 * slots - 32) 0)) (32 + 4 * slots) (areaOf high nul lineFeed sheet)

@@ -10,46 +10,24 @@ ghost use Rattle.word.specs.Put.{put};
 ghost use Rattle.sample.specs.Needed.{room};
 ghost use Rattle.sheet.specs.Area.{areaOf, measuredOf};
 ghost use Rattle.area.specs.Writing.{Writable};
-ghost use Rattle.layout.specs.Layout.{orderMark, plainEnds, nul, lineFeed, slotsMost, fileBlock, startImage, traceBlock, integers, patterns, samplesData};
+ghost use Rattle.layout.specs.Layout.{nul, lineFeed, slotsMost, fileBlock, startImage, traceBlock, integers, patterns, samplesData};
 ghost use Rattle.layout.specs.Stores.{headBytes, Held};
 
 // "31 slots outside 1 to 16,383": `slotsMost` of the definitions.
 pub const SLOTS: usize = 16383;
 
-// Bytes 0 and 1.
-fn put_mark(buf: &mut [u8], high: bool)
-    requires { ⌜ 2 ≤ length (now buf) ⌝ }
-    ensures { λ _. ⌜ now (buf .exit) ≡ put (now (buf .entry)) 0 (orderMark high) ⌝ }
-{
-    if high {
-        buf[0] = 58;
-        buf[1] = 85;
-    } else {
-        buf[0] = 85;
-        buf[1] = 58;
-    }
-}
-
-// Bytes 8 to 31: the terminators 00 and 0A.
-fn put_ends(buf: &mut [u8])
-    requires { ⌜ 32 ≤ length (now buf) ⌝ }
-    ensures { λ _. ⌜ now (buf .exit) ≡ put (now (buf .entry)) 8 plainEnds ⌝ }
-{
-    let ends = [1u8, 0, 0, 1, 10, 0];
-    word::copy(buf, 8, &ends[..]);
-    word::zeros(buf, 14, 32);
-}
-
-// The file block of a start, N=0.
+// The file block of a start, N=0: the order's mark, which is one word in either order, revision 1, M, N, and the terminators 00 and 0A.
 fn put_file_block(buf: &mut [u8], high: bool, m: u16)
     requires { ⌜ 32 ≤ length (now buf) ⌝ }
     ensures { λ _. ⌜ now (buf .exit) ≡ put (now (buf .entry)) 0 (fileBlock high m 0) ⌝ }
 {
-    put_mark(buf, high);
+    let ends = [1u8, 0, 0, 1, 10, 0];
+    word::put2(buf, high, 0, 14933);
     word::put2(buf, high, 2, 1);
     word::put2(buf, high, 4, m);
     word::put2(buf, high, 6, 0);
-    put_ends(buf);
+    word::copy(buf, 8, &ends[..]);
+    word::zeros(buf, 14, 32);
 }
 
 // A sheet's area from a place on: the buffer from there on is lent.
@@ -112,10 +90,11 @@ pub fn put_integers(buf: &mut [u8], at: usize, high: bool, code: u32, row: &[i32
     requires { ⌜ (at + room code (length (now row)) ≤ length (now buf)) × Held code (integers (now row)) ⌝ }
     ensures { λ _. ⌜ now (buf .exit) ≡ put (now (buf .entry)) at (samplesData code high (integers (now (row .entry)))) ⌝ }
 {
+    let part = &mut buf[at..];
     match code {
-        1 => encode::write1(row, high, &mut buf[at..]),
-        2 => encode::write2(row, high, &mut buf[at..]),
-        _ => encode::write3(row, high, &mut buf[at..]),
+        1 => encode::write1(row, high, part),
+        2 => encode::write2(row, high, part),
+        _ => encode::write3(row, high, part),
     }
 }
 
@@ -124,8 +103,9 @@ pub fn put_bits(buf: &mut [u8], at: usize, high: bool, code: u32, row: &[u64])
     requires { ⌜ (at + room code (length (now row)) ≤ length (now buf)) × Held code (patterns (now row)) ⌝ }
     ensures { λ _. ⌜ now (buf .exit) ≡ put (now (buf .entry)) at (samplesData code high (patterns (now (row .entry)))) ⌝ }
 {
+    let part = &mut buf[at..];
     match code {
-        4 => encode::write4(row, high, &mut buf[at..]),
-        _ => encode::write5(row, high, &mut buf[at..]),
+        4 => encode::write4(row, high, part),
+        _ => encode::write5(row, high, part),
     }
 }

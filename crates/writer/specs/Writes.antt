@@ -19,6 +19,7 @@ use Rattle.refusal.specs.declared.Rule.the-variants.{NoSlot, EntryCode, NoRoom}
 use Rattle.refusal.specs.declared.Part.the-variants.{File}
 use Rattle.refusal.specs.declared.Verdict.{Verdict}
 use Rattle.refusal.specs.declared.Verdict.the-variants as verdict
+use Rattle.encode.specs.declared.Fit.{Fit}
 use Rattle.sample.specs.Needed.{room}
 use Rattle.decode.specs.Sample.{integersAsked, bitsAsked}
 use Rattle.sheet.specs.declared.Measured.the-variants as measured
@@ -95,17 +96,21 @@ of-bits (suc (suc (suc (suc (suc (suc c)))))) =
     let k : ℕ = suc (suc (suc (suc (suc (suc c))))) in
     rw (ne-eqb k 4 (λ e. omega arith), ne-eqb k 5 (λ e. omega arith))
 
-module _ (code : ℕ) (samples : Samples) where
-  pub of-other : fitting code samples ≡ false → refused EntryCode 0 ≡ samplesVerdict code samples
+module _ (code : ℕ) (samples : Samples) {asked : Bool} (e : asked ≡ fitting code samples) where
+  pub of-kind : {fit : Fit} {v : Verdict} → asked ≡ true → fit ≡ unfit code samples → v ≡ onFit fit → v ≡ samplesVerdict code samples
   unfolding samplesVerdict
-  of-other h = rw h
+  of-kind h f v = v ∙ rw (← e, h, f)
 
-  pub of-kind : fitting code samples ≡ true → onFit (unfit code samples) ≡ samplesVerdict code samples
+  pub of-other : {v : Verdict} → asked ≡ false → v ≡ refused EntryCode 0 → v ≡ samplesVerdict code samples
   unfolding samplesVerdict
-  of-kind h = rw h
+  of-other h v = v ∙ rw (← e, h)
 
-  pub judged : {v : Verdict} → v ≡ samplesVerdict code samples → v ≡ verdict.Accepted → Kinded code (count samples)
-  judged e h = kinded code samples (samples-fit code samples (sym e ∙ h) .0)
+  pub code-most : asked ≡ true → code ≤ 5
+  code-most h = kinded code samples (sym e ∙ h) .most
+
+-- so where they are accepted the code is one of the five
+pub judged : {code : ℕ} (samples : Samples) {v : Verdict} → v ≡ samplesVerdict code samples → v ≡ verdict.Accepted → Kinded code (count samples)
+judged {code} samples e h = kinded code samples (samples-fit code samples (sym e ∙ h) .0)
 
 -- ---- rows 1 to 17 and 24 as the code tests them; b is the file block that it read
 
@@ -170,7 +175,7 @@ module _ (xs : List ℕ) (n : ℕ) (x : Trace) {fit : Verdict} {w : Written} (e 
       let r : roomOf (take n xs) < 65536 = room-small (take n xs) (bytes-take n xs by) in (
         record {
           slotted =
-              record { low = a .low; most = a .most; within = a .within; slot = omega (arith, d .slot, a .room, a .within); few = omega (arith, d .slot) };
+              record { low = a .low; most = a .most; within = a .within; size = a .size; slot = omega (arith, d .slot, a .room, a .within); few = omega (arith, d .slot) };
           strings = a .strings;
           lines = a .lines;
           sized = d .sized;

@@ -66,19 +66,19 @@ fn is_of_bits(code: u32) -> bool
 fn integers_fit(code: u32, row: &[i32]) -> Verdict
     ensures { λ r. ⌜ r ≡ samplesVerdict code (integers (now (row .entry))) ⌝ }
 {
-    if !is_of_integers(code, row.len()) {
-        return head::refusing(Rule::EntryCode, 0);
+    if is_of_integers(code, row.len()) {
+        return fitted(encode::unfit_integers(code as u8, row));
     }
-    fitted(encode::unfit_integers(code as u8, row))
+    head::refusing(Rule::EntryCode, 0)
 }
 
 fn bits_fit(code: u32, row: &[u64]) -> Verdict
     ensures { λ r. ⌜ r ≡ samplesVerdict code (patterns (now (row .entry))) ⌝ }
 {
-    if !is_of_bits(code) {
-        return head::refusing(Rule::EntryCode, 0);
+    if is_of_bits(code) {
+        return fitted(encode::unfit_bits(code as u8, row));
     }
-    fitted(encode::unfit_bits(code as u8, row))
+    head::refusing(Rule::EntryCode, 0)
 }
 
 // ---- every row in its order; `fit` is what rows 28 and 29 say of the samples

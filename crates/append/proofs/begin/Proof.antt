@@ -2,7 +2,7 @@
 use mathlib.Core.Path.{sym}
 use lib.Seq.{length-take-le}
 use native.Mathlib.Omega.{arith}
-use Rattle.append.specs.GrownLaws.{whole, small, told, head-room, front-put}
+use Rattle.append.specs.GrownLaws.{small, told, head-room, front-put}
 use borrow.Author.Needs.{needs}
 use Rattle.append.proofs.begin.Statement.{statement}
 use Rattle.append.proofs.begin.Tie as tie
@@ -12,10 +12,8 @@ begin-spec =
     tie.close
     (tie.spec
     (λ c. search needs)
-    (λ c. sym (whole (c .before .before .before .pre .slotted)))
-    (λ c κs.
-    let start = c .before .before .before in
-    omega (arith, whole (start .pre .slotted), start .pre .slotted .low))
+    (λ c. search needs)
+    (λ c κs. search needs)
     (λ c κs. search needs)
     (λ c. search needs)
     (λ c. omega (arith, small (c .before .before .before .before .before .pre) .count-word))
@@ -26,6 +24,9 @@ begin-spec =
     (λ c. search needs)
     (λ c. search needs)
     (λ c κs. search needs)
+    (λ c. search needs)
+    (λ c. search needs)
+    (λ c. search needs)
     (λ c.
     let at-file-block = c .before .before .before .before .before .before .before .before .before .before .before in
     let start = at-file-block .before .before .before .before in
@@ -54,14 +55,14 @@ begin-spec =
     head-room (start .pre) _ (at-round-up .round-up .ensures) (at-room .room .ensures .0) (b .string-end) (b .line-end) (at-zeros .zeros .ensures))
     (λ c. search needs)
     (λ c.
-    let at-lend-head = c .before .before in
-    let at-zeros = at-lend-head .before .before .before .before .before .before in
+    let at-put-head = c .before .before in
+    let at-zeros = at-put-head .before .before .before .before .before .before in
     let at-room = at-zeros .before .before .before .before .before .before in
     let at-round-up = at-room .before in
     let at-file-block = at-round-up .before in
     let start = at-file-block .before .before .before .before in
     let b = told (start .pre) (at-file-block .file-block .ensures .0) in (
       (rw (at-room .room .ensures .0), b .high),
-      rw (at-lend-head .lend-head .ensures, at-zeros .zeros .ensures, at-round-up .round-up .ensures)
-          (front-put _ _ _ _ _ _ _ _ (b .high) (b .string-end) (b .line-end)),
+      front-put _ _ _ _ _ (b .high) (b .string-end) (b .line-end) (at-round-up .round-up .ensures)
+          (at-zeros .zeros .ensures) (at-put-head .put-head .ensures),
     )))

@@ -27,5 +27,5 @@ grow-bits-spec =
     let at-put-bits = at-register .before .before .before .before in
     let at-begin = at-put-bits .before .before .before .before in
     let start = at-begin .before .before .before .before .before in
-    at-register .register .ensures ∙ grown-put (patterns (start .args .row .now)) (start .pre .0) (at-begin .begin .ensures .1)
+    at-register .register .ensures ∙ grown-put _ (start .pre .0) (at-begin .begin .ensures .1)
     (at-begin .begin .ensures .0) (at-put-bits .put-bits .ensures)))

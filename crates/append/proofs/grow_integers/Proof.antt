@@ -27,5 +27,5 @@ grow-integers-spec =
     let at-put-integers = at-register .before .before .before .before in
     let at-begin = at-put-integers .before .before .before .before in
     let start = at-begin .before .before .before .before in
-    at-register .register .ensures ∙ grown-put (integers (start .args .row .now)) (start .pre .0) (at-begin .begin .ensures .1)
+    at-register .register .ensures ∙ grown-put _ (start .pre .0) (at-begin .begin .ensures .1)
     (at-begin .begin .ensures .0) (at-put-integers .put-integers .ensures)))

@@ -15,22 +15,18 @@ put-bits-spec =
     (λ c. search needs)
     (λ c. search needs)
     (λ c. search needs)
-    (λ c κs. let e = c .before .match .keys1 in let h = rw e at (c .before .before .before .before .pre .0) in omega (arith, h))
-    (λ c. search needs)
-    (λ c. search needs)
-    (λ c. search needs)
+    (λ c κs. let e = c .match .keys1 in let h = rw e at (c .before .before .before .before .pre .0) in omega (arith, h))
     (λ c κs.
-    let at-match = c .before in
-    let start = at-match .before .before .before in
-    let e = fifth (start .pre .1) (at-match .match .rest .1) in let h = rw e at (start .pre .0) in omega (arith, h))
+    let start = c .before .before .before .before in
+    let e = fifth (start .pre .1) (c .match .rest .1) in let h = rw e at (start .pre .0) in omega (arith, h))
     (λ c. search needs)
     (λ c.
     let at-write4 = c .before .before in
-    let at-match = at-write4 .before .before in
+    let at-match = at-write4 .before in
     rw (at-match .match .keys1) (lent-back _ _ _ _ (at-write4 .write4 .ensures)))
     (λ c. search needs)
     (λ c.
     let at-write5 = c .before .before in
-    let at-match = at-write5 .before .before in
-    let start = at-match .before .before .before in
+    let at-match = at-write5 .before in
+    let start = at-match .before .before .before .before in
     rw (fifth (start .pre .1) (at-match .match .rest .1)) (lent-back _ _ _ _ (at-write5 .write5 .ensures))))

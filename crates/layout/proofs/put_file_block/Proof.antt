@@ -12,13 +12,8 @@ put-file-block-spec =
     (λ c κs. search needs)
     (λ c κs. search needs)
     (λ c κs. search needs)
+    (λ c. search needs)
+    (λ c κs. search needs)
     (λ c κs. search needs)
     (λ c. search needs)
-    (λ c.
-    let at-put-ends = c .before .before in
-    let at-put23 = at-put-ends .before .before .before .before in
-    let at-put22 = at-put23 .before .before .before .before in
-    let at-put2 = at-put22 .before .before .before .before in
-    let at-put-mark = at-put2 .before .before .before .before in
-    rw (at-put-ends .put-ends .ensures, at-put23 .put23 .ensures, at-put22 .put22 .ensures, at-put2 .put2 .ensures, at-put-mark .put-mark .ensures)
-    (file-block-put _ _ _)))
+    (λ c. rw (← file-block-put _ _ _) cc))

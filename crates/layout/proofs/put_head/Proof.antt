@@ -27,8 +27,4 @@ put-head-spec =
     ))
     (λ c. search needs)
     (λ c.
-    let at-put-area = c .before .before in
-    let at-put-block = at-put-area .before .before .before .before in
-    let at-room = at-put-block .before .before in
-    let start = at-room .before .before .before .before .before in
-    rw (at-put-area .put-area .ensures, at-put-block .put-block .ensures, at-room .room .ensures .0) (head-put _ _ _ _ _ _ _ _ (start .pre .1))))
+    rw (← head-put _ _ _ _ _ _ _ _ (c .before .before .before .before .before .before .before .before .before .before .before .before .before .pre .1)) cc))

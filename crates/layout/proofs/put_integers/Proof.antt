@@ -15,34 +15,27 @@ put-integers-spec =
     (λ c. search needs)
     (λ c. search needs)
     (λ c. search needs)
-    (λ c κs. let e = c .before .match .keys1 in let h = rw e at (c .before .before .before .pre .0) in omega (arith, h))
-    (λ c. search needs)
-    (λ c. search needs)
-    (λ c. search needs)
-    (λ c κs. let e = c .before .match .keys2 in let h = rw e at (c .before .before .before .pre .0) in omega (arith, h))
-    (λ c. search needs)
-    (λ c. search needs)
-    (λ c. search needs)
+    (λ c κs. let e = c .match .keys1 in let h = rw e at (c .before .before .before .pre .0) in omega (arith, h))
+    (λ c κs. let e = c .match .keys2 in let h = rw e at (c .before .before .before .pre .0) in omega (arith, h))
     (λ c κs.
-    let at-match = c .before in
-    let start = at-match .before .before in
-    let k = third (start .pre .1) (at-match .match .rest .0 .1) (at-match .match .rest .1) in
+    let start = c .before .before .before in
+    let k = third (start .pre .1) (c .match .rest .0 .1) (c .match .rest .1) in
     let e = k .0 in
     let h = rw e at (start .pre .0) in
     (omega (arith, h), k .1, k .2))
     (λ c. search needs)
     (λ c.
     let at-write1 = c .before .before in
-    let at-match = at-write1 .before .before in
+    let at-match = at-write1 .before in
     rw (at-match .match .keys1) (lent-back _ _ _ _ (at-write1 .write1 .ensures)))
     (λ c. search needs)
     (λ c.
     let at-write2 = c .before .before in
-    let at-match = at-write2 .before .before in
+    let at-match = at-write2 .before in
     rw (at-match .match .keys2) (lent-back _ _ _ _ (at-write2 .write2 .ensures)))
     (λ c. search needs)
     (λ c.
     let at-write3 = c .before .before in
-    let at-match = at-write3 .before .before in
-    let start = at-match .before .before in
+    let at-match = at-write3 .before in
+    let start = at-match .before .before .before in
     rw (third (start .pre .1) (at-match .match .rest .0 .1) (at-match .match .rest .1) .0) (lent-back _ _ _ _ (at-write3 .write3 .ensures))))

@@ -22,8 +22,4 @@ put-start-spec =
     let start = at-put-file-block .before .before .before .before in
     rw (at-zeros .zeros .ensures, length-put, at-put-file-block .put-file-block .ensures, length-put) (start .pre .1, start .pre .2))
     (λ c. search needs)
-    (λ c.
-    let at-put-area = c .before .before in
-    let at-zeros = at-put-area .before .before .before .before .before .before in
-    let at-put-file-block = at-zeros .before .before .before .before in
-    rw (at-put-area .put-area .ensures, at-zeros .zeros .ensures, at-put-file-block .put-file-block .ensures) (start-put _ _ _ _)))
+    (λ c. rw (← start-put _ _ _ _) cc))

@@ -12,7 +12,7 @@ add-bits-spec =
     tie.close
     (tie.spec
     (λ c κs. search needs)
-    (λ c κs. judged _ (patterns (c .before .before .before .before .before .args .row .now)) (c .before .bits-fit .ensures))
+    (λ c κs. judged (patterns (c .before .before .before .before .before .args .row .now)) (c .before .bits-fit .ensures))
     (λ c. search needs)
     (λ c. search needs)
     (λ c κs.
@@ -30,9 +30,7 @@ add-bits-spec =
     let at-w = c .before in
     let at-answered = at-w .before .before in
     let at-bits-fit = at-answered .before .before in
-    let start = at-bits-fit .before .before .before .before in
-    let args = start .args in
-    kept-left _ _ (patternsTrace (args .sheet .now) (args .code) (args .row .now)) (at-bits-fit .bits-fit .ensures) (at-answered .answered .ensures)
+    kept-left _ _ _ (at-bits-fit .bits-fit .ensures) (at-answered .answered .ensures)
     (at-w .w .given .1))
     (λ c. search needs)
     (λ c.
@@ -40,7 +38,4 @@ add-bits-spec =
     let at-w2 = at-grow-bits .before .before .before in
     let at-answered = at-w2 .before .before in
     let at-bits-fit = at-answered .before .before in
-    let start = at-bits-fit .before .before .before .before in
-    let args = start .args in
-    let x = patternsTrace (args .sheet .now) (args .code) (args .row .now) in
-    grown-left _ _ x (at-bits-fit .bits-fit .ensures) (at-answered .answered .ensures) (at-w2 .w2 .given .1) (at-grow-bits .grow-bits .ensures)))
+    grown-left _ _ _ (at-bits-fit .bits-fit .ensures) (at-answered .answered .ensures) (at-w2 .w2 .given .1) (at-grow-bits .grow-bits .ensures)))

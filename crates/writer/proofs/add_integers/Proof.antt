@@ -12,7 +12,7 @@ add-integers-spec =
     tie.close
     (tie.spec
     (λ c κs. search needs)
-    (λ c κs. judged _ (integers (c .before .before .before .before .args .row .now)) (c .before .integers-fit .ensures))
+    (λ c κs. judged (integers (c .before .before .before .before .args .row .now)) (c .before .integers-fit .ensures))
     (λ c. search needs)
     (λ c. search needs)
     (λ c κs.
@@ -30,9 +30,7 @@ add-integers-spec =
     let at-w = c .before in
     let at-answered = at-w .before .before in
     let at-integers-fit = at-answered .before .before in
-    let start = at-integers-fit .before .before .before in
-    let args = start .args in
-    kept-left _ _ (integersTrace (args .sheet .now) (args .code) (args .row .now)) (at-integers-fit .integers-fit .ensures)
+    kept-left _ _ _ (at-integers-fit .integers-fit .ensures)
     (at-answered .answered .ensures) (at-w .w .given .1))
     (λ c. search needs)
     (λ c.
@@ -40,8 +38,5 @@ add-integers-spec =
     let at-w2 = at-grow-integers .before .before .before in
     let at-answered = at-w2 .before .before in
     let at-integers-fit = at-answered .before .before in
-    let start = at-integers-fit .before .before .before in
-    let args = start .args in
-    let x = integersTrace (args .sheet .now) (args .code) (args .row .now) in
-    grown-left _ _ x (at-integers-fit .integers-fit .ensures) (at-answered .answered .ensures) (at-w2 .w2 .given .1)
+    grown-left _ _ _ (at-integers-fit .integers-fit .ensures) (at-answered .answered .ensures) (at-w2 .w2 .given .1)
     (at-grow-integers .grow-integers .ensures)))

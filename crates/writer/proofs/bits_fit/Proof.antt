@@ -1,10 +1,7 @@
 -- `writer::bits_fit` meets its contract. Row 28, then what row 29 says. Assumes nothing.
-use mathlib.Core.Path.{sym, _∙_}
 use native.Mathlib.Omega.{arith}
-use borrow.Author.Tests.{not-true, not-false}
 use Rattle.layout.specs.Layout.{patterns, fitting, unfit}
-use Rattle.layout.specs.LayoutLaws.{kinded}
-use Rattle.writer.specs.Writes.{of-other, of-kind}
+use Rattle.writer.specs.Writes.{of-other, of-kind, code-most}
 use borrow.Author.Needs.{needs}
 use Rattle.writer.proofs.bits_fit.Statement.{statement}
 use Rattle.writer.proofs.bits_fit.Tie as tie
@@ -15,23 +12,17 @@ bits-fit-spec =
     tie.close
     (tie.spec
     (λ c κs. search needs)
-    (λ c κs. search needs)
-    (λ c.
-    let at-if1 = c .before in
-    let at-is-of-bits = at-if1 .before in
-    let start = at-is-of-bits .before .before in
-    c .refusing .ensures ∙ of-other _ (patterns (start .args .row .now)) (sym (at-is-of-bits .is-of-bits .ensures) ∙ not-true _ (at-if1 .if1 .taken)))
     (λ c.
     let at-is-of-bits = c .before in
     let start = at-is-of-bits .before .before in
     let args = start .args in
-    omega (arith, kinded (args .code) (patterns (args .row .now)) (sym (at-is-of-bits .is-of-bits .ensures) ∙ not-false _ (c .if1 .left)) .most))
+    omega (arith, code-most (args .code) (patterns (args .row .now)) (at-is-of-bits .is-of-bits .ensures) (c .if1 .taken)))
     (λ c κs. search needs)
     (λ c κs. search needs)
     (λ c.
     let at-unfit-bits = c .before in
     let at-if1 = at-unfit-bits .before in
     let at-is-of-bits = at-if1 .before in
-    let start = at-is-of-bits .before .before in
-    c .fitted .ensures ∙ rw (at-unfit-bits .unfit-bits .ensures) (of-kind _ (patterns (start .args .row .now))
-    (sym (at-is-of-bits .is-of-bits .ensures) ∙ not-false _ (at-if1 .if1 .left)))))
+    of-kind _ _ (at-is-of-bits .is-of-bits .ensures) (at-if1 .if1 .taken) (at-unfit-bits .unfit-bits .ensures) (c .fitted .ensures))
+    (λ c κs. search needs)
+    (λ c. of-other _ _ (c .before .before .is-of-bits .ensures) (c .before .if1 .left) (c .refusing .ensures)))

@@ -1,10 +1,7 @@
 -- `writer::integers_fit` meets its contract. Row 28, then what row 29 says. Assumes nothing.
-use mathlib.Core.Path.{sym, _∙_}
 use native.Mathlib.Omega.{arith}
-use borrow.Author.Tests.{not-true, not-false}
 use Rattle.layout.specs.Layout.{integers, fitting, unfit}
-use Rattle.layout.specs.LayoutLaws.{kinded}
-use Rattle.writer.specs.Writes.{of-other, of-kind}
+use Rattle.writer.specs.Writes.{of-other, of-kind, code-most}
 use borrow.Author.Needs.{needs}
 use Rattle.writer.proofs.integers_fit.Statement.{statement}
 use Rattle.writer.proofs.integers_fit.Tie as tie
@@ -15,28 +12,17 @@ integers-fit-spec =
     tie.close
     (tie.spec
     (λ c κs. search needs)
-    (λ c κs. search needs)
-    (λ c.
-    let at-if1 = c .before in
-    let at-is-of-integers = at-if1 .before in
-    let start = at-is-of-integers .before in
-    c .refusing .ensures ∙ of-other _ (integers (start .args .row .now))
-    (sym (at-is-of-integers .is-of-integers .ensures) ∙ not-true _ (at-if1 .if1 .taken)))
     (λ c.
     let at-is-of-integers = c .before in
     let start = at-is-of-integers .before in
     let args = start .args in
-    omega (
-      arith,
-      kinded (args .code) (integers (args .row .now)) (sym (at-is-of-integers .is-of-integers .ensures) ∙ not-false _
-          (c .if1 .left)) .most,
-    ))
+    omega (arith, code-most (args .code) (integers (args .row .now)) (at-is-of-integers .is-of-integers .ensures) (c .if1 .taken)))
     (λ c κs. search needs)
     (λ c κs. search needs)
     (λ c.
     let at-unfit-integers = c .before in
     let at-if1 = at-unfit-integers .before in
     let at-is-of-integers = at-if1 .before in
-    let start = at-is-of-integers .before in
-    c .fitted .ensures ∙ rw (at-unfit-integers .unfit-integers .ensures)
-    (of-kind _ (integers (start .args .row .now)) (sym (at-is-of-integers .is-of-integers .ensures) ∙ not-false _ (at-if1 .if1 .left)))))
+    of-kind _ _ (at-is-of-integers .is-of-integers .ensures) (at-if1 .if1 .taken) (at-unfit-integers .unfit-integers .ensures) (c .fitted .ensures))
+    (λ c κs. search needs)
+    (λ c. of-other _ _ (c .before .before .is-of-integers .ensures) (c .before .if1 .left) (c .refusing .ensures)))
