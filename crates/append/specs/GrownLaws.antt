@@ -86,10 +86,10 @@ pub block-high : (f : List ℕ) (b : FileBlock) → b ≡ fileBlockOf f → b .h
 unfolding fileBlockOf
 block-high f b e = ap (λ (k : FileBlock). k .high) e
 
-pub register-put : (xs : List ℕ) (n : ℕ) {b : FileBlock} → b ≡ fileBlockOf (take n xs)
-    → put (put xs (32 + 4 * b .n) (bytesOf 4 (b .high) (round4 n))) 6 (bytesOf 2 (b .high) (b .n + 1)) ≡ registered xs n
+pub register-put : (xs : List ℕ) (n : ℕ) {b : FileBlock} {at : ℕ} → b ≡ fileBlockOf (take n xs) → at ≡ round4 n
+    → put (put xs (32 + 4 * b .n) (bytesOf 4 (b .high) at)) 6 (bytesOf 2 (b .high) (b .n + 1)) ≡ registered xs n
 unfolding registered
-register-put xs n {b} e = rw (block-count (take n xs) b e, block-high (take n xs) b e)
+register-put xs n {b} e a = rw (block-count (take n xs) b e, block-high (take n xs) b e, a)
 
 -- a terminator as the code takes it out of the buffer
 pub end-taken : (xs : List ℕ) (n at k : ℕ) → at + 3 ≤ n → n ≤ length xs → goodTerminator (take n xs) at ≡ true → k ≡ getD (take n xs) at 0

@@ -32,4 +32,4 @@ register-spec =
     let at-put4 = at-put2 .before .before .before .before .before in
     let at-round-up = at-put4 .before .before .before in
     let at-file-block = at-round-up .before in
-    rw (at-put2 .put2 .ensures, at-put4 .put4 .ensures, at-round-up .round-up .ensures) (register-put _ _ (at-file-block .file-block .ensures .0))))
+    rw (at-put2 .put2 .ensures, at-put4 .put4 .ensures) (register-put _ _ (at-file-block .file-block .ensures .0) (at-round-up .round-up .ensures))))
