@@ -1,106 +1,81 @@
 // The stores of an addition (document 01, "What we write"): the gap, the new trace at the old end rounded up, its pointer and N, in this order.
-// Grown has the definition. The free end of the buffer is lent to the writer of the trace. Stands on `layout`, `head`.
+// Grown has the definition. What differs by the kind of the samples is their encoding alone. Stands on `layout`, `head`.
 // The rules in words: docs/FORMAT.md, "What we write".
 ghost use mathlib.Core.Path.{_≡_};
-ghost use Prim.Native.Nat.{_+_, _-_, _*_, _≤_, _<_};
-ghost use lib.ListN.{length};
+ghost use Prim.Native.Nat.{_-_};
+ghost use lib.ListN.{length, take};
 ghost use Rattle.word.specs.Put.{put};
-ghost use Rattle.word.specs.Word.{bytesOf};
-ghost use Rattle.layout.specs.Layout.{traceBytes, integers, patterns, integersTrace, patternsTrace};
-ghost use Rattle.layout.specs.Stores.{Ready};
-ghost use Rattle.append.specs.GrownLaws.{Growing};
+ghost use Rattle.sample.specs.Needed.{room};
+ghost use Rattle.head.specs.Head.{highFirst};
+ghost use Rattle.layout.specs.Layout.{integers, patterns, integersTrace, patternsTrace};
+ghost use Rattle.layout.specs.Stores.{Held};
+ghost use Rattle.append.specs.GrownLaws.{newFront, registered, Slotted, Begins};
 ghost use Rattle.append.specs.Grown.{grown};
 
-fn lend_integers(
-    buffer: &mut [u8],
-    at: usize,
-    high: bool,
-    t: &[u8],
-    u: &[u8],
-    sheet: &[u8],
-    size: usize,
-    code: u8,
-    row: &[i32],
-)
-    requires { ⌜ (at ≤ length (now buffer)) × Ready (now t) (now u) (now sheet) size code (integers (now row)) (length (now buffer) - at) ⌝ }
-    ensures { λ _. ⌜ now (buffer .exit) ≡ put (now (buffer .entry)) at (traceBytes high (now (t .entry)) (now (u .entry)) (integersTrace (now (sheet .entry)) code (now (row .entry)))) ⌝ }
-{
-    layout::trace_integers(&mut buffer[at..], high, t, u, sheet, size, code, row);
+// Where the samples of a trace that is begun go, and in which byte order.
+pub struct Begun {
+    pub at: usize,
+    pub high: bool,
 }
 
-fn lend_bits(
-    buffer: &mut [u8],
-    at: usize,
-    high: bool,
-    t: &[u8],
-    u: &[u8],
-    sheet: &[u8],
-    size: usize,
-    code: u8,
-    row: &[u64],
-)
-    requires { ⌜ (at ≤ length (now buffer)) × Ready (now t) (now u) (now sheet) size code (patterns (now row)) (length (now buffer) - at) ⌝ }
-    ensures { λ _. ⌜ now (buffer .exit) ≡ put (now (buffer .entry)) at (traceBytes high (now (t .entry)) (now (u .entry)) (patternsTrace (now (sheet .entry)) code (now (row .entry)))) ⌝ }
+// All before the samples: the gap, and the block and the strings into the free end of the buffer, which is lent from the new trace on. The terminators
+// are taken out of the file first: they stand at the buffer's start.
+fn begin(buffer: &mut [u8], n: usize, sheet: &[u8], end: usize, code: u32, count: usize) -> Begun
+    requires { ⌜ Begins (now buffer) n (now sheet) end code count ⌝ }
+    ensures place { λ r. ⌜ (r .at ≡ end - room code count) × (r .high ≡ highFirst (take n (now (buffer .entry)))) ⌝ }
+    ensures left { λ _. ⌜ now (buffer .exit) ≡ put (now (buffer .entry)) n (newFront (take n (now (buffer .entry))) n (now (sheet .entry)) code count) ⌝ }
 {
-    layout::trace_bits(&mut buffer[at..], high, t, u, sheet, size, code, row);
+    let b = head::file_block(&buffer[..n]);
+    let at = word::round_up(n);
+    let c = code as u8;
+    let s = count as u32;
+    let data = end - sample::room(c, s);
+    let t = [buffer[9], buffer[10]];
+    let u = [buffer[12], buffer[13]];
+    let t_len = b.strings;
+    let u_len = b.lines;
+    word::zeros(buffer, n, at); // the gap
+    layout::put_head(
+        &mut buffer[at..],
+        b.high,
+        &t[..t_len],
+        &u[..u_len],
+        sheet,
+        data - at - 32,
+        c,
+        s,
+    );
+    Begun {
+        at: data,
+        high: b.high,
+    }
 }
 
-// The pointer to the new trace in the first free slot, and N one more.
-fn register(buffer: &mut [u8], high: bool, n: u16, at: usize)
-    requires { ⌜ (36 + 4 * n ≤ length (now buffer)) × (n < 65535) × (at < 4294967296) ⌝ }
-    ensures { λ _. ⌜ now (buffer .exit) ≡ put (put (now (buffer .entry)) (32 + 4 * n) (bytesOf 4 high at)) 6 (bytesOf 2 high (n + 1)) ⌝ }
+// The pointer to the new trace in the first free slot, and N one more. Only now is the trace one of the file's.
+fn register(buffer: &mut [u8], n: usize)
+    requires { ⌜ Slotted (now buffer) n ⌝ }
+    ensures { λ _. ⌜ now (buffer .exit) ≡ registered (now (buffer .entry)) n ⌝ }
 {
-    word::put4(buffer, high, 32 + 4 * (n as usize), at as u32);
-    word::put2(buffer, high, 6, n + 1);
+    let b = head::file_block(&buffer[..n]);
+    let at = word::round_up(n);
+    word::put4(buffer, b.high, 32 + 4 * b.n, at as u32);
+    word::put2(buffer, b.high, 6, b.n as u16 + 1);
 }
 
-// The terminators are taken out of the file first: the end of the buffer is then lent, and they stand at its start.
-pub fn grow_integers(buffer: &mut [u8], n: usize, sheet: &[u8], size: usize, code: u8, row: &[i32])
-    requires { ⌜ Growing (now buffer) n (now sheet) size (integersTrace (now sheet) code (now row)) ⌝ }
+pub fn grow_integers(buffer: &mut [u8], n: usize, sheet: &[u8], end: usize, code: u32, row: &[i32])
+    requires { ⌜ Begins (now buffer) n (now sheet) end code (length (now row)) × Held code (integers (now row)) ⌝ }
     ensures { λ _. ⌜ now (buffer .exit) ≡ grown (now (buffer .entry)) n (integersTrace (now (sheet .entry)) code (now (row .entry))) ⌝ }
 {
-    let b = head::file_block(&buffer[..n]);
-    let at = word::round_up(n);
-    let t = [buffer[9], buffer[10]];
-    let u = [buffer[12], buffer[13]];
-    let t_len = word::wide(buffer[8]);
-    let u_len = word::wide(buffer[11]);
-    word::zeros(buffer, n, at); // the gap
-    lend_integers(
-        buffer,
-        at,
-        b.high,
-        &t[..t_len],
-        &u[..u_len],
-        sheet,
-        size,
-        code,
-        row,
-    );
-    register(buffer, b.high, b.n as u16, at); // only now is the trace one of the file's
+    let b = begin(buffer, n, sheet, end, code, row.len());
+    layout::put_integers(buffer, b.at, b.high, code, row);
+    register(buffer, n);
 }
 
-pub fn grow_bits(buffer: &mut [u8], n: usize, sheet: &[u8], size: usize, code: u8, row: &[u64])
-    requires { ⌜ Growing (now buffer) n (now sheet) size (patternsTrace (now sheet) code (now row)) ⌝ }
+pub fn grow_bits(buffer: &mut [u8], n: usize, sheet: &[u8], end: usize, code: u32, row: &[u64])
+    requires { ⌜ Begins (now buffer) n (now sheet) end code (length (now row)) × Held code (patterns (now row)) ⌝ }
     ensures { λ _. ⌜ now (buffer .exit) ≡ grown (now (buffer .entry)) n (patternsTrace (now (sheet .entry)) code (now (row .entry))) ⌝ }
 {
-    let b = head::file_block(&buffer[..n]);
-    let at = word::round_up(n);
-    let t = [buffer[9], buffer[10]];
-    let u = [buffer[12], buffer[13]];
-    let t_len = word::wide(buffer[8]);
-    let u_len = word::wide(buffer[11]);
-    word::zeros(buffer, n, at);
-    lend_bits(
-        buffer,
-        at,
-        b.high,
-        &t[..t_len],
-        &u[..u_len],
-        sheet,
-        size,
-        code,
-        row,
-    );
-    register(buffer, b.high, b.n as u16, at);
+    let b = begin(buffer, n, sheet, end, code, row.len());
+    layout::put_bits(buffer, b.at, b.high, code, row);
+    register(buffer, n);
 }

@@ -32,6 +32,10 @@ nul = 0 ∷ []
 abbrev pub lineFeed : List ℕ
 lineFeed = 10 ∷ []
 
+-- "31 slots outside 1 to 16,383"
+abbrev pub slotsMost : ℕ
+slotsMost = 16383
+
 -- "It writes revision 1, M of 4 times the slots", N
 unfoldable pub fileBlock : Bool → ℕ → ℕ → List ℕ
 fileBlock high m n = orderMark high ++ (bytesOf 2 high 1 ++ (bytesOf 2 high m ++ (bytesOf 2 high n ++ plainEnds)))

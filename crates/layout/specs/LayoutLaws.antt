@@ -109,47 +109,40 @@ pub record Kinded (code s : ℕ) : Type 0 where
   pub groups : code ≡ 3 → s % 4 ≡ 0
   pub each : s ≤ needed code s
 
-integers-kinded : (code s : ℕ) → integersAsked code s ≡ true → Kinded code s
+-- codes 1 to 3 are of integers
+pub integers-kinded : (code s : ℕ) → integersAsked code s ≡ true → Kinded code s × (code ≤ 3)
 unfolding needed
 integers-kinded zero s h = never h
-integers-kinded (suc zero) s h = record { least = omega arith; most = omega arith; groups = λ e. absurd (omega arith); each = omega arith }
-integers-kinded (suc (suc zero)) s h = record { least = omega arith; most = omega arith; groups = λ e. absurd (omega arith); each = omega arith }
+integers-kinded (suc zero) s h = (record { least = omega arith; most = omega arith; groups = λ e. absurd (omega arith); each = omega arith }, omega arith)
+integers-kinded (suc (suc zero)) s h = (record { least = omega arith; most = omega arith; groups = λ e. absurd (omega arith); each = omega arith }, omega arith)
 integers-kinded (suc (suc (suc zero))) s h =
-    record { least = omega arith; most = omega arith; groups = λ e. eqb-true (s % 4) 0 h; each = omega arith }
+    (record { least = omega arith; most = omega arith; groups = λ e. eqb-true (s % 4) 0 h; each = omega arith }, omega arith)
 integers-kinded (suc (suc (suc (suc zero)))) s h = never h
 integers-kinded (suc (suc (suc (suc (suc zero))))) s h = never h
 integers-kinded (suc (suc (suc (suc (suc (suc code)))))) s h = never h
 
-bits-kinded : (code s : ℕ) → bitsAsked code ≡ true → Kinded code s
+-- codes 4 and 5 of bit patterns
+pub bits-kinded : (code s : ℕ) → bitsAsked code ≡ true → Kinded code s × (4 ≤ code)
 unfolding needed
 bits-kinded zero s h = never h
 bits-kinded (suc zero) s h = never h
 bits-kinded (suc (suc zero)) s h = never h
 bits-kinded (suc (suc (suc zero))) s h = never h
-bits-kinded (suc (suc (suc (suc zero)))) s h = record { least = omega arith; most = omega arith; groups = λ e. absurd (omega arith); each = omega arith }
-bits-kinded (suc (suc (suc (suc (suc zero))))) s h = record { least = omega arith; most = omega arith; groups = λ e. absurd (omega arith); each = omega arith }
+bits-kinded (suc (suc (suc (suc zero)))) s h =
+    (record { least = omega arith; most = omega arith; groups = λ e. absurd (omega arith); each = omega arith }, omega arith)
+bits-kinded (suc (suc (suc (suc (suc zero))))) s h =
+    (record { least = omega arith; most = omega arith; groups = λ e. absurd (omega arith); each = omega arith }, omega arith)
 bits-kinded (suc (suc (suc (suc (suc (suc code)))))) s h = never h
 
 pub kinded : (code : ℕ) (s : Samples) → fitting code s ≡ true → Kinded code (count s)
 unfolding fitting count
-kinded code (integers row) h = integers-kinded code (length row) h
-kinded code (patterns row) h = bits-kinded code (length row) h
+kinded code (integers row) h = integers-kinded code (length row) h .0
+kinded code (patterns row) h = bits-kinded code (length row) h .0
 
 -- "D is the needed bytes rounded up to 4": enough, and a multiple of 4
 pub room-enough : (code s : ℕ) → (needed code s ≤ room code s) × (room code s % 4 ≡ 0)
 unfolding room
 room-enough code s = (omega arith, omega arith)
-
--- a sample has 8 bytes at most
-pub room-most : (code s : ℕ) → room code s ≤ 8 * s + 3
-unfolding room needed
-room-most zero s = omega arith
-room-most (suc zero) s = omega arith
-room-most (suc (suc zero)) s = omega arith
-room-most (suc (suc (suc zero))) s = omega arith
-room-most (suc (suc (suc (suc zero)))) s = omega arith
-room-most (suc (suc (suc (suc (suc zero))))) s = omega arith
-room-most (suc (suc (suc (suc (suc (suc c)))))) s = omega arith
 
 -- ---- sizes of a trace
 

@@ -1,48 +1,52 @@
 -- The stores of a start and of a trace, one behind the other, are the layout.
 -- Assumes nothing.
-use mathlib.Core.Path.{_≡_, refl, sym, ap₂, _∙_}
-use mathlib.Core.Bool.{Bool, true}
-use mathlib.Core.List.{List, [], _∷_, _++_}
-use Prim.Native.Nat.{ℕ, zero, suc, _+_, _-_, _*_, _%_, _≤_}
+use mathlib.Core.Path.{_≡_, refl, sym}
+use mathlib.Core.Bool.{Bool, true, false}
+use mathlib.Core.List.{List, [], _∷_, _++_, append-assoc}
+use Prim.Native.Nat.{ℕ, _+_, _-_, _*_, _%_, _≤_}
 use native.Mathlib.Omega.{arith}
 use lib.IntN.{ℤ}
 use lib.ListN.{length, replicate, length-append, length-replicate}
-use borrow.Author.Tests.{eqb-true}
 use Rattle.block.specs.Block.{traceMark}
 use Rattle.word.specs.Put.{put, put-append}
-use Rattle.word.specs.Word.{bytesOf}
+use Rattle.word.specs.Word.{lowBytes, bytesOf}
 use Rattle.word.specs.WordLaws.{length-bytesOf}
 use Rattle.encode.specs.declared.Fit.the-variants.{All}
 use Rattle.sample.specs.Needed.{room}
-use Rattle.decode.specs.Sample.{integersAsked, bitsAsked}
 use Rattle.encode.specs.Unfit.{unfitIntegers}
-use Rattle.encode.specs.Write.{integersData, bitsData}
 use Rattle.sheet.specs.declared.Measured.the-variants as measured
 use Rattle.sheet.specs.Area.{areaOf, areaSize, measuredOf}
 use Rattle.sheet.specs.Sizes.{length-area}
 use Rattle.area.specs.Spelling.{measured-size}
-use Rattle.layout.specs.Layout.{orderMark, plainEnds, nul, lineFeed, fileBlock, startImage, Trace, Samples, integers, patterns, integersTrace, patternsTrace, count, fitting, unfit, samplesData, traceBlock, dataBytes, traceBytes}
-use Rattle.layout.specs.LayoutLaws.{length-mark, length-fileBlock, length-traceBlock, room-most}
+use Rattle.layout.specs.Layout.{orderMark, plainEnds, nul, lineFeed, fileBlock, startImage, Trace, Samples, integers, patterns, count, fitting, unfit, samplesData, traceBlock, blockBytes, dataBytes, traceBytes}
+use Rattle.layout.specs.LayoutLaws.{length-mark, length-fileBlock, length-traceBlock, integers-kinded, bits-kinded}
 
 -- ---- a start
 
-pub ends-put : (xs : List ℕ) → put (put xs 8 (1 ∷ 0 ∷ 0 ∷ 1 ∷ 10 ∷ 0 ∷ [])) 14 (replicate 18 0) ≡ put xs 8 plainEnds
-ends-put xs = sym (put-append (1 ∷ 0 ∷ 0 ∷ 1 ∷ 10 ∷ 0 ∷ []) (replicate 18 0) xs 8)
+-- 3A55h in the file's order
+mark-word : (high : Bool) → orderMark high ≡ bytesOf 2 high 14933
+unfolding bytesOf lowBytes
+mark-word true = refl
+mark-word false = refl
 
 pub file-block-put : (high : Bool) (m : ℕ) (xs : List ℕ)
-    → put (put (put (put (put xs 0 (orderMark high)) 2 (bytesOf 2 high 1)) 4 (bytesOf 2 high m)) 6 (bytesOf 2 high 0)) 8 plainEnds ≡ put xs 0 (fileBlock high m 0)
+    → put (put (put (put (put (put xs 0 (bytesOf 2 high 14933)) 2 (bytesOf 2 high 1)) 4 (bytesOf 2 high m)) 6 (bytesOf 2 high 0)) 8 (1 ∷ 0 ∷ 0 ∷ 1 ∷ 10 ∷ 0 ∷ [])) 14
+    (replicate 18 0)
+    ≡ put xs 0 (fileBlock high m 0)
 unfolding fileBlock
 file-block-put high m xs =
     sym (rw (
       put-append (orderMark high) (bytesOf 2 high 1 ++ (bytesOf 2 high m ++ (bytesOf 2 high 0 ++ plainEnds))) xs 0,
       length-mark high,
+      mark-word high,
       put-append (bytesOf 2 high 1) (bytesOf 2 high m ++ (bytesOf 2 high 0 ++ plainEnds)),
       length-bytesOf 2 high 1,
       put-append (bytesOf 2 high m) (bytesOf 2 high 0 ++ plainEnds),
       length-bytesOf 2 high m,
       put-append (bytesOf 2 high 0) plainEnds,
       length-bytesOf 2 high 0,
-    ))
+    )
+    (put-append (1 ∷ 0 ∷ 0 ∷ 1 ∷ 10 ∷ 0 ∷ []) (replicate 18 0) _ 8))
 
 pub start-put : (high : Bool) (slots : ℕ) (sheet xs : List ℕ)
     → put (put (put xs 0 (fileBlock high (4 * slots) 0)) 32 (replicate (32 + 4 * slots - 32) 0)) (32 + 4 * slots) (areaOf high nul lineFeed sheet)
@@ -77,86 +81,50 @@ block-put high b d s code xs =
     )
     (put-append (code ∷ []) (replicate 19 0) _ 12))
 
-pub head-put : (high : Bool) (b d s code : ℕ) (t u sheet xs : List ℕ)
-    → put (put xs 0 (traceBlock high b d s code)) 32 (areaOf high t u sheet) ≡ put xs 0 (traceBlock high b d s code ++ areaOf high t u sheet)
-head-put high b d s code t u sheet xs =
-    sym (rw (put-append (traceBlock high b d s code) (areaOf high t u sheet) xs 0, length-traceBlock high b d s code))
+-- all of a trace before its samples: the block and the strings
+unfoldable pub headBytes : Bool → List ℕ → List ℕ → List ℕ → ℕ → ℕ → List ℕ
+headBytes high t u sheet code s = traceBlock high (32 + areaSize t u sheet) (room code s) s code ++ areaOf high t u sheet
 
--- ---- what must hold of a trace before its bytes are written, and of a buffer before it grows
+pub length-headBytes : (high : Bool) (t u sheet : List ℕ) (code s : ℕ) → length (headBytes high t u sheet code s) ≡ 32 + areaSize t u sheet
+unfolding headBytes
+length-headBytes high t u sheet code s =
+    let b : List ℕ = traceBlock high (32 + areaSize t u sheet) (room code s) s code in
+    omega (arith, length-append b (areaOf high t u sheet), length-traceBlock high (32 + areaSize t u sheet) (room code s) s code, length-area high t u sheet)
 
-pub record Ready (t u sheet : List ℕ) (size code : ℕ) (samples : Samples) (space : ℕ) : Type 0 where
-  pub measured : measuredOf t u sheet ≡ measured.Size size
-  pub fits : fitting code samples ≡ true
-  pub held : unfit code samples ≡ All
-  pub few : count samples ≤ 67108864
-  pub inside : 32 + size + room code (count samples) ≤ space
-
-pub trace-put : (high : Bool) (t u : List ℕ) (size : ℕ) (x : Trace) (xs : List ℕ) → measuredOf t u (x .sheet) ≡ measured.Size size
-    → put (put xs 0 (traceBlock high (32 + size) (room (x .code) (count (x .samples))) (count (x .samples)) (x .code) ++ areaOf high t u (x .sheet)))
-    (32 + size) (samplesData (x .code) high (x .samples))
-    ≡ put xs 0 (traceBytes high t u x)
-unfolding traceBytes
-trace-put high t u size x xs m =
-    let a : areaSize t u (x .sheet) ≡ size = measured-size t u (x .sheet) size m .1 in
-    let h : List ℕ = traceBlock high (32 + size) (dataBytes x) (count (x .samples)) (x .code) in
-    let l : length (h ++ areaOf high t u (x .sheet)) ≡ 32 + size =
-    length-append h (areaOf high t u (x .sheet)) ∙ ap₂ (λ (i j : ℕ). i + j) (length-traceBlock high (32 + size) (dataBytes x) (count (x .samples)) (x .code)) (length-area high t u (x .sheet) ∙ a) in
-    let z : 0 + (32 + size) ≡ 32 + size = omega arith in
+pub head-put : (high : Bool) (t u sheet : List ℕ) (size code s : ℕ) (xs : List ℕ) → measuredOf t u sheet ≡ measured.Size size
+    → put (put xs 0 (traceBlock high (32 + size) (room code s) s code)) 32 (areaOf high t u sheet) ≡ put xs 0 (headBytes high t u sheet code s)
+unfolding headBytes
+head-put high t u sheet size code s xs m =
     sym (rw (
-      a,
-      ← mathlib.Core.List.append-assoc h (areaOf high t u (x .sheet)) (samplesData (x .code) high (x .samples)),
-      put-append (h ++ areaOf high t u (x .sheet)) (samplesData (x .code) high (x .samples)) xs 0,
-      l,
-      z,
+      measured-size t u sheet size m .1,
+      put-append (traceBlock high (32 + size) (room code s) s code) (areaOf high t u sheet) xs 0,
+      length-traceBlock high (32 + size) (room code s) s code,
     ))
 
--- ---- codes
+-- behind it the samples
+pub head-samples : (high : Bool) (t u : List ℕ) (x : Trace)
+    → traceBytes high t u x ≡ headBytes high t u (x .sheet) (x .code) (count (x .samples)) ++ samplesData (x .code) high (x .samples)
+unfolding traceBytes headBytes
+head-samples high t u x =
+    sym (append-assoc (traceBlock high (blockBytes t u x) (dataBytes x) (count (x .samples)) (x .code)) (areaOf high t u (x .sheet)) (samplesData (x .code) high (x .samples)))
 
--- the code that is left where it is neither of the first ones
-pub third : (code s : ℕ) → integersAsked code s ≡ true → (code ≡ 1 → ⊥) → (code ≡ 2 → ⊥) → (code ≡ 3) × (s % 4 ≡ 0)
-third zero s h a b = let z : _≡_ {A = ℕ} 0 1 = cc in absurd (omega arith)
-third (suc zero) s h a b = absurd (a refl)
-third (suc (suc zero)) s h a b = absurd (b refl)
-third (suc (suc (suc zero))) s h a b = (refl, eqb-true (s % 4) 0 h)
-third (suc (suc (suc (suc zero)))) s h a b = let z : _≡_ {A = ℕ} 0 1 = cc in absurd (omega arith)
-third (suc (suc (suc (suc (suc zero))))) s h a b = let z : _≡_ {A = ℕ} 0 1 = cc in absurd (omega arith)
-third (suc (suc (suc (suc (suc (suc c)))))) s h a b = let z : _≡_ {A = ℕ} 0 1 = cc in absurd (omega arith)
+-- ---- the samples
 
-pub fifth : (code : ℕ) → bitsAsked code ≡ true → (code ≡ 4 → ⊥) → code ≡ 5
-fifth zero h a = let z : _≡_ {A = ℕ} 0 1 = cc in absurd (omega arith)
-fifth (suc zero) h a = let z : _≡_ {A = ℕ} 0 1 = cc in absurd (omega arith)
-fifth (suc (suc zero)) h a = let z : _≡_ {A = ℕ} 0 1 = cc in absurd (omega arith)
-fifth (suc (suc (suc zero))) h a = let z : _≡_ {A = ℕ} 0 1 = cc in absurd (omega arith)
-fifth (suc (suc (suc (suc zero)))) h a = absurd (a refl)
-fifth (suc (suc (suc (suc (suc zero))))) h a = refl
-fifth (suc (suc (suc (suc (suc (suc c)))))) h a = let z : _≡_ {A = ℕ} 0 1 = cc in absurd (omega arith)
+-- what rows 28 and 29 have shown
+pub record Held (code : ℕ) (samples : Samples) : Type 0 where
+  pub fits : fitting code samples ≡ true
+  pub all : unfit code samples ≡ All
 
--- ---- a trace's samples as the code has them
+-- of the codes of integers the one that is neither 1 nor 2
+pub third : {code : ℕ} {row : List ℤ} → Held code (integers row) → (code ≡ 1 → ⊥) → (code ≡ 2 → ⊥)
+    → (code ≡ 3) × (length row % 4 ≡ 0) × (unfitIntegers 3 row ≡ All)
+unfolding fitting unfit
+third {code} {row} h a b =
+    let k = integers-kinded code (length row) (h .fits) in
+    let e : code ≡ 3 = omega (arith, k .0 .least, k .1, a, b) in
+    (e, k .0 .groups e, rw e at (h .all))
 
-module _ {t u sheet : List ℕ} {size code space : ℕ} where
-  pub ready-integers : {row : List ℤ} → Ready t u sheet size code (integers row) space
-      → (length row ≤ 67108864) × (room code (length row) ≤ 536870915) × (32 + size + room code (length row) ≤ space)
-      × (integersAsked code (length row) ≡ true) × (unfitIntegers code row ≡ All)
-  unfolding count fitting unfit
-  ready-integers {row} r =
-      let l : length row ≤ 67108864 = r .few in
-      (l, omega (arith, room-most code (length row)), r .inside, r .fits, r .held)
-
-  pub ready-patterns : {row : List ℕ} → Ready t u sheet size code (patterns row) space
-      → (length row ≤ 67108864) × (room code (length row) ≤ 536870915) × (32 + size + room code (length row) ≤ space) × (bitsAsked code ≡ true)
-  unfolding count fitting
-  ready-patterns {row} r =
-      let l : length row ≤ 67108864 = r .few in
-      (l, omega (arith, room-most code (length row)), r .inside, r .fits)
-
-pub integers-put : (high : Bool) (t u : List ℕ) (size : ℕ) (sheet : List ℕ) (code : ℕ) (row : List ℤ) (xs : List ℕ) → measuredOf t u sheet ≡ measured.Size size
-    → put (put xs 0 (traceBlock high (32 + size) (room code (length row)) (length row) code ++ areaOf high t u sheet)) (32 + size) (integersData code high row)
-    ≡ put xs 0 (traceBytes high t u (integersTrace sheet code row))
-unfolding count samplesData
-integers-put high t u size sheet code row xs m = trace-put high t u size (integersTrace sheet code row) xs m
-
-pub bits-put : (high : Bool) (t u : List ℕ) (size : ℕ) (sheet : List ℕ) (code : ℕ) (row xs : List ℕ) → measuredOf t u sheet ≡ measured.Size size
-    → put (put xs 0 (traceBlock high (32 + size) (room code (length row)) (length row) code ++ areaOf high t u sheet)) (32 + size) (bitsData code high row)
-    ≡ put xs 0 (traceBytes high t u (patternsTrace sheet code row))
-unfolding count samplesData
-bits-put high t u size sheet code row xs m = trace-put high t u size (patternsTrace sheet code row) xs m
+-- of those of bit patterns the one that is not 4
+pub fifth : {code : ℕ} {row : List ℕ} → Held code (patterns row) → (code ≡ 4 → ⊥) → code ≡ 5
+unfolding fitting
+fifth {code} {row} h a = let k = bits-kinded code (length row) (h .fits) in omega (arith, k .0 .most, k .1, a)

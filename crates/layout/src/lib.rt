@@ -2,57 +2,32 @@
 // stored where the caller lends it. Layout has the definitions, LayoutLaws what stands where, Stores that the stores make them.
 // Stands on `area`, `encode`, `block`, `head` and what they stand on.
 // The rules in words: docs/FORMAT.md, "What we write".
-use encode::Fit;
 use sheet::Measured;
 ghost use mathlib.Core.Path.{_≡_};
-ghost use mathlib.Core.Bool.{true};
-ghost use mathlib.Core.List.{_++_};
-ghost use Prim.Native.Nat.{_+_, _-_, _*_, _≤_};
+ghost use Prim.Native.Nat.{_+_, _-_, _*_, _≤_, _<_};
 ghost use lib.ListN.{length};
 ghost use Rattle.word.specs.Put.{put};
 ghost use Rattle.sample.specs.Needed.{room};
-ghost use Rattle.decode.specs.Sample.{integersAsked, bitsAsked};
-ghost use Rattle.encode.specs.Unfit.{unfitIntegers};
-ghost use Rattle.encode.specs.Write.{integersData, bitsData};
 ghost use Rattle.sheet.specs.Area.{areaOf, measuredOf};
 ghost use Rattle.area.specs.Writing.{Writable};
-ghost use Rattle.layout.specs.Layout.{orderMark, plainEnds, nul, lineFeed, fileBlock, startImage, traceBlock, traceBytes, integers, patterns, integersTrace, patternsTrace};
-ghost use Rattle.layout.specs.Stores.{Ready};
+ghost use Rattle.layout.specs.Layout.{nul, lineFeed, slotsMost, fileBlock, startImage, traceBlock, integers, patterns, samplesData};
+ghost use Rattle.layout.specs.Stores.{headBytes, Held};
 
-// Bytes 0 and 1.
-fn put_mark(buf: &mut [u8], high: bool)
-    requires { ⌜ 2 ≤ length (now buf) ⌝ }
-    ensures { λ _. ⌜ now (buf .exit) ≡ put (now (buf .entry)) 0 (orderMark high) ⌝ }
-{
-    if high {
-        buf[0] = 58;
-        buf[1] = 85;
-    } else {
-        buf[0] = 85;
-        buf[1] = 58;
-    }
-}
+// "31 slots outside 1 to 16,383": `slotsMost` of the definitions.
+pub const SLOTS: usize = 16383;
 
-// Bytes 8 to 31: the terminators 00 and 0A.
-fn put_ends(buf: &mut [u8])
-    requires { ⌜ 32 ≤ length (now buf) ⌝ }
-    ensures { λ _. ⌜ now (buf .exit) ≡ put (now (buf .entry)) 8 plainEnds ⌝ }
-{
-    let ends = [1u8, 0, 0, 1, 10, 0];
-    word::copy(buf, 8, &ends[..]);
-    word::zeros(buf, 14, 32);
-}
-
-// The file block of a start, N=0.
+// The file block of a start, N=0: the order's mark, which is one word in either order, revision 1, M, N, and the terminators 00 and 0A.
 fn put_file_block(buf: &mut [u8], high: bool, m: u16)
     requires { ⌜ 32 ≤ length (now buf) ⌝ }
     ensures { λ _. ⌜ now (buf .exit) ≡ put (now (buf .entry)) 0 (fileBlock high m 0) ⌝ }
 {
-    put_mark(buf, high);
+    let ends = [1u8, 0, 0, 1, 10, 0];
+    word::put2(buf, high, 0, 14933);
     word::put2(buf, high, 2, 1);
     word::put2(buf, high, 4, m);
     word::put2(buf, high, 6, 0);
-    put_ends(buf);
+    word::copy(buf, 8, &ends[..]);
+    word::zeros(buf, 14, 32);
 }
 
 // A sheet's area from a place on: the buffer from there on is lent.
@@ -65,7 +40,7 @@ fn put_area(buf: &mut [u8], at: usize, high: bool, t: &[u8], u: &[u8], sheet: &[
 
 // The image of a start.
 pub fn put_start(buf: &mut [u8], high: bool, slots: usize, sheet: &[u8])
-    requires { ⌜ (slots ≤ 16383) × (32 + 4 * slots ≤ length (now buf)) × Writable nul lineFeed (now sheet) (length (now buf) - (32 + 4 * slots)) ⌝ }
+    requires { ⌜ (slots ≤ slotsMost) × (32 + 4 * slots ≤ length (now buf)) × Writable nul lineFeed (now sheet) (length (now buf) - (32 + 4 * slots)) ⌝ }
     ensures { λ _. ⌜ now (buf .exit) ≡ put (now (buf .entry)) 0 (startImage high slots (now (sheet .entry))) ⌝ }
 {
     let m = 4 * slots;
@@ -91,11 +66,31 @@ fn put_block(part: &mut [u8], high: bool, b: u16, d: u32, s: u32, code: u8)
     word::zeros(part, 13, 32);
 }
 
-// The samples' bytes under codes 1 to 3.
-fn integers_into(part: &mut [u8], high: bool, code: u8, row: &[i32])
-    requires { ⌜ (room code (length (now row)) ≤ length (now part)) × (integersAsked code (length (now row)) ≡ true) × (unfitIntegers code (now row) ≡ Fit.All) ⌝ }
-    ensures { λ _. ⌜ now (part .exit) ≡ put (now (part .entry)) 0 (integersData code high (now (row .entry))) ⌝ }
+// All of a trace before its samples, the block and the strings, into the free end of a buffer, which is lent from the trace's first byte on.
+pub fn put_head(
+    part: &mut [u8],
+    high: bool,
+    t: &[u8],
+    u: &[u8],
+    sheet: &[u8],
+    size: usize,
+    code: u8,
+    s: u32,
+)
+    requires { ⌜ (32 + size ≤ length (now part)) × (measuredOf (now t) (now u) (now sheet) ≡ Measured.Size size) × (room code s < 4294967296) ⌝ }
+    ensures { λ _. ⌜ now (part .exit) ≡ put (now (part .entry)) 0 (headBytes high (now (t .entry)) (now (u .entry)) (now (sheet .entry)) code s) ⌝ }
 {
+    let d = sample::room(code, s) as u32;
+    put_block(part, high, (32 + size) as u16, d, s, code);
+    put_area(part, 32, high, t, u, sheet);
+}
+
+// The samples' bytes under codes 1 to 3: the buffer from their place on is lent to the code's encoder.
+pub fn put_integers(buf: &mut [u8], at: usize, high: bool, code: u32, row: &[i32])
+    requires { ⌜ (at + room code (length (now row)) ≤ length (now buf)) × Held code (integers (now row)) ⌝ }
+    ensures { λ _. ⌜ now (buf .exit) ≡ put (now (buf .entry)) at (samplesData code high (integers (now (row .entry)))) ⌝ }
+{
+    let part = &mut buf[at..];
     match code {
         1 => encode::write1(row, high, part),
         2 => encode::write2(row, high, part),
@@ -104,84 +99,13 @@ fn integers_into(part: &mut [u8], high: bool, code: u8, row: &[i32])
 }
 
 // The samples' bytes under codes 4 and 5.
-fn bits_into(part: &mut [u8], high: bool, code: u8, row: &[u64])
-    requires { ⌜ (room code (length (now row)) ≤ length (now part)) × (bitsAsked code ≡ true) ⌝ }
-    ensures { λ _. ⌜ now (part .exit) ≡ put (now (part .entry)) 0 (bitsData code high (now (row .entry))) ⌝ }
+pub fn put_bits(buf: &mut [u8], at: usize, high: bool, code: u32, row: &[u64])
+    requires { ⌜ (at + room code (length (now row)) ≤ length (now buf)) × Held code (patterns (now row)) ⌝ }
+    ensures { λ _. ⌜ now (buf .exit) ≡ put (now (buf .entry)) at (samplesData code high (patterns (now (row .entry)))) ⌝ }
 {
+    let part = &mut buf[at..];
     match code {
         4 => encode::write4(row, high, part),
         _ => encode::write5(row, high, part),
     }
-}
-
-// The block and the strings of a trace.
-fn put_head(
-    part: &mut [u8],
-    high: bool,
-    t: &[u8],
-    u: &[u8],
-    sheet: &[u8],
-    size: usize,
-    d: u32,
-    s: u32,
-    code: u8,
-)
-    requires { ⌜ (32 + size ≤ length (now part)) × (measuredOf (now t) (now u) (now sheet) ≡ Measured.Size size) ⌝ }
-    ensures { λ _. ⌜ now (part .exit) ≡ put (now (part .entry)) 0 (traceBlock high (32 + size) d s code ++ areaOf high (now (t .entry)) (now (u .entry)) (now (sheet .entry))) ⌝ }
-{
-    put_block(part, high, (32 + size) as u16, d, s, code);
-    put_area(part, 32, high, t, u, sheet);
-}
-
-fn put_integers(part: &mut [u8], at: usize, high: bool, code: u8, row: &[i32])
-    requires { ⌜ (at + room code (length (now row)) ≤ length (now part)) × (integersAsked code (length (now row)) ≡ true) × (unfitIntegers code (now row) ≡ Fit.All) ⌝ }
-    ensures { λ _. ⌜ now (part .exit) ≡ put (now (part .entry)) at (integersData code high (now (row .entry))) ⌝ }
-{
-    integers_into(&mut part[at..], high, code, row);
-}
-
-fn put_bits(part: &mut [u8], at: usize, high: bool, code: u8, row: &[u64])
-    requires { ⌜ (at + room code (length (now row)) ≤ length (now part)) × (bitsAsked code ≡ true) ⌝ }
-    ensures { λ _. ⌜ now (part .exit) ≡ put (now (part .entry)) at (bitsData code high (now (row .entry))) ⌝ }
-{
-    bits_into(&mut part[at..], high, code, row);
-}
-
-// A whole trace into the free end of a buffer, which is lent from the trace's first byte on.
-pub fn trace_integers(
-    part: &mut [u8],
-    high: bool,
-    t: &[u8],
-    u: &[u8],
-    sheet: &[u8],
-    size: usize,
-    code: u8,
-    row: &[i32],
-)
-    requires { ⌜ Ready (now t) (now u) (now sheet) size code (integers (now row)) (length (now part)) ⌝ }
-    ensures { λ _. ⌜ now (part .exit) ≡ put (now (part .entry)) 0 (traceBytes high (now (t .entry)) (now (u .entry)) (integersTrace (now (sheet .entry)) code (now (row .entry)))) ⌝ }
-{
-    let s = row.len() as u32;
-    let d = sample::room(code, s) as u32;
-    put_head(part, high, t, u, sheet, size, d, s, code);
-    put_integers(part, 32 + size, high, code, row);
-}
-
-pub fn trace_bits(
-    part: &mut [u8],
-    high: bool,
-    t: &[u8],
-    u: &[u8],
-    sheet: &[u8],
-    size: usize,
-    code: u8,
-    row: &[u64],
-)
-    requires { ⌜ Ready (now t) (now u) (now sheet) size code (patterns (now row)) (length (now part)) ⌝ }
-    ensures { λ _. ⌜ now (part .exit) ≡ put (now (part .entry)) 0 (traceBytes high (now (t .entry)) (now (u .entry)) (patternsTrace (now (sheet .entry)) code (now (row .entry)))) ⌝ }
-{
-    let s = row.len() as u32;
-    let d = sample::room(code, s) as u32;
-    put_head(part, high, t, u, sheet, size, d, s, code);
-    put_bits(part, 32 + size, high, code, row);
 }

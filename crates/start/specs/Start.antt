@@ -11,12 +11,13 @@ use Rattle.refusal.specs.declared.Rule.the-variants.{NoRoom, StartValues}
 use Rattle.refusal.specs.declared.Part.the-variants.{File}
 use Rattle.refusal.specs.Table.{refusal}
 use Rattle.refusal.specs.Rows.{pick}
+use Rattle.head.specs.Head.{maximum}
 use Rattle.sheet.specs.declared.Measured.{Measured}
 use Rattle.sheet.specs.declared.Measured.the-variants as measured
 use Rattle.sheet.specs.Area.{measuredOf}
 use Rattle.start.specs.declared.Written.{Written}
 use Rattle.start.specs.declared.Written.the-variants.{To, Refused}
-use Rattle.layout.specs.Layout.{nul, lineFeed, startImage, startSize}
+use Rattle.layout.specs.Layout.{nul, lineFeed, slotsMost, startImage, startSize}
 
 -- a row from 24 on: part -1
 abbrev pub refuse : Rule → ℕ → Written
@@ -24,7 +25,7 @@ refuse r at = Refused (refusal r File at)
 
 -- 30 "new length over the buffer or the maximum", else the new length
 abbrev pub within : ℕ → ℕ → Written
-within size end = pick (ltb size end || ltb 67108864 end) (refuse NoRoom 0) (To end)
+within size end = pick (ltb size end || ltb maximum end) (refuse NoRoom 0) (To end)
 
 -- a sheet's refusal, 25 to 27, else what comes behind it
 abbrev pub onMeasured : Measured → Written → Written
@@ -34,7 +35,7 @@ onMeasured (measured.Refused r) more = Refused r
 -- ---- starting: 31 "slots outside 1 to 16,383 or order not 0 or 1 (place 0), 25, 26, 27, 30"
 
 abbrev pub badStart : ℕ → ℕ → Bool
-badStart order slots = ltb 1 order || (ltb slots 1 || ltb 16383 slots)
+badStart order slots = ltb 1 order || (ltb slots 1 || ltb slotsMost slots)
 
 unfoldable pub startAnswer : List ℕ → ℕ → ℕ → List ℕ → Written
 startAnswer xs order slots sheet =

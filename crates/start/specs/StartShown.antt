@@ -16,13 +16,14 @@ use Rattle.refusal.specs.declared.Rule.the-variants.{NoRoom, StartValues}
 use Rattle.refusal.specs.declared.Part.the-variants.{File}
 use Rattle.refusal.specs.Table.{refusal}
 use Rattle.refusal.specs.Rows.{pick}
+use Rattle.head.specs.Head.{maximum}
 use Rattle.sheet.specs.declared.Measured.{Measured}
 use Rattle.sheet.specs.declared.Measured.the-variants as measured
 use Rattle.sheet.specs.Area.{areaSize, measuredOf}
 use Rattle.area.specs.Spelling.{measured-size}
 use Rattle.start.specs.declared.Written.{Written}
 use Rattle.start.specs.declared.Written.the-variants.{To, Refused}
-use Rattle.layout.specs.Layout.{nul, lineFeed, startImage, startSize}
+use Rattle.layout.specs.Layout.{nul, lineFeed, slotsMost, startImage, startSize}
 use Rattle.start.specs.Start.{within, onMeasured, badStart, startAnswer, startLeft}
 
 -- ---- from an answer back through the rows
@@ -39,18 +40,18 @@ from-row true r more end e = absurd (not-refused r end e)
 from-row false r more end e = (refl, e)
 
 -- 30: the new length is the answer, and within the buffer and the maximum
-pub from-within : (size new end : ℕ) → within size new ≡ To end → (new ≡ end) × (end ≤ size) × (end ≤ 67108864)
+pub from-within : (size new end : ℕ) → within size new ≡ To end → (new ≡ end) × (end ≤ size) × (end ≤ maximum)
 from-within size new end e =
-    let a = from-row (ltb size new || ltb 67108864 new) (refusal NoRoom File 0) (To new) end e in
-    let b = neither (ltb size new) (ltb 67108864 new) (a .0) in
+    let a = from-row (ltb size new || ltb maximum new) (refusal NoRoom File 0) (To new) end e in
+    let b = neither (ltb size new) (ltb maximum new) (a .0) in
     let c = ltb-false size new (b .0) in
-    let d = ltb-false 67108864 new (b .1) in
+    let d = ltb-false maximum new (b .1) in
     let q = a .1 in
     let s : new ≡ end = cc in
     (s, omega arith, omega arith)
 
-pub to-within : (size new end : ℕ) → new ≡ end → end ≤ size → end ≤ 67108864 → within size new ≡ To end
-to-within size new end e l m = rw (e, join-neither (ltb size end) (ltb 67108864 end) (le-ltb size end l) (le-ltb 67108864 end m))
+pub to-within : (size new end : ℕ) → new ≡ end → end ≤ size → end ≤ maximum → within size new ≡ To end
+to-within size new end e l m = rw (e, join-neither (ltb size end) (ltb maximum end) (le-ltb size end l) (le-ltb maximum end m))
 
 -- a size that is answered is the area's
 pub as-area : (t u s : List ℕ) (b : ℕ) → measuredOf t u s ≡ measured.Size b → measuredOf t u s ≡ measured.Size (areaSize t u s)
@@ -61,11 +62,11 @@ as-area t u s b e = e ∙ ap measured.Size (sym (measured-size t u s b e .1))
 pub record Started (xs : List ℕ) (order slots : ℕ) (sheet : List ℕ) (end : ℕ) : Type 0 where
   pub either : order ≤ 1
   pub some : 1 ≤ slots
-  pub few : slots ≤ 16383
+  pub few : slots ≤ slotsMost
   pub sized : measuredOf nul lineFeed sheet ≡ measured.Size (areaSize nul lineFeed sheet)
   pub new : startSize slots sheet ≡ end
   pub in-buffer : end ≤ length xs
-  pub in-maximum : end ≤ 67108864
+  pub in-maximum : end ≤ maximum
 
 pub started : (xs : List ℕ) (order slots : ℕ) (sheet : List ℕ) (end : ℕ) → startAnswer xs order slots sheet ≡ To end → Started xs order slots sheet end
 unfolding startAnswer
@@ -73,12 +74,12 @@ started xs order slots sheet end e =
     let a = from-row (badStart order slots) (refusal StartValues File 0) _ end e in
     let b = from-measured (measuredOf nul lineFeed sheet) (within (length xs) (startSize slots sheet)) end (a .1) in
     let c = from-within (length xs) (startSize slots sheet) end (b .2) in
-    let d = neither (ltb 1 order) (ltb slots 1 || ltb 16383 slots) (a .0) in
-    let g = neither (ltb slots 1) (ltb 16383 slots) (d .1) in
+    let d = neither (ltb 1 order) (ltb slots 1 || ltb slotsMost slots) (a .0) in
+    let g = neither (ltb slots 1) (ltb slotsMost slots) (d .1) in
     record {
       either = ltb-false 1 order (d .0);
       some = ltb-false slots 1 (g .0);
-      few = ltb-false 16383 slots (g .1);
+      few = ltb-false slotsMost slots (g .1);
       sized = as-area nul lineFeed sheet (b .0) (b .1);
       new = c .0;
       in-buffer = c .1;
@@ -88,7 +89,7 @@ started xs order slots sheet end e =
 pub starts : (xs : List ℕ) (order slots : ℕ) (sheet : List ℕ) (end : ℕ) → Started xs order slots sheet end → startAnswer xs order slots sheet ≡ To end
 unfolding startAnswer
 starts xs order slots sheet end h =
-    rw (le-ltb 1 order (h .either), le-ltb slots 1 (h .some), le-ltb 16383 slots (h .few), h .sized)
+    rw (le-ltb 1 order (h .either), le-ltb slots 1 (h .some), le-ltb slotsMost slots (h .few), h .sized)
     (to-within (length xs) (startSize slots sheet) end (h .new) (h .in-buffer) (h .in-maximum))
 
 pub start-left : (xs : List ℕ) (order slots : ℕ) (sheet : List ℕ) (end : ℕ) → startAnswer xs order slots sheet ≡ To end

@@ -13,12 +13,13 @@ use Rattle.word.specs.Put.{put}
 use Rattle.refusal.specs.declared.Refusal.{Refusal}
 use Rattle.refusal.specs.declared.Rule.the-variants.{NoRoom, StartValues}
 use Rattle.sample.specs.Needed.{room}
+use Rattle.head.specs.Head.{maximum}
 use Rattle.sheet.specs.declared.Measured.the-variants as measured
 use Rattle.sheet.specs.Area.{areaSize, measuredOf}
 use Rattle.area.specs.Spelling.{measured-size}
 use Rattle.start.specs.declared.Written.{Written}
 use Rattle.start.specs.declared.Written.the-variants.{To, Refused}
-use Rattle.layout.specs.Layout.{nul, lineFeed, startImage, startSize}
+use Rattle.layout.specs.Layout.{nul, lineFeed, slotsMost, startImage, startSize}
 use Rattle.start.specs.Start.{refuse, within, onWritten, badStart, startAnswer, startLeft}
 
 module _ (xs : List ℕ) (order slots : ℕ) (sheet : List ℕ) where
@@ -47,14 +48,14 @@ start-full slots sheet size room m h =
     let a : areaSize nul lineFeed sheet ≡ size = measured-size nul lineFeed sheet size m .1 in
     rw (a, lt-ltb room (32 + 4 * slots + size) h)
 
-pub start-fits : (slots : ℕ) (sheet : List ℕ) (size room : ℕ) → slots ≤ 16383 → measuredOf nul lineFeed sheet ≡ measured.Size size
+pub start-fits : (slots : ℕ) (sheet : List ℕ) (size room : ℕ) → slots ≤ slotsMost → measuredOf nul lineFeed sheet ≡ measured.Size size
     → 32 + 4 * slots + size ≤ room → To (32 + 4 * slots + size) ≡ within room (startSize slots sheet)
 unfolding startSize
 start-fits slots sheet size room few m h =
     let b = measured-size nul lineFeed sheet size m in
     let a : areaSize nul lineFeed sheet ≡ size = b .1 in
     let k : size ≤ 65500 = b .2 in
-    rw (a, le-ltb room (32 + 4 * slots + size) h, le-ltb 67108864 (32 + 4 * slots + size) (omega arith))
+    rw (a, le-ltb room (32 + 4 * slots + size) h, le-ltb maximum (32 + 4 * slots + size) (omega arith))
 
-pub start-slots : (order slots : ℕ) → badStart order slots ≡ false → slots ≤ 16383
-start-slots order slots h = at-most slots 1 16383 (neither (ltb 1 order) (ltb slots 1 || ltb 16383 slots) h .1)
+pub start-slots : (order slots : ℕ) → badStart order slots ≡ false → slots ≤ slotsMost
+start-slots order slots h = at-most slots 1 slotsMost (neither (ltb 1 order) (ltb slots 1 || ltb slotsMost slots) h .1)

@@ -1,7 +1,6 @@
 // Starting a file (document 01, "What we write" and rows 25 to 27, 30 and 31). Every refusal is found before the first byte is written.
-// Start has the definitions, StartShown the second view: a file is started exactly where no row is met. Stands on `layout`, `sheet`.
+// Start has the definitions, StartShown the second view: a file is started exactly where no row is met. Stands on `layout`, `head`, `sheet`.
 // The rules in words: docs/FORMAT.md, "What we write".
-use refusal::Part;
 use refusal::Refusal;
 use refusal::Rule;
 use sheet::Measured;
@@ -10,7 +9,7 @@ ghost use Prim.Native.Nat.{_≤_};
 ghost use lib.ListN.{length};
 ghost use Rattle.word.specs.Put.{put};
 ghost use Rattle.sheet.specs.Area.{measuredOf};
-ghost use Rattle.layout.specs.Layout.{nul, lineFeed, startImage, startSize};
+ghost use Rattle.layout.specs.Layout.{nul, lineFeed, slotsMost, startImage, startSize};
 ghost use Rattle.start.specs.Start.{refuse, within, onWritten, badStart, startAnswer, startLeft};
 
 // The image's length after a start or an addition, or the refusal, which has changed nothing.
@@ -23,11 +22,7 @@ pub enum Written {
 pub fn refusing(rule: Rule, place: usize) -> Written
     ensures { λ r. ⌜ r ≡ refuse rule place ⌝ }
 {
-    Written::Refused(Refusal {
-        rule,
-        part: Part::File,
-        place,
-    })
+    Written::Refused(refusal::of_file(rule, place))
 }
 
 // ---- starting a file
@@ -35,12 +30,12 @@ pub fn refusing(rule: Rule, place: usize) -> Written
 fn is_bad_start(order: usize, slots: usize) -> bool
     ensures { λ r. ⌜ r ≡ badStart order slots ⌝ }
 {
-    (1 < order) | ((slots < 1) | (16383 < slots))
+    (1 < order) | ((slots < 1) | (layout::SLOTS < slots))
 }
 
 // Row 30, and the image where it is not met.
 fn start_sized(buffer: &mut [u8], high: bool, slots: usize, sheet: &[u8], size: usize) -> Written
-    requires { ⌜ (slots ≤ 16383) × (measuredOf nul lineFeed (now sheet) ≡ Measured.Size size) ⌝ }
+    requires { ⌜ (slots ≤ slotsMost) × (measuredOf nul lineFeed (now sheet) ≡ Measured.Size size) ⌝ }
     ensures answer { λ r. ⌜ r ≡ within (length (now (buffer .entry))) (startSize slots (now (sheet .entry))) ⌝ }
     ensures left { λ r. ⌜ now (buffer .exit) ≡ onWritten r (put (now (buffer .entry)) 0 (startImage high slots (now (sheet .entry)))) (now (buffer .entry)) ⌝ }
 {

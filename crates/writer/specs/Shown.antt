@@ -24,7 +24,7 @@ use Rattle.encode.specs.declared.Fit.the-variants.{All, At}
 use Rattle.sheet.specs.declared.Measured.{Measured}
 use Rattle.sheet.specs.declared.Measured.the-variants as measured
 use Rattle.sheet.specs.Area.{areaSize, measuredOf}
-use Rattle.head.specs.Head.{highFirst, roomOf, countOf, stringEnd, lineEnd, refused}
+use Rattle.head.specs.Head.{maximum, highFirst, roomOf, countOf, stringEnd, lineEnd, refused}
 use Rattle.head.specs.HeadLaws.{Headed}
 use Rattle.text.specs.declared.Manner.the-variants.{Strict}
 use Rattle.head.specs.declared.Purpose.the-variants.{Grow}
@@ -73,19 +73,19 @@ room-small f by = word-small 2 (highFirst f) f 4 by
 
 -- row 1 and rows 2 to 7
 pub placed : (purpose : Purpose) (xs : List ℕ) (n : ℕ) → checkOf Strict purpose xs n ≡ verdict.Accepted
-    → ((32 ≤ n) × (n ≤ 67108864) × (n ≤ length xs)) × Headed purpose (take n xs)
+    → ((32 ≤ n) × (n ≤ maximum) × (n ≤ length xs)) × Headed purpose (take n xs)
 unfolding checkOf
 placed purpose xs n e = go (badLength (length xs) n) refl e
   where
     go : (w : Bool) → badLength (length xs) n ≡ w → pick w (refused Length 0) (imageOf Strict purpose (take n xs)) ≡ verdict.Accepted
-        → ((32 ≤ n) × (n ≤ 67108864) × (n ≤ length xs)) × Headed purpose (take n xs)
+        → ((32 ≤ n) × (n ≤ maximum) × (n ≤ length xs)) × Headed purpose (take n xs)
     go true q h = absurd (refused-not _ h)
     go false q h = (long-enough (length xs) n q, image-headed Strict purpose (take n xs) h)
 
 -- rows 1 to 17 and 24 to 27
 pub record Opened (xs : List ℕ) (n : ℕ) (sheet : List ℕ) (size : ℕ) : Type 0 where
   pub accepted : checkOf Strict Grow xs n ≡ verdict.Accepted
-  pub most : n ≤ 67108864
+  pub most : n ≤ maximum
   pub slot : 4 * countOf (take n xs) + 4 ≤ roomOf (take n xs)
   pub measured : measuredOf (stringEnd (take n xs)) (lineEnd (take n xs)) sheet ≡ measured.Size size
 
@@ -115,7 +115,7 @@ pub record Added (xs : List ℕ) (n : ℕ) (x : Trace) (end : ℕ) : Type 0 wher
   pub held : unfit (x .code) (x .samples) ≡ All
   pub new : newLength (take n xs) n x ≡ end
   pub in-buffer : end ≤ length xs
-  pub in-maximum : end ≤ 67108864
+  pub in-maximum : end ≤ maximum
 
 pub added : (xs : List ℕ) (n : ℕ) (x : Trace) (end : ℕ) → addAnswer xs n x ≡ To end → Added xs n x end
 unfolding addAnswer

@@ -3,8 +3,6 @@
 // The rules in words: docs/FORMAT.md, "What we write".
 use encode::Fit;
 use head::Purpose;
-use refusal::Part;
-use refusal::Refusal;
 use refusal::Rule;
 use refusal::Verdict;
 use sheet::Measured;
@@ -12,12 +10,16 @@ use start::Written;
 use text::Manner;
 ghost use mathlib.Core.Path.{_≡_};
 ghost use Prim.Native.Nat.{_+_, _≤_};
-ghost use lib.ListN.{length};
 ghost use Rattle.word.specs.Round.{round4};
+ghost use Rattle.refusal.specs.Verdicts.{asked};
 ghost use Rattle.sample.specs.Needed.{room};
+ghost use Rattle.decode.specs.Sample.{integersAsked, bitsAsked};
+ghost use Rattle.head.specs.Head.{maximum};
 ghost use Rattle.layout.specs.Layout.{integers, patterns, integersTrace, patternsTrace};
-ghost use Rattle.refusal.specs.Table.{refusal};
+ghost use Rattle.layout.specs.LayoutLaws.{Kinded};
+ghost use Rattle.start.specs.Start.{within};
 ghost use Rattle.writer.specs.Answers.{areaAnswer, onFit, samplesVerdict, addAnswer, addLeft};
+ghost use Rattle.writer.specs.Writes.{rowsAnswer};
 
 // ---- adding a trace
 
@@ -32,24 +34,12 @@ fn opened(buffer: &[u8], n: usize, sheet: &[u8]) -> Measured
     let f = &buffer[..n];
     let b = head::file_block(f);
     if b.m < 4 * b.n + 4 {
-        return Measured::Refused(Refusal {
-            rule: Rule::NoSlot,
-            part: Part::File,
-            place: 0,
-        });
+        return Measured::Refused(refusal::of_file(Rule::NoSlot, 0));
     }
     sheet::measure(sheet, head::string_end(f), head::line_end(f))
 }
 
-fn wrong(rule: Rule, place: usize) -> Verdict
-    ensures { λ r. ⌜ r ≡ Verdict.Refused (refusal rule Part.File place) ⌝ }
-{
-    Verdict::Refused(Refusal {
-        rule,
-        part: Part::File,
-        place,
-    })
-}
+// ---- rows 28 and 29, by the kind of the samples
 
 // Row 29: the first sample that its code cannot hold.
 fn fitted(fit: Fit) -> Verdict
@@ -57,107 +47,88 @@ fn fitted(fit: Fit) -> Verdict
 {
     match fit {
         Fit::All => Verdict::Accepted,
-        Fit::At(i) => wrong(Rule::SampleRange, i),
+        Fit::At(i) => head::refusing(Rule::SampleRange, i),
     }
 }
 
-// Rows 28 and 29 of integers.
+fn is_of_integers(code: u32, count: usize) -> bool
+    ensures { λ r. ⌜ r ≡ integersAsked code count ⌝ }
+{
+    ((code == 1) | (code == 2)) | ((code == 3) & (count % 4 == 0))
+}
+
+fn is_of_bits(code: u32) -> bool
+    ensures { λ r. ⌜ r ≡ bitsAsked code ⌝ }
+{
+    (code == 4) | (code == 5)
+}
+
 fn integers_fit(code: u32, row: &[i32]) -> Verdict
     ensures { λ r. ⌜ r ≡ samplesVerdict code (integers (now (row .entry))) ⌝ }
 {
-    if (code < 1) | (3 < code) {
-        return wrong(Rule::EntryCode, 0);
+    if is_of_integers(code, row.len()) {
+        return fitted(encode::unfit_integers(code as u8, row));
     }
-    if (code == 3) & (row.len() % 4 != 0) {
-        return wrong(Rule::EntryCode, 0);
-    }
-    fitted(encode::unfit_integers(code as u8, row))
+    head::refusing(Rule::EntryCode, 0)
 }
 
-// Rows 28 and 29 of bit patterns.
 fn bits_fit(code: u32, row: &[u64]) -> Verdict
     ensures { λ r. ⌜ r ≡ samplesVerdict code (patterns (now (row .entry))) ⌝ }
 {
-    if (code < 4) | (5 < code) {
-        return wrong(Rule::EntryCode, 0);
+    if is_of_bits(code) {
+        return fitted(encode::unfit_bits(code as u8, row));
     }
-    fitted(encode::unfit_bits(code as u8, row))
+    head::refusing(Rule::EntryCode, 0)
 }
 
-// Where the data of a trace behind so many bytes ends.
-fn end_of(n: usize, size: usize, code: u8, count: u32) -> usize
-    requires { ⌜ (n ≤ 67108864) × (size ≤ 65500) ⌝ }
-    ensures { λ r. ⌜ r ≡ round4 n + (32 + size + room code count) ⌝ }
-{
-    word::round_up(n) + (32 + size + sample::room(code, count))
-}
+// ---- every row in its order; `fit` is what rows 28 and 29 say of the samples
 
-// Rows 28 to 30, and the trace where none is met.
-fn integers_behind(
-    buffer: &mut [u8],
-    n: usize,
-    sheet: &[u8],
-    size: usize,
-    code: u32,
-    row: &[i32],
-) -> Written
-    requires { ⌜ areaAnswer (now buffer) n (now sheet) ≡ Measured.Size size ⌝ }
-    ensures answer { λ r. ⌜ r ≡ addAnswer (now (buffer .entry)) n (integersTrace (now (sheet .entry)) code (now (row .entry))) ⌝ }
-    ensures left { λ _. ⌜ now (buffer .exit) ≡ addLeft (now (buffer .entry)) n (integersTrace (now (sheet .entry)) code (now (row .entry))) ⌝ }
+// Rows 28 to 30 where the sheet's area has `size` bytes. A count over the maximum is over it in bytes too, and is asked first: a count in a file has
+// 32 bits.
+fn ended(len: usize, n: usize, size: usize, code: u32, count: usize, fit: Verdict) -> Written
+    requires { ⌜ (n ≤ maximum) × (size ≤ 65500) × (fit ≡ Verdict.Accepted → Kinded code count) ⌝ }
+    ensures { λ r. ⌜ r ≡ asked Written.Refused fit (within len (round4 n + (32 + size + room code count))) ⌝ }
 {
-    let v = integers_fit(code, row);
-    if let Verdict::Refused(r) = v {
+    if let Verdict::Refused(r) = fit {
         return Written::Refused(r);
     }
-    if 67108864 < row.len() {
+    if head::MAXIMUM < count {
         return start::refusing(Rule::NoRoom, 0);
     }
-    let c = code as u8;
-    let end = end_of(n, size, c, row.len() as u32);
-    if (buffer.len() < end) | (67108864 < end) {
+    let end = word::round_up(n) + (32 + size + sample::room(code as u8, count as u32));
+    if (len < end) | (head::MAXIMUM < end) {
         return start::refusing(Rule::NoRoom, 0);
     }
-    append::grow_integers(buffer, n, sheet, size, c, row);
     Written::To(end)
 }
 
-fn bits_behind(
-    buffer: &mut [u8],
-    n: usize,
-    sheet: &[u8],
-    size: usize,
-    code: u32,
-    row: &[u64],
-) -> Written
-    requires { ⌜ areaAnswer (now buffer) n (now sheet) ≡ Measured.Size size ⌝ }
-    ensures answer { λ r. ⌜ r ≡ addAnswer (now (buffer .entry)) n (patternsTrace (now (sheet .entry)) code (now (row .entry))) ⌝ }
-    ensures left { λ _. ⌜ now (buffer .exit) ≡ addLeft (now (buffer .entry)) n (patternsTrace (now (sheet .entry)) code (now (row .entry))) ⌝ }
+// The new length, or the first row that is met.
+fn answered(buffer: &[u8], n: usize, sheet: &[u8], code: u32, count: usize, fit: Verdict) -> Written
+    requires { ⌜ (fit ≡ Verdict.Accepted → Kinded code count) ⌝ }
+    ensures { λ r. ⌜ r ≡ rowsAnswer (now (buffer .entry)) n (now (sheet .entry)) code count fit ⌝ }
 {
-    let v = bits_fit(code, row);
-    if let Verdict::Refused(r) = v {
-        return Written::Refused(r);
+    let o = opened(buffer, n, sheet);
+    match o {
+        Measured::Refused(r) => Written::Refused(r),
+        Measured::Size(size) => ended(buffer.len(), n, size, code, count, fit),
     }
-    if 67108864 < row.len() {
-        return start::refusing(Rule::NoRoom, 0);
-    }
-    let c = code as u8;
-    let end = end_of(n, size, c, row.len() as u32);
-    if (buffer.len() < end) | (67108864 < end) {
-        return start::refusing(Rule::NoRoom, 0);
-    }
-    append::grow_bits(buffer, n, sheet, size, c, row);
-    Written::To(end)
 }
+
+// ---- adding
 
 // A trace of integers (codes 1 to 3) behind the image that the buffer's first `n` bytes are: a file, or a start's image without traces.
 pub fn add_integers(buffer: &mut [u8], n: usize, sheet: &[u8], code: u32, row: &[i32]) -> Written
     ensures answer { λ r. ⌜ r ≡ addAnswer (now (buffer .entry)) n (integersTrace (now (sheet .entry)) code (now (row .entry))) ⌝ }
     ensures left { λ _. ⌜ now (buffer .exit) ≡ addLeft (now (buffer .entry)) n (integersTrace (now (sheet .entry)) code (now (row .entry))) ⌝ }
 {
-    let o = opened(&buffer[..], n, sheet);
-    match o {
-        Measured::Refused(r) => Written::Refused(r),
-        Measured::Size(size) => integers_behind(buffer, n, sheet, size, code, row),
+    let fit = integers_fit(code, row);
+    let w = answered(&buffer[..], n, sheet, code, row.len(), fit);
+    match w {
+        Written::Refused(r) => Written::Refused(r),
+        Written::To(end) => {
+            append::grow_integers(buffer, n, sheet, end, code, row);
+            Written::To(end)
+        }
     }
 }
 
@@ -166,9 +137,13 @@ pub fn add_bits(buffer: &mut [u8], n: usize, sheet: &[u8], code: u32, row: &[u64
     ensures answer { λ r. ⌜ r ≡ addAnswer (now (buffer .entry)) n (patternsTrace (now (sheet .entry)) code (now (row .entry))) ⌝ }
     ensures left { λ _. ⌜ now (buffer .exit) ≡ addLeft (now (buffer .entry)) n (patternsTrace (now (sheet .entry)) code (now (row .entry))) ⌝ }
 {
-    let o = opened(&buffer[..], n, sheet);
-    match o {
-        Measured::Refused(r) => Written::Refused(r),
-        Measured::Size(size) => bits_behind(buffer, n, sheet, size, code, row),
+    let fit = bits_fit(code, row);
+    let w = answered(&buffer[..], n, sheet, code, row.len(), fit);
+    match w {
+        Written::Refused(r) => Written::Refused(r),
+        Written::To(end) => {
+            append::grow_bits(buffer, n, sheet, end, code, row);
+            Written::To(end)
+        }
     }
 }

@@ -16,4 +16,4 @@ put-block-spec =
     (λ c κs. search needs)
     (λ c κs. search needs)
     (λ c. search needs)
-    (λ c. rw (c .before .before .zeros .ensures, c .before .before .before .before .before .before .copy .ensures, c .before .before .before .before .before .before .before .before .before .before .before .put42 .ensures, c .before .before .before .before .before .before .before .before .before .before .before .before .before .before .before .put4 .ensures, c .before .before .before .before .before .before .before .before .before .before .before .before .before .before .before .before .before .before .before .put22 .ensures, c .before .before .before .before .before .before .before .before .before .before .before .before .before .before .before .before .before .before .before .before .before .before .before .put2 .ensures) (block-put _ _ _ _ _ _)))
+    (λ c. rw (← block-put _ _ _ _ _ _) cc))

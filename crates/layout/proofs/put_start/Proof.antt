@@ -16,6 +16,10 @@ put-start-spec =
     (λ c κs. search needs)
     (λ c. search needs)
     (λ c. search needs)
-    (λ c κs. rw (c .before .before .before .before .before .zeros .ensures, length-put, c .before .before .before .before .before .before .before .before .before .put-file-block .ensures, length-put) (c .before .before .before .before .before .before .before .before .before .before .before .before .before .pre .1, c .before .before .before .before .before .before .before .before .before .before .before .before .before .pre .2))
+    (λ c κs.
+    let at-zeros = c .before .before .before .before .before in
+    let at-put-file-block = at-zeros .before .before .before .before in
+    let start = at-put-file-block .before .before .before .before in
+    rw (at-zeros .zeros .ensures, length-put, at-put-file-block .put-file-block .ensures, length-put) (start .pre .1, start .pre .2))
     (λ c. search needs)
-    (λ c. rw (c .before .before .put-area .ensures, c .before .before .before .before .before .before .before .before .zeros .ensures, c .before .before .before .before .before .before .before .before .before .before .before .before .put-file-block .ensures) (start-put _ _ _ _)))
+    (λ c. rw (← start-put _ _ _ _) cc))

@@ -1,19 +1,28 @@
--- `writer::bits_fit` meets its contract. The tests are those of row 28. Assumes nothing.
-use mathlib.Core.Path.{_∙_}
-use Rattle.word.specs.Tests.{at-most}
-use Rattle.writer.specs.Writes.{bits-code, bits-judged}
-use borrow.Author.Needs.{needs}
+-- `writer::bits_fit` meets its contract. Row 28, then what row 29 says. Assumes nothing.
 use native.Mathlib.Omega.{arith}
+use Rattle.layout.specs.Layout.{patterns, fitting, unfit}
+use Rattle.writer.specs.Writes.{of-other, of-kind, code-most}
+use borrow.Author.Needs.{needs}
 use Rattle.writer.proofs.bits_fit.Statement.{statement}
 use Rattle.writer.proofs.bits_fit.Tie as tie
 
 pub bits-fit-spec : {M : Type 1} → statement M
+unfolding fitting unfit
 bits-fit-spec =
     tie.close
     (tie.spec
     (λ c κs. search needs)
-    (λ c. c .wrong .ensures ∙ bits-code _ _ (c .before .if1 .taken))
-    (λ c. omega (arith, at-most (c .before .before .args .code) 4 5 (c .if1 .left)))
+    (λ c.
+    let at-is-of-bits = c .before in
+    let start = at-is-of-bits .before .before in
+    let args = start .args in
+    omega (arith, code-most (args .code) (patterns (args .row .now)) (at-is-of-bits .is-of-bits .ensures) (c .if1 .taken)))
     (λ c κs. search needs)
     (λ c κs. search needs)
-    (λ c. c .fitted .ensures ∙ rw (c .before .unfit-bits .ensures) (bits-judged _ _ (c .before .before .if1 .left))))
+    (λ c.
+    let at-unfit-bits = c .before in
+    let at-if1 = at-unfit-bits .before in
+    let at-is-of-bits = at-if1 .before in
+    of-kind _ _ (at-is-of-bits .is-of-bits .ensures) (at-if1 .if1 .taken) (at-unfit-bits .unfit-bits .ensures) (c .fitted .ensures))
+    (λ c κs. search needs)
+    (λ c. of-other _ _ (c .before .before .is-of-bits .ensures) (c .before .if1 .left) (c .refusing .ensures)))

@@ -4,11 +4,9 @@ use Rattle.writer.proofs.fitted.Statement.{statement}
 use Rattle.writer.proofs.fitted.Tie as tie
 
 pub fitted-spec : {M : Type 1} → statement M
-fitted-spec =
-    tie.close
-    (tie.spec
+fitted-spec = tie.close (tie.spec
     (λ c. search needs)
     (λ c. search needs)
     (λ c κs. search needs)
     (λ c. search needs)
-    (λ c. rw (c .before .before .fit .given .1) (c .wrong .ensures)))
+    (λ c. rw (c .before .before .fit .given .1) (c .refusing .ensures)))

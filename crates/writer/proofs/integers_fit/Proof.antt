@@ -1,21 +1,28 @@
--- `writer::integers_fit` meets its contract. The tests are those of row 28. Assumes nothing.
-use mathlib.Core.Path.{_∙_}
-use Rattle.word.specs.Tests.{at-most}
-use Rattle.writer.specs.Writes.{integers-code, integers-groups, integers-judged}
-use borrow.Author.Needs.{needs}
+-- `writer::integers_fit` meets its contract. Row 28, then what row 29 says. Assumes nothing.
 use native.Mathlib.Omega.{arith}
+use Rattle.layout.specs.Layout.{integers, fitting, unfit}
+use Rattle.writer.specs.Writes.{of-other, of-kind, code-most}
+use borrow.Author.Needs.{needs}
 use Rattle.writer.proofs.integers_fit.Statement.{statement}
 use Rattle.writer.proofs.integers_fit.Tie as tie
 
 pub integers-fit-spec : {M : Type 1} → statement M
+unfolding fitting unfit
 integers-fit-spec =
     tie.close
     (tie.spec
     (λ c κs. search needs)
-    (λ c. c .wrong .ensures ∙ integers-code _ _ (c .before .if1 .taken))
+    (λ c.
+    let at-is-of-integers = c .before in
+    let start = at-is-of-integers .before in
+    let args = start .args in
+    omega (arith, code-most (args .code) (integers (args .row .now)) (at-is-of-integers .is-of-integers .ensures) (c .if1 .taken)))
     (λ c κs. search needs)
-    (λ c. c .wrong2 .ensures ∙ integers-groups _ _ (c .before .if2 .taken))
-    (λ c. omega (arith, at-most (c .before .before .args .code) 1 3 (c .before .if1 .left)))
     (λ c κs. search needs)
+    (λ c.
+    let at-unfit-integers = c .before in
+    let at-if1 = at-unfit-integers .before in
+    let at-is-of-integers = at-if1 .before in
+    of-kind _ _ (at-is-of-integers .is-of-integers .ensures) (at-if1 .if1 .taken) (at-unfit-integers .unfit-integers .ensures) (c .fitted .ensures))
     (λ c κs. search needs)
-    (λ c. c .fitted .ensures ∙ rw (c .before .unfit-integers .ensures) (integers-judged _ _ (c .before .before .before .if1 .left) (c .before .before .if2 .left))))
+    (λ c. of-other _ _ (c .before .before .is-of-integers .ensures) (c .before .if1 .left) (c .refusing .ensures)))
