@@ -1,8 +1,8 @@
--- Written afresh: every list of good traces that has its slots and its room is written, none of its calls refused, and what is left is the file that
--- the list defines.
+-- Written afresh: every list of good traces that has its slots and its room is written, none of its calls refused, and
+-- what is left is the file that the list defines.
 -- Assumes nothing.
 use mathlib.Core.Path.{_≡_, refl, ap, _∙_}
-use mathlib.Core.Bool.{Bool, true}
+use mathlib.Core.Bool.{Bool}
 use mathlib.Core.List.{List, [], _∷_, _++_, append-assoc}
 use Prim.Native.Nat.{ℕ, _+_, _*_, _≤_, _<_}
 use native.Mathlib.Omega.{arith}
@@ -15,10 +15,10 @@ use Rattle.sheet.specs.Area.{areaSize, measuredOf}
 use Rattle.sheet.specs.declared.Measured.the-variants.{Size}
 use Rattle.refusal.specs.declared.Verdict.the-variants.{Accepted}
 use Rattle.image.specs.Image.{checkOf}
-use Rattle.head.specs.Head.{roomOf, countOf, stringEnd, lineEnd}
+use Rattle.head.specs.Head.{maximum, roomOf, countOf, stringEnd, lineEnd}
 use Rattle.start.specs.declared.Written.{Written}
 use Rattle.start.specs.declared.Written.the-variants.{To, Refused}
-use Rattle.layout.specs.Layout.{nul, lineFeed, startSize, Trace, traceSize}
+use Rattle.layout.specs.Layout.{slotsMost, nul, lineFeed, startSize, Trace, traceSize}
 use Rattle.start.specs.Start.{startAnswer, startLeft}
 use Rattle.writer.specs.Answers.{addAnswer, addLeft}
 use Rattle.afresh.specs.FileOf.{sizes, fileOf, fileSize, Measures, Good, AllGood}
@@ -26,10 +26,12 @@ use Rattle.afresh.specs.FileLaws.{length-more, good-front, good-next, fi
 use Rattle.start.specs.StartShown.{as-area, Started, started, starts}
 use Rattle.writer.specs.Shown.{Added, added, adds}
 use Rattle.afresh.specs.Step.{Holds, start-past, start-afresh, new-end, add-afresh, add-past}
-use Rattle.afresh.specs.Calls.{lengthLeft, after, answersOf, acceptedOf, answers-to, accepted-to, Grew, start-grows}
+use Rattle.afresh.specs.Calls.{lengthLeft, after, answersOf, acceptedOf, answers-to, accepted-to, Grew}
+use Rattle.afresh.specs.Calls.{start-grows}
 use Rattle.afresh.specs.Kept.{file-accepted}
 
--- "the new length is answered; it is where the new trace's D bytes end": the answers to the calls for a list, where the image ends at a place before them
+-- "the new length is answered; it is where the new trace's D bytes end": the answers to the calls for a list, where the
+-- image ends at a place before them
 unfoldable pub lengths : ℕ → List Trace → List Written
 lengths at [] = []
 lengths at (x ∷ ts) = To (at + traceSize nul lineFeed x) ∷ lengths (at + traceSize nul lineFeed x) ts
@@ -37,7 +39,7 @@ lengths at (x ∷ ts) = To (at + traceSize nul lineFeed x) ∷ lengths (at + tra
 module _ (high : Bool) (slots : ℕ) (sheet : List ℕ) (some : 1 ≤ slots) (measures : Measures sheet) where
   -- a trace that goes on a good list is added to the file of the list where there is a slot and room
   pub add-accepted : (ts : List Trace) (xs : List ℕ) (n : ℕ) (x : Trace) → Holds high slots sheet ts xs n → AllGood (ts ++ (x ∷ [])) → length ts < slots
-      → n + traceSize nul lineFeed x ≤ length xs → n + traceSize nul lineFeed x ≤ 67108864 → addAnswer xs n x ≡ To (n + traceSize nul lineFeed x)
+      → n + traceSize nul lineFeed x ≤ length xs → n + traceSize nul lineFeed x ≤ maximum → addAnswer xs n x ≡ To (n + traceSize nul lineFeed x)
   add-accepted ts xs n x is all slot fits most =
       let g : Good x = good-next ts x [] (all .0) in
       let f = file-fronted high slots sheet ts (is .few) (is .slotted) in
@@ -61,7 +63,7 @@ module _ (high : Bool) (slots : ℕ) (sheet : List ℕ) (some : 1 ≤ slots) (me
 
   -- and so is every list of them
   pub goes-on : (calls ts : List Trace) (xs : List ℕ) (n : ℕ) → Holds high slots sheet ts xs n → AllGood (ts ++ calls) → length ts + length calls ≤ slots
-      → n + sizes calls ≤ length xs → n + sizes calls ≤ 67108864 → (answersOf xs n calls ≡ lengths n calls) × (acceptedOf xs n calls ≡ calls)
+      → n + sizes calls ≤ length xs → n + sizes calls ≤ maximum → (answersOf xs n calls ≡ lengths n calls) × (acceptedOf xs n calls ≡ calls)
   unfolding answersOf acceptedOf lengths sizes
   goes-on [] ts xs n is g slotted fits most = (refl, refl)
   goes-on (x ∷ calls) ts xs n is g slotted fits most =
@@ -75,16 +77,17 @@ module _ (high : Bool) (slots : ℕ) (sheet : List ℕ) (some : 1 ≤ slots) (me
 
 -- ---- from the start
 
--- the lists that can be written into a buffer: what rows 24 to 31 ask, said of the start's inputs and of the list at once
+-- the lists that can be written into a buffer: what rows 24 to 31 ask, said of the start's inputs and of the list at
+-- once
 pub record Writable (xs : List ℕ) (order slots : ℕ) (sheet : List ℕ) (ts : List Trace) : Type 0 where
   pub either : order ≤ 1
   pub some : 1 ≤ slots
-  pub few : slots ≤ 16383
+  pub few : slots ≤ slotsMost
   pub measures : Measures sheet
   pub good : AllGood ts
   pub slotted : length ts ≤ slots
   pub fits : fileSize slots sheet ts ≤ length xs
-  pub most : fileSize slots sheet ts ≤ 67108864
+  pub most : fileSize slots sheet ts ≤ maximum
 
 module _ (xs : List ℕ) (order slots : ℕ) (sheet : List ℕ) (ts : List Trace) (w : Writable xs order slots sheet ts) where
   can-start : Started xs order slots sheet (startSize slots sheet)
@@ -144,15 +147,16 @@ module _ (xs : List ℕ) (order slots : ℕ) (sheet : List ℕ) (ts : List Trace
       file-accepted purpose (eqb order 1) slots sheet ts (after begun (startSize slots sheet) ts .0) (after begun (startSize slots sheet) ts .1) (written-afresh .holds)
       (w .some) (w .measures) (omega arith) none
 
--- ---- and no other list is written: what calls have left, some of them refused, could have been written afresh from the accepted ones alone
+-- ---- and no other list is written: what calls have left, some of them refused, could have been written afresh from
+-- the accepted ones alone
 
-after-most : (calls : List Trace) (xs : List ℕ) (n : ℕ) → n ≤ 67108864 → after xs n calls .1 ≤ 67108864
+after-most : (calls : List Trace) (xs : List ℕ) (n : ℕ) → n ≤ maximum → after xs n calls .1 ≤ maximum
 unfolding after
 after-most [] xs n h = h
 after-most (x ∷ calls) xs n h = go (addAnswer xs n x) refl (after-most calls)
   where
-    go : (v : Written) → addAnswer xs n x ≡ v → ((ys : List ℕ) (m : ℕ) → m ≤ 67108864 → after ys m calls .1 ≤ 67108864)
-        → after (addLeft xs n x) (lengthLeft (addAnswer xs n x) n) calls .1 ≤ 67108864
+    go : (v : Written) → addAnswer xs n x ≡ v → ((ys : List ℕ) (m : ℕ) → m ≤ maximum → after ys m calls .1 ≤ maximum)
+        → after (addLeft xs n x) (lengthLeft (addAnswer xs n x) n) calls .1 ≤ maximum
     go (To end) e more =
         rw e (more (addLeft xs n x) end (added xs n x end e .in-maximum))
     go (Refused r) e more = rw e (more (addLeft xs n x) n h)

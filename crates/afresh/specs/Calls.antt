@@ -1,5 +1,5 @@
--- Any sequence of calls: a start and additions one behind the other, refused ones in between included, leave the file of the traces that were
--- accepted, in their order (document 01, "What we write": the file that a list defines).
+-- Any sequence of calls: a start and additions one behind the other, refused ones in between included, leave the file
+-- of the traces that were accepted, in their order (document 01, "What we write": the file that a list defines).
 -- Assumes nothing.
 use mathlib.Core.Path.{_≡_, refl, sym, ap, _∙_}
 use mathlib.Core.Bool.{Bool}
@@ -89,7 +89,8 @@ left-further e m ys xs l h =
     ap (λ (k : ℕ). drop k ys) (sym on) ∙ sym (drop-drop (m - e) e ys) ∙ ap (drop (m - e)) h ∙ drop-drop (m - e) e xs ∙ ap (λ (k : ℕ). drop k xs) on
 
 module _ (high : Bool) (slots : ℕ) (sheet : List ℕ) where
-  -- what calls have left of a buffer xs, where the image was of length n before them: the file of a list, and "the bytes past what they write"
+  -- what calls have left of a buffer xs, where the image was of length n before them: the file of a list, and "the
+  -- bytes past what they write"
   pub record Grew (ts : List Trace) (xs : List ℕ) (n : ℕ) (left : List ℕ × ℕ) : Type 0 where
     pub holds : Holds high slots sheet ts (left .0) (left .1)
     pub longer : n ≤ left .1

@@ -10,9 +10,11 @@ use Rattle.word.specs.Word.{bytesOf}
 use Rattle.word.specs.WordLaws.{length-bytesOf}
 use Rattle.sheet.specs.Area.{areaOf}
 use Rattle.sheet.specs.Sizes.{length-area}
-use Rattle.layout.specs.Layout.{nul, lineFeed, fileBlock, startImage, startSize, Trace, traceSize, traceBytes}
+use Rattle.layout.specs.Layout.{slotsMost, nul, lineFeed, fileBlock, startImage, startSize, Trace, traceSize}
+use Rattle.layout.specs.Layout.{traceBytes}
 use Rattle.layout.specs.LayoutLaws.{length-fileBlock, Fronted, fronted, length-traceBytes, area-whole, size-whole}
-use Rattle.afresh.specs.FileOf.{sizes, pointers, blocks, fileOf, fileSize, Good, EachGood, Together, AllGood, together-front}
+use Rattle.afresh.specs.FileOf.{sizes, pointers, blocks, fileOf, fileSize, Good, EachGood, AllGood}
+use Rattle.afresh.specs.FileOf.{together-front}
 
 -- ---- every size is a multiple of 4
 
@@ -124,7 +126,7 @@ good-append (x ∷ ts) rest g h = (g .0, good-append ts rest (g .1) h)
 
 -- ---- the first 32 bytes
 
-pub file-fronted : (high : Bool) (slots : ℕ) (sheet : List ℕ) (ts : List Trace) → slots ≤ 16383 → length ts ≤ slots
+pub file-fronted : (high : Bool) (slots : ℕ) (sheet : List ℕ) (ts : List Trace) → slots ≤ slotsMost → length ts ≤ slots
     → Fronted high (4 * slots) (length ts) (fileOf high slots sheet ts)
 unfolding fileOf
 file-fronted high slots sheet ts few h =

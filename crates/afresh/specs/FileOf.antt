@@ -1,6 +1,7 @@
--- The file that a list of traces defines (document 01, "What we write"): "stated from the start's inputs and the list alone, by the layout and not by
--- repeating the addition: the start's image with N the number of traces, in slot k the start image's length plus B and D of all traces before k, then
--- the blocks and data one behind the other, and nothing after the last D bytes". `high` is the byte order.
+-- The file that a list of traces defines (document 01, "What we write"): "stated from the start's inputs and the list
+-- alone, by the layout and not by repeating the addition: the start's image with N the number of traces, in slot k the
+-- start image's length plus B and D of all traces before k, then the blocks and data one behind the other, and nothing
+-- after the last D bytes". `high` is the byte order.
 -- Assumes nothing.
 use mathlib.Core.Path.{_≡_}
 use mathlib.Core.Bool.{Bool, true}

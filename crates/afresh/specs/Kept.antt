@@ -1,5 +1,5 @@
--- The file that a list defines keeps the rules of a file, so that the check accepts it: every reader takes it where it has a trace, and an addition
--- takes it always.
+-- The file that a list defines keeps the rules of a file, so that the check accepts it: every reader takes it where it
+-- has a trace, and an addition takes it always.
 -- Assumes nothing.
 use mathlib.Core.Path.{_≡_, refl, sym, ap, _∙_}
 use mathlib.Core.Bool.{Bool, true, false}
@@ -23,12 +23,12 @@ use Rattle.sheet.specs.Area.{sheetStrings, areaOf, areaSize}
 use Rattle.sheet.specs.Sizes.{length-area}
 use Rattle.note.specs.Note.{LineEnd}
 use Rattle.area.specs.Spelling.{area-spells}
-use Rattle.head.specs.Head.{highFirst, countOf, stringEnd, lineEnd, apart}
+use Rattle.head.specs.Head.{maximum, highFirst, countOf, stringEnd, lineEnd, apart}
 use Rattle.block.specs.Block.{pointerOf, endAt}
 use Rattle.image.specs.Image.{checkOf}
 use Rattle.image.specs.Keeps.{traceAt, endBefore, stringsEnd, KeepsTrace, Keeps}
 use Rattle.image.specs.Accepted.{keeps-accepted}
-use Rattle.layout.specs.Layout.{nul, lineFeed, fileBlock, startSize, Trace, count}
+use Rattle.layout.specs.Layout.{slotsMost, nul, lineFeed, fileBlock, startSize, Trace, count}
 use Rattle.afresh.specs.FileOf.{pointers, blocks, fileOf, fileSize, Measures, Good, AllGood}
 use Rattle.layout.specs.LayoutLaws.{length-fileBlock, Fronted, kinded, room-enough, area-whole, Stands}
 use Rattle.afresh.specs.FileLaws.{length-pointers, length-file, file-whole, size-none, size-low, file-fronted}
@@ -95,8 +95,8 @@ none-left [] h = refl
 none-left (x ∷ ts) h = absurd (omega arith)
 
 -- ---- the whole
-module _ (high : Bool) (slots : ℕ) (sheet : List ℕ) (ts : List Trace) (some : 1 ≤ slots) (few : slots ≤ 16383) (measures : Measures sheet)
-    (good : AllGood ts) (slotted : length ts ≤ slots) (most : fileSize slots sheet ts ≤ 67108864) where
+module _ (high : Bool) (slots : ℕ) (sheet : List ℕ) (ts : List Trace) (some : 1 ≤ slots) (few : slots ≤ slotsMost) (measures : Measures sheet)
+    (good : AllGood ts) (slotted : length ts ≤ slots) (most : fileSize slots sheet ts ≤ maximum) where
   abbrev file : List ℕ
   file = fileOf high slots sheet ts
 
@@ -159,7 +159,7 @@ module _ (high : Bool) (slots : ℕ) (sheet : List ℕ) (ts : List Trace) (some 
 
 -- and the check accepts it, in any buffer that holds it
 pub file-accepted : (purpose : Purpose) (high : Bool) (slots : ℕ) (sheet : List ℕ) (ts : List Trace) (xs : List ℕ) (n : ℕ) → Holds high slots sheet ts xs n → 1 ≤ slots
-    → Measures sheet → n ≤ 67108864 → (length ts ≡ 0 → purpose ≡ Grow) → checkOf Strict purpose xs n ≡ Accepted
+    → Measures sheet → n ≤ maximum → (length ts ≡ 0 → purpose ≡ Grow) → checkOf Strict purpose xs n ≡ Accepted
 file-accepted purpose high slots sheet ts xs n is some measures most none =
     let s = is .size in
     let k = file-keeps high slots sheet ts some (is .few) measures (is .good) (is .slotted) (omega arith) purpose none in

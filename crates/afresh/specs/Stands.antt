@@ -13,11 +13,14 @@ use Rattle.word.specs.WordLaws.{word-among}
 use Rattle.sheet.specs.Area.{areaOf}
 use Rattle.sheet.specs.Sizes.{length-area}
 use Rattle.block.specs.Block.{pointerOf}
-use Rattle.layout.specs.Layout.{nul, lineFeed, fileBlock, startSize, Trace, Samples.integers, dataBytes, traceSize, traceBytes}
+use Rattle.layout.specs.Layout.{nul, lineFeed, fileBlock, startSize, Trace, Samples.integers, dataBytes, traceSize}
+use Rattle.layout.specs.Layout.{traceBytes}
 use Rattle.afresh.specs.FileOf.{sizes, pointers, blocks, fileOf, fileSize, Good, EachGood}
 use Rattle.layout.specs.LayoutLaws.{length-fileBlock, length-traceBytes, Stands, stands}
-use Rattle.afresh.specs.FileLaws.{length-pointers, length-blocks, length-file, pointers-append, blocks-append, size-append, size-more}
+use Rattle.afresh.specs.FileLaws.{length-pointers, length-blocks, length-file, pointers-append, blocks-append}
+use Rattle.afresh.specs.FileLaws.{size-append, size-more}
 use Rattle.afresh.specs.Step.{behind}
+use Rattle.head.specs.Head.{maximum}
 
 -- a trace at the front of what is left of a file
 here-stands : (high : Bool) (f : List ℕ) (p : ℕ) (x : Trace) (tail : List ℕ) → drop p f ≡ traceBytes high nul lineFeed x ++ tail → p ≤ length f → Good x
@@ -90,7 +93,7 @@ module _ (high : Bool) (slots : ℕ) (sheet : List ℕ) (before : List Trace) (x
       ∙ ap (λ (r : List ℕ). wordAt 4 high r (32 + 4 * length before)) (sym e)
       ∙ word-among 4 high size (fb ++ ptrs) (more ++ rest) (32 + 4 * length before) l (omega arith)
 
-  file-stands : length whole ≤ slots → EachGood whole → EachGood before → Good x → fileSize slots sheet whole ≤ 67108864
+  file-stands : length whole ≤ slots → EachGood whole → EachGood before → Good x → fileSize slots sheet whole ≤ maximum
       → (pointerOf high (fileOf high slots sheet whole) (length before) ≡ fileSize slots sheet before)
       × Stands high nul lineFeed (fileOf high slots sheet whole) (fileSize slots sheet before) x
   unfolding sizes
@@ -118,7 +121,7 @@ pub record Traced (high : Bool) (slots : ℕ) (sheet : List ℕ) (ts : List Trac
   pub next : fileSize slots sheet (take k ts) + traceSize nul lineFeed (getD ts k emptyTrace) ≡ fileSize slots sheet (take (suc k) ts)
 
 split-stands : (high : Bool) (slots : ℕ) (sheet : List ℕ) (ts before : List Trace) (x : Trace) (behind-it : List Trace) (k : ℕ)
-    → ts ≡ before ++ (x ∷ behind-it) → length before ≡ k → length ts ≤ slots → EachGood ts → fileSize slots sheet ts ≤ 67108864
+    → ts ≡ before ++ (x ∷ behind-it) → length before ≡ k → length ts ≤ slots → EachGood ts → fileSize slots sheet ts ≤ maximum
     → (pointerOf high (fileOf high slots sheet ts) k ≡ fileSize slots sheet before) × Stands high nul lineFeed (fileOf high slots sheet ts) (fileSize slots sheet before) x × Good x
 split-stands high slots sheet ts before x behind-it k e l h g most =
     let all = rw e at g in
@@ -126,7 +129,7 @@ split-stands high slots sheet ts before x behind-it k e l h g most =
     let r = file-stands high slots sheet before x behind-it (rw e at h) all (s .0) (s .1 .0) (rw e at most) in
     rw (e, ← l) (r .0, r .1, s .1 .0)
 
-pub file-traces : (high : Bool) (slots : ℕ) (sheet : List ℕ) (ts : List Trace) → length ts ≤ slots → EachGood ts → fileSize slots sheet ts ≤ 67108864
+pub file-traces : (high : Bool) (slots : ℕ) (sheet : List ℕ) (ts : List Trace) → length ts ≤ slots → EachGood ts → fileSize slots sheet ts ≤ maximum
     → (k : ℕ) → k < length ts → Traced high slots sheet ts k
 file-traces high slots sheet ts h g most k low =
     let l : length (take k ts) ≡ k = length-take-le k ts (omega arith) in

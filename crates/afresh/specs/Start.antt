@@ -1,4 +1,5 @@
--- The image that a start leaves: "This image is no file yet: the reader refuses it by 5, an addition accepts it" (document 01, "What we write").
+-- The image that a start leaves: "This image is no file yet: the reader refuses it by 5, an addition accepts it"
+-- (document 01, "What we write").
 -- Assumes nothing.
 use mathlib.Core.Path.{_≡_, refl, ap}
 use mathlib.Core.Bool.{true, false, not}

@@ -1,5 +1,5 @@
--- A start gives the file of no traces; an addition to the file of a list gives the file of the list with that trace at its end (document 01, "What we
--- write").
+-- A start gives the file of no traces; an addition to the file of a list gives the file of the list with that trace at
+-- its end (document 01, "What we write").
 -- Assumes nothing.
 use mathlib.Core.Path.{_≡_, sym, ap, ap₂, _∙_}
 use mathlib.Core.Bool.{Bool}
@@ -15,15 +15,18 @@ use Rattle.word.specs.WordLaws.{length-bytesOf}
 use Rattle.sheet.specs.Area.{areaOf, areaSize}
 use Rattle.head.specs.Head.{roomOf, countOf}
 use Rattle.start.specs.declared.Written.the-variants.{To}
-use Rattle.layout.specs.Layout.{plainEnds, nul, lineFeed, fileBlock, startImage, startSize, Trace, traceSize, traceBytes}
+use Rattle.layout.specs.Layout.{slotsMost, plainEnds, nul, lineFeed, fileBlock, startImage, startSize, Trace, traceSize}
+use Rattle.layout.specs.Layout.{traceBytes}
 use Rattle.start.specs.Start.{startAnswer, startLeft}
 use Rattle.append.specs.Grown.{newLength, newBytes, grown}
 use Rattle.writer.specs.Answers.{addAnswer, addLeft}
 use Rattle.afresh.specs.FileOf.{sizes, pointers, blocks, fileOf, fileSize, Good, Together, AllGood}
-use Rattle.layout.specs.LayoutLaws.{frontOf, length-front, around-count, length-fileBlock, length-startImage, Fronted, length-traceBytes}
+use Rattle.layout.specs.LayoutLaws.{frontOf, length-front, around-count, length-fileBlock, length-startImage, Fronted}
+use Rattle.layout.specs.LayoutLaws.{length-traceBytes}
 use Rattle.start.specs.StartShown.{started, start-left}
 use Rattle.writer.specs.Shown.{Added, added, add-left}
-use Rattle.afresh.specs.FileLaws.{file-whole, length-pointers, file-none, size-none, size-low, pointers-more, blocks-more, length-more, size-more, good-append, file-fronted}
+use Rattle.afresh.specs.FileLaws.{file-whole, length-pointers, file-none, size-none, size-low, pointers-more}
+use Rattle.afresh.specs.FileLaws.{blocks-more, length-more, size-more, good-append, file-fronted}
 
 -- the first n bytes of a buffer are the file of a list: what a call is given that goes on with it
 pub record Holds (high : Bool) (slots : ℕ) (sheet : List ℕ) (ts : List Trace) (xs : List ℕ) (n : ℕ) : Type 0 where
@@ -32,7 +35,7 @@ pub record Holds (high : Bool) (slots : ℕ) (sheet : List ℕ) (ts : List Trace
   pub fits : n ≤ length xs
   pub good : AllGood ts
   pub slotted : length ts ≤ slots
-  pub few : slots ≤ 16383
+  pub few : slots ≤ slotsMost
 
 -- ---- the start
 

@@ -1,6 +1,6 @@
--- The worked file of document 01 ("Worked values"): "Low first, one slot, sheet UNITS METERS, one trace of code 1 with samples 1, -1, 256 and sheet
--- STACK 1: pointer 56, B 44, D 8, length 108", byte for byte. So the file that a list defines is the one that the document shows, and there are good
--- traces.
+-- The worked file of document 01 ("Worked values"): "Low first, one slot, sheet UNITS METERS, one trace of code 1 with
+-- samples 1, -1, 256 and sheet STACK 1: pointer 56, B 44, D 8, length 108", byte for byte. So the file that a list
+-- defines is the one that the document shows, and there are good traces.
 -- Assumes nothing.
 use mathlib.Core.Path.{_≡_, refl}
 use mathlib.Core.Bool.{false}
@@ -16,9 +16,11 @@ use Rattle.strings.specs.Spelled.{texts}
 use Rattle.sample.specs.Needed.{needed, room}
 use Rattle.encode.specs.Unfit.{firstFrom, outside, unfitInteger, unfitIntegers}
 use Rattle.encode.specs.Write.{flat, residue, fixedBytes, filledUp, integersData}
-use Rattle.sheet.specs.Lines.{lineLen, lineKeyLen, continues, lineJudged, lineStep, checkFrom, linesVerdict, sheetLinesFrom, sheetLines}
+use Rattle.sheet.specs.Lines.{lineLen, lineKeyLen, continues, lineJudged, lineStep, checkFrom, linesVerdict}
+use Rattle.sheet.specs.Lines.{sheetLinesFrom, sheetLines}
 use Rattle.sheet.specs.Area.{joined, sheetStrings, textSize, areaOf, areaSize, measuredOf}
-use Rattle.layout.specs.Layout.{nul, lineFeed, fileBlock, startSize, Trace, Samples.integers, count, fitting, unfit, samplesData, traceBlock, blockBytes, dataBytes, traceBytes}
+use Rattle.layout.specs.Layout.{nul, lineFeed, fileBlock, startSize, Trace, Samples.integers, count, fitting, unfit}
+use Rattle.layout.specs.Layout.{samplesData, traceBlock, blockBytes, dataBytes, traceBytes}
 use Rattle.afresh.specs.FileOf.{sizes, pointers, blocks, fileOf, fileSize, Measures, AllGood}
 use Rattle.afresh.specs.Afresh.{Writable}
 

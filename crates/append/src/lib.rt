@@ -1,5 +1,6 @@
-// The stores of an addition (document 01, "What we write"): the gap, the new trace at the old end rounded up, its pointer and N, in this order.
-// Grown has the definition. What differs by the kind of the samples is their encoding alone. Stands on `layout`, `head`.
+// The stores of an addition (document 01, "What we write"): the gap, the new trace at the old end rounded up, its
+// pointer and N, in this order. Grown has the definition. What differs by the kind of the samples is their encoding
+// alone. Stands on `layout`, `head`.
 // The rules in words: docs/FORMAT.md, "What we write".
 ghost use mathlib.Core.Path.{_≡_};
 ghost use Prim.Native.Nat.{_-_};
@@ -18,12 +19,13 @@ pub struct Begun {
     pub high: bool,
 }
 
-// All before the samples: the gap, and the block and the strings into the free end of the buffer, which is lent from the new trace on. The terminators
-// are taken out of the file first: they stand at the buffer's start.
+// All before the samples: the gap, and the block and the strings into the free end of the buffer, which is lent from
+// the new trace on. The terminators are taken out of the file first: they stand at the buffer's start.
 fn begin(buffer: &mut [u8], n: usize, sheet: &[u8], end: usize, code: u32, count: usize) -> Begun
     requires { ⌜ Begins (now buffer) n (now sheet) end code count ⌝ }
     ensures place { λ r. ⌜ (r .at ≡ end - room code count) × (r .high ≡ highFirst (take n (now (buffer .entry)))) ⌝ }
-    ensures left { λ _. ⌜ now (buffer .exit) ≡ put (now (buffer .entry)) n (newFront (take n (now (buffer .entry))) n (now (sheet .entry)) code count) ⌝ }
+    ensures left { λ _. ⌜ now (buffer .exit)
+        ≡ put (now (buffer .entry)) n (newFront (take n (now (buffer .entry))) n (now (sheet .entry)) code count) ⌝ }
 {
     let b = head::file_block(&buffer[..n]);
     let at = word::round_up(n);
@@ -64,7 +66,8 @@ fn register(buffer: &mut [u8], n: usize)
 
 pub fn grow_integers(buffer: &mut [u8], n: usize, sheet: &[u8], end: usize, code: u32, row: &[i32])
     requires { ⌜ Begins (now buffer) n (now sheet) end code (length (now row)) × Held code (integers (now row)) ⌝ }
-    ensures { λ _. ⌜ now (buffer .exit) ≡ grown (now (buffer .entry)) n (integersTrace (now (sheet .entry)) code (now (row .entry))) ⌝ }
+    ensures { λ _. ⌜ now (buffer .exit) ≡ grown (now (buffer .entry)) n
+        (integersTrace (now (sheet .entry)) code (now (row .entry))) ⌝ }
 {
     let b = begin(buffer, n, sheet, end, code, row.len());
     layout::put_integers(buffer, b.at, b.high, code, row);
@@ -73,7 +76,8 @@ pub fn grow_integers(buffer: &mut [u8], n: usize, sheet: &[u8], end: usize, code
 
 pub fn grow_bits(buffer: &mut [u8], n: usize, sheet: &[u8], end: usize, code: u32, row: &[u64])
     requires { ⌜ Begins (now buffer) n (now sheet) end code (length (now row)) × Held code (patterns (now row)) ⌝ }
-    ensures { λ _. ⌜ now (buffer .exit) ≡ grown (now (buffer .entry)) n (patternsTrace (now (sheet .entry)) code (now (row .entry))) ⌝ }
+    ensures { λ _. ⌜ now (buffer .exit) ≡ grown (now (buffer .entry)) n
+        (patternsTrace (now (sheet .entry)) code (now (row .entry))) ⌝ }
 {
     let b = begin(buffer, n, sheet, end, code, row.len());
     layout::put_bits(buffer, b.at, b.high, code, row);

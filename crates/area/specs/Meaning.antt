@@ -1,5 +1,6 @@
--- The strings of a sheet are those of its lines: each line before the first NOTE is a string with the line's own keyword and value, and the NOTE
--- lines at the end are one string, whose value, read by its terminators, is those lines again.
+-- The strings of a sheet are those of its lines: each line before the first NOTE is a string with the line's own
+-- keyword and value, and the NOTE lines at the end are one string, whose value, read by its terminators, is those lines
+-- again.
 -- Assumes nothing.
 use mathlib.Core.Path.{_≡_, refl, ap}
 use mathlib.Core.Bool.{Bool, true, false}

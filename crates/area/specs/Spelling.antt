@@ -1,5 +1,5 @@
--- The written area spells exactly the strings that the sheet means, in `strings`' sense, for every order and terminators that a file can have; its
--- size; and every list of good lines whose area is not too large is let through.
+-- The written area spells exactly the strings that the sheet means, in `strings`' sense, for every order and
+-- terminators that a file can have; its size; and every list of good lines whose area is not too large is let through.
 -- Assumes nothing.
 use mathlib.Core.Path.{_≡_, refl, sym, _∙_}
 use mathlib.Core.Bool.{Bool, true, false, _||_}
@@ -30,7 +30,8 @@ use Rattle.strings.specs.Spelled.{GoodString, Rising, sizeOf, Ends.mark, Spells
 use Rattle.sheet.specs.declared.Measured as measured
 use Rattle.sheet.specs.declared.Measured.the-variants.{Size}
 use Rattle.sheet.specs.Lines.{Line, plain, spaced, continues, linesVerdict, sheetLines}
-use Rattle.sheet.specs.Area.{strOf, values, noteOf, joined, sheetStrings, textSize, padding, areaOf, areaSize, sized, measuredOf}
+use Rattle.sheet.specs.Area.{areaMost, strOf, values, noteOf, joined, sheetStrings, textSize, padding, areaOf, areaSize}
+use Rattle.sheet.specs.Area.{sized, measuredOf}
 use Rattle.sheet.specs.Sizes.{length-area, textSize-low}
 use Rattle.sheet.specs.Paper.{sheetOf, GoodLine, GoodLines, good-accepted, lines-read, accepted-lines}
 
@@ -164,27 +165,27 @@ lines-rise t u prev (l ∷ ls) e n g h = go (same (l .key) note) refl h (lines-r
 
 -- ---- what an answer of a size has shown
 
-pub measured-size : (t u s : List ℕ) (n : ℕ) → measuredOf t u s ≡ Size n → (linesVerdict s ≡ Accepted) × (areaSize t u s ≡ n) × (n ≤ 65500)
+pub measured-size : (t u s : List ℕ) (n : ℕ) → measuredOf t u s ≡ Size n → (linesVerdict s ≡ Accepted) × (areaSize t u s ≡ n) × (n ≤ areaMost)
 unfolding measuredOf
 measured-size t u s n e = go (linesVerdict s) refl e
   where
-    sizes : (w : Bool) → ltb 65500 (areaSize t u s) ≡ w → pick w (measured.the-variants.Refused (refusal AreaSize File 0)) (Size (areaSize t u s)) ≡ Size n
-        → (areaSize t u s ≡ n) × (n ≤ 65500)
+    sizes : (w : Bool) → ltb areaMost (areaSize t u s) ≡ w → pick w (measured.the-variants.Refused (refusal AreaSize File 0)) (Size (areaSize t u s)) ≡ Size n
+        → (areaSize t u s ≡ n) × (n ≤ areaMost)
     sizes true q k = let z : _≡_ {A = ℕ} 0 1 = cc in absurd (omega arith)
     sizes false q k =
         let a : areaSize t u s ≡ n = cc in
-        let l = ltb-false 65500 (areaSize t u s) q in
+        let l = ltb-false areaMost (areaSize t u s) q in
         (a, omega arith)
 
-    go : (v : Verdict) → linesVerdict s ≡ v → asked measured.the-variants.Refused v (sized (areaSize t u s)) ≡ Size n → (linesVerdict s ≡ Accepted) × (areaSize t u s ≡ n) × (n ≤ 65500)
-    go Accepted q k = let b = sizes (ltb 65500 (areaSize t u s)) refl k in (q, b .0, b .1)
+    go : (v : Verdict) → linesVerdict s ≡ v → asked measured.the-variants.Refused v (sized (areaSize t u s)) ≡ Size n → (linesVerdict s ≡ Accepted) × (areaSize t u s ≡ n) × (n ≤ areaMost)
+    go Accepted q k = let b = sizes (ltb areaMost (areaSize t u s)) refl k in (q, b .0, b .1)
     go (Refused r) q k = let z : _≡_ {A = ℕ} 0 1 = cc in absurd (omega arith)
 
 -- ---- the theorems
 
 -- an area is a multiple of 4, at least 4 and at most 65,500 bytes long
 pub area-bounds : (high : Bool) (t u s : List ℕ) (n : ℕ) → measuredOf t u s ≡ Size n
-    → (length (areaOf high t u s) ≡ n) × (n % 4 ≡ 0) × (4 ≤ n) × (n ≤ 65500)
+    → (length (areaOf high t u s) ≡ n) × (n % 4 ≡ 0) × (4 ≤ n) × (n ≤ areaMost)
 unfolding areaSize
 area-bounds high t u s n e =
     let b = measured-size t u s n e in
@@ -198,7 +199,7 @@ unfolding areaOf areaSize sheetStrings same
 area-spells high t u s n e m =
     let b = measured-size t u s n m in
     let a : round4 (textSize t (joined u (sheetLines s))) ≡ n = b .1 in
-    let k : n ≤ 65500 = b .2 in
+    let k : n ≤ areaMost = b .2 in
     let g = accepted-lines s (b .0) .1 in
     full (mark (padding (textSize t (joined u (sheetLines s))))) (lines-rise t u [] (sheetLines s) e refl g (omega arith))
 
@@ -210,9 +211,9 @@ area-accepted high t u s n p at e m =
     spelled-accepted Strict p at ends (area-spells high t u s n ends m)
 
 -- every list of good lines whose area is not too large is let through, and means the strings of those lines
-pub good-measured : (t u : List ℕ) (ls : List Line) → GoodLines [] ls → round4 (textSize t (joined u ls)) ≤ 65500
+pub good-measured : (t u : List ℕ) (ls : List Line) → GoodLines [] ls → round4 (textSize t (joined u ls)) ≤ areaMost
     → (measuredOf t u (sheetOf ls) ≡ Size (round4 (textSize t (joined u ls)))) × (sheetStrings u (sheetOf ls) ≡ joined u ls)
 unfolding measuredOf areaSize sheetStrings
 good-measured t u ls g h =
     let l : sheetLines (sheetOf ls) ≡ ls = lines-read [] ls g in
-    (rw (good-accepted ls g, l, le-ltb 65500 (round4 (textSize t (joined u ls))) h), rw l)
+    (rw (good-accepted ls g, l, le-ltb areaMost (round4 (textSize t (joined u ls))) h), rw l)

@@ -1,5 +1,5 @@
--- The bytes of an area as they are stored: string by string, in a NOTE line by line, then the end mark and the zeros. A law for each function that
--- stores, and for each turn of the loops: what is left to store, stored, makes the whole.
+-- The bytes of an area as they are stored: string by string, in a NOTE line by line, then the end mark and the zeros. A
+-- law for each function that stores, and for each turn of the loops: what is left to store, stored, makes the whole.
 -- Assumes nothing.
 use mathlib.Core.Path.{_≡_, refl, sym, ap, ap₂, _∙_}
 use mathlib.Core.Bool.{Bool, true, false}
@@ -20,9 +20,11 @@ use Rattle.note.specs.Note.{withEnds}
 use Rattle.strings.specs.Spelled.{Str, textOf, sizeOf, texts, written}
 use Rattle.sheet.specs.declared.Measured.the-variants.{Size}
 use Rattle.sheet.specs.Lines.{Line, lineLen, linesVerdict, sheetLines}
-use Rattle.sheet.specs.Area.{strOf, values, noteOf, joined, sheetStrings, textSize, padding, areaOf, areaSize, measuredOf}
+use Rattle.sheet.specs.Area.{areaMost, strOf, values, noteOf, joined, sheetStrings, textSize, padding, areaOf, areaSize}
+use Rattle.sheet.specs.Area.{measuredOf}
 use Rattle.sheet.specs.Counting.{past-line, lines-none}
-use Rattle.sheet.specs.Paper.{bytesOfLine, sheetOf, GoodLine, GoodLines, long-line, good-line, good-key, after-line, line-key, lines-read, accepted-lines}
+use Rattle.sheet.specs.Paper.{bytesOfLine, sheetOf, GoodLine, GoodLines, long-line, good-line, good-key, after-line}
+use Rattle.sheet.specs.Paper.{line-key, lines-read, accepted-lines}
 use Rattle.area.specs.Spelling.{note-next, measured-size}
 
 -- ---- the bytes
@@ -153,7 +155,7 @@ ahead prev s n d some e = go (sheetLines s) refl (d .spelled) (d .good)
 
 pub record Writable (t u s : List ℕ) (room : ℕ) : Type 0 where
   pub lines : linesVerdict s ≡ Accepted
-  pub limit : areaSize t u s ≤ 65500
+  pub limit : areaSize t u s ≤ areaMost
   pub fits : areaSize t u s ≤ room
 
 pub writable : (t u s : List ℕ) (n room : ℕ) → measuredOf t u s ≡ Size n → n ≤ room → Writable t u s room
@@ -366,11 +368,11 @@ strung-start high t u s buf₀ room w =
     record { prev = []; lined = record { spelled = b .0; good = b .1 }; place = omega arith; makes = refl }
 
 pub texts-room : (high : Bool) (t u s : List ℕ) (room : ℕ) → Writable t u s room
-    → (length (textsOf high t (sheetStrings u s)) + 2 ≤ 65500) × (round4 (length (textsOf high t (sheetStrings u s)) + 2) ≤ room)
+    → (length (textsOf high t (sheetStrings u s)) + 2 ≤ areaMost) × (round4 (length (textsOf high t (sheetStrings u s)) + 2) ≤ room)
 unfolding areaSize
 texts-room high t u s room w =
     let a = texts-size high t (sheetStrings u s) in
-    let b : round4 (textSize t (sheetStrings u s)) ≤ 65500 = w .limit in
+    let b : round4 (textSize t (sheetStrings u s)) ≤ areaMost = w .limit in
     let c : round4 (textSize t (sheetStrings u s)) ≤ room = w .fits in
     (omega arith, omega arith)
 

@@ -1,6 +1,7 @@
-// A sheet written as an area of strings (document 01, "What we write"): strings in the sheet's order, NOTE's lines joined, the end mark, zeros.
-// Writing has what each store leaves, Spelling and Meaning that the area spells exactly the sheet's list. Stands on `sheet`, `strings`, `text`, `word`.
-// part is the lent memory, to the next free place in it; t, u and `high` are the file's terminators and byte order.
+// A sheet written as an area of strings (document 01, "What we write"): strings in the sheet's order, NOTE's lines
+// joined, the end mark, zeros. Writing has what each store leaves, Spelling and Meaning that the area spells exactly
+// the sheet's list. Stands on `sheet`, `strings`, `text`, `word`. part is the lent memory, to the next free place in
+// it; t, u and `high` are the file's terminators and byte order.
 // The rules in words: docs/FORMAT.md, "What we write".
 use text::Manner;
 ghost use mathlib.Core.Path.{_≡_};
@@ -15,8 +16,11 @@ ghost use Rattle.area.specs.Writing.{stringBytes, textsOf, moreOf, lineA
 
 // A line as a string of its own, stored from place `to` on; w is its keyword's length. Answers the place behind it.
 fn write_line(part: &mut [u8], high: bool, t: &[u8], l: &[u8], w: usize, to: usize) -> usize
-    requires { ⌜ (w < length (now l)) × (2 + length (now l) + length (now t) < 65536) × (to + (2 + length (now l) + length (now t)) ≤ length (now part)) ⌝ }
-    ensures { λ r. ⌜ (r ≡ to + (2 + length (now (l .entry)) + length (now (t .entry)))) × (now (part .exit) ≡ put (now (part .entry)) to (stringBytes high (now (t .entry)) (strOf (lineAt w (now (l .entry)))))) ⌝ }
+    requires { ⌜ (w < length (now l)) × (2 + length (now l) + length (now t) < 65536)
+        × (to + (2 + length (now l) + length (now t)) ≤ length (now part)) ⌝ }
+    ensures { λ r. ⌜ (r ≡ to + (2 + length (now (l .entry)) + length (now (t .entry))))
+        × (now (part .exit) ≡ put (now (part .entry)) to
+        (stringBytes high (now (t .entry)) (strOf (lineAt w (now (l .entry)))))) ⌝ }
 {
     let n = 2 + l.len() + t.len();
     let a = to + 2;
@@ -35,7 +39,8 @@ fn write_line(part: &mut [u8], high: bool, t: &[u8], l: &[u8], w: usize, to: usi
 // A further line of a NOTE: the line terminator and the value v. Answers the place behind it.
 fn write_more(part: &mut [u8], u: &[u8], v: &[u8], to: usize) -> usize
     requires { ⌜ to + (length (now u) + length (now v)) ≤ length (now part) ⌝ }
-    ensures { λ r. ⌜ (r ≡ to + (length (now (u .entry)) + length (now (v .entry)))) × (now (part .exit) ≡ put (now (part .entry)) to (now (u .entry) ++ now (v .entry))) ⌝ }
+    ensures { λ r. ⌜ (r ≡ to + (length (now (u .entry)) + length (now (v .entry))))
+        × (now (part .exit) ≡ put (now (part .entry)) to (now (u .entry) ++ now (v .entry))) ⌝ }
 {
     let a = to + u.len();
     word::copy(part, to, u);
@@ -46,7 +51,8 @@ fn write_more(part: &mut [u8], u: &[u8], v: &[u8], to: usize) -> usize
 // The further lines of a NOTE, of which s has nothing but. Answers the place behind them.
 fn write_lines(part: &mut [u8], u: &[u8], s: &[u8], to: usize) -> usize
     requires { ⌜ Noted (now s) × (to + length (moreOf (now u) (sheetLines (now s))) ≤ length (now part)) ⌝ }
-    ensures { λ r. ⌜ (r ≡ to + length (moreOf (now (u .entry)) (sheetLines (now (s .entry))))) × (now (part .exit) ≡ put (now (part .entry)) to (moreOf (now (u .entry)) (sheetLines (now (s .entry))))) ⌝ }
+    ensures { λ r. ⌜ (r ≡ to + length (moreOf (now (u .entry)) (sheetLines (now (s .entry)))))
+        × (now (part .exit) ≡ put (now (part .entry)) to (moreOf (now (u .entry)) (sheetLines (now (s .entry))))) ⌝ }
 {
     let mut at: usize = 0;
     let mut end = to;
@@ -60,11 +66,14 @@ fn write_lines(part: &mut [u8], u: &[u8], s: &[u8], to: usize) -> usize
     end
 }
 
-// A NOTE of all the lines of s, stored from place `to` on. Its offset is stored last: the lines are gone through once, and the place behind them tells
-// its size. Answers the place behind it.
+// A NOTE of all the lines of s, stored from place `to` on. Its offset is stored last: the lines are gone through once,
+// and the place behind them tells its size. Answers the place behind it.
 fn write_note(part: &mut [u8], high: bool, t: &[u8], u: &[u8], s: &[u8], to: usize) -> usize
-    requires { ⌜ Headed (now s) × (sizeOf (now t) (noteOf (now u) (sheetLines (now s))) < 65536) × (to + sizeOf (now t) (noteOf (now u) (sheetLines (now s))) ≤ length (now part)) ⌝ }
-    ensures { λ r. ⌜ (r ≡ to + sizeOf (now (t .entry)) (noteOf (now (u .entry)) (sheetLines (now (s .entry))))) × (now (part .exit) ≡ put (now (part .entry)) to (stringBytes high (now (t .entry)) (noteOf (now (u .entry)) (sheetLines (now (s .entry)))))) ⌝ }
+    requires { ⌜ Headed (now s) × (sizeOf (now t) (noteOf (now u) (sheetLines (now s))) < 65536)
+        × (to + sizeOf (now t) (noteOf (now u) (sheetLines (now s))) ≤ length (now part)) ⌝ }
+    ensures { λ r. ⌜ (r ≡ to + sizeOf (now (t .entry)) (noteOf (now (u .entry)) (sheetLines (now (s .entry)))))
+        × (now (part .exit) ≡ put (now (part .entry)) to
+        (stringBytes high (now (t .entry)) (noteOf (now (u .entry)) (sheetLines (now (s .entry)))))) ⌝ }
 {
     let n = sheet::line_len(s);
     let a = to + 2;
@@ -83,7 +92,9 @@ fn write_note(part: &mut [u8], high: bool, t: &[u8], u: &[u8], s: &[u8], to: usi
 // The strings of a sheet, one behind the other. Answers the place behind them.
 fn write_strings(part: &mut [u8], high: bool, t: &[u8], u: &[u8], sheet: &[u8]) -> usize
     requires { ⌜ Writable (now t) (now u) (now sheet) (length (now part)) ⌝ }
-    ensures { λ r. ⌜ (r ≡ length (textsOf high (now (t .entry)) (sheetStrings (now (u .entry)) (now (sheet .entry))))) × (now (part .exit) ≡ put (now (part .entry)) 0 (textsOf high (now (t .entry)) (sheetStrings (now (u .entry)) (now (sheet .entry))))) ⌝ }
+    ensures { λ r. ⌜ (r ≡ length (textsOf high (now (t .entry)) (sheetStrings (now (u .entry)) (now (sheet .entry)))))
+        × (now (part .exit) ≡ put (now (part .entry)) 0
+        (textsOf high (now (t .entry)) (sheetStrings (now (u .entry)) (now (sheet .entry))))) ⌝ }
 {
     let mut at: usize = 0;
     let mut to: usize = 0;
@@ -101,10 +112,12 @@ fn write_strings(part: &mut [u8], high: bool, t: &[u8], u: &[u8], sheet: &[u8]) 
     to
 }
 
-// The area of a sheet that `measure` gave a size, from the start of `part`, which has room for it; what is past it is left.
+// The area of a sheet that `measure` gave a size, from the start of `part`, which has room for it; what is past it is
+// left.
 pub fn write_area(part: &mut [u8], high: bool, t: &[u8], u: &[u8], sheet: &[u8])
     requires { ⌜ Writable (now t) (now u) (now sheet) (length (now part)) ⌝ }
-    ensures { λ _. ⌜ now (part .exit) ≡ put (now (part .entry)) 0 (areaOf high (now (t .entry)) (now (u .entry)) (now (sheet .entry))) ⌝ }
+    ensures { λ _. ⌜ now (part .exit) ≡ put (now (part .entry)) 0 (areaOf high (now (t .entry)) (now (u .entry))
+        (now (sheet .entry))) ⌝ }
 {
     let to = write_strings(part, high, t, u, sheet);
     let a = to + 2;

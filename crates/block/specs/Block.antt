@@ -1,5 +1,5 @@
--- The trace block (document 01, "The trace block" and rows 8 to 13). f is the image; b is a block's first 32 bytes, and all that is said of the block
--- stands there.
+-- The trace block (document 01, "The trace block" and rows 8 to 13). f is the image; b is a block's first 32 bytes, and
+-- all that is said of the block stands there.
 -- Assumes nothing.
 use mathlib.Core.Bool.{Bool, not, _&&_, _||_}
 use mathlib.Core.List.{List, [], _∷_}

@@ -1,6 +1,6 @@
 -- The laws of the trace block: what rows 8 to 13 have shown, and what passes them.
 -- Assumes nothing.
-use mathlib.Core.Path.{_≡_, refl, sym, ap}
+use mathlib.Core.Path.{_≡_, refl, ap}
 use mathlib.Core.Bool.{Bool, true, false, not, _&&_, _||_}
 use mathlib.Core.List.{List}
 use Prim.Native.Nat.{ℕ, _+_, _-_, _*_, _%_, _≤_}
@@ -17,7 +17,8 @@ use Rattle.refusal.specs.declared.Rule.the-variants.{Pointer}
 use Rattle.refusal.specs.declared.Verdict.the-variants.{Accepted}
 use Rattle.sample.specs.Needed.{needed}
 use Rattle.block.specs.declared.TraceBlock.{TraceBlock}
-use Rattle.block.specs.Block.{traceMark, pointerOf, markAt, blockSize, dataSize, sampleCount, formatCode, dataAt, badPointer, wrong, pointerRow, blockRows, blockOf, blockIn, traceBlockOf}
+use Rattle.block.specs.Block.{traceMark, pointerOf, markAt, blockSize, dataSize, sampleCount, formatCode, dataAt}
+use Rattle.block.specs.Block.{badPointer, wrong, pointerRow, blockRows, blockOf, blockIn, traceBlockOf}
 
 -- ---- what row 8 has shown of the pointer p, and what passes it
 pub record Pointed (end prev p : ℕ) : Type 0 where

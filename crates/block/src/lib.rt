@@ -9,10 +9,11 @@ use refusal::Verdict;
 ghost use mathlib.Core.Path.{_≡_};
 ghost use Prim.Native.Nat.{_+_, _*_, _≤_, _<_};
 ghost use lib.ListN.{length};
-ghost use Rattle.block.specs.Block.{badPointer, badBlock, badData, badCode, badSamples, wrong, badTrace, pointerOf, pointerRow, blockIn, blockAnswer, traceBlockOf};
+ghost use Rattle.block.specs.Block.{badPointer, badBlock, badData, badCode, badSamples, badTrace, pointerOf};
+ghost use Rattle.block.specs.Block.{pointerRow, blockIn, blockAnswer, traceBlockOf};
 
-// Where the block stands, its size B, the data's size D, the sample count S and the format code. The strings stand from p+32 to p+B, the data
-// from p+B on.
+// Where the block stands, its size B, the data's size D, the sample count S and the format code. The strings stand from
+// p+32 to p+B, the data from p+B on.
 pub struct TraceBlock {
     pub p: usize,
     pub b: usize,
@@ -87,7 +88,8 @@ pub fn pointer_row(end: usize, k: u16, prev: usize, p: usize) -> Verdict
 // The block whose first 32 bytes are b, at p.
 pub fn block_in(b: &[u8], high: bool, p: usize) -> TraceBlock
     requires { ⌜ 32 ≤ length (now b) ⌝ }
-    ensures { λ r. ⌜ (r ≡ blockIn high (now (b .entry)) p) × (r .b < 65536) × (r .d < 4294967296) × (r .s < 4294967296) ⌝ }
+    ensures { λ r. ⌜ (r ≡ blockIn high (now (b .entry)) p) × (r .b < 65536) × (r .d < 4294967296)
+        × (r .s < 4294967296) ⌝ }
 {
     let size = word::word2(b, high, 2);
     let d = word::word4(b, high, 4);
@@ -112,7 +114,8 @@ fn bad_trace(rule: Rule, k: u16, place: usize) -> TraceAnswer
     })
 }
 
-// Rows 9 to 13 of the trace k, whose block begins with the 32 bytes b at p, in an image that ends at `end`; and the block. 4422h is 17442.
+// Rows 9 to 13 of the trace k, whose block begins with the 32 bytes b at p, in an image that ends at `end`; and the
+// block. 4422h is 17442.
 pub fn block_rows(b: &[u8], high: bool, end: usize, k: u16, p: usize) -> TraceAnswer
     requires { ⌜ (p < 4294967296) × (32 ≤ length (now b)) ⌝ }
     ensures { λ r. ⌜ r ≡ blockAnswer high (now (b .entry)) end k p ⌝ }

@@ -1,5 +1,6 @@
 // Characters by their kind, and runs of them (document 01, "Strings"): which bytes a keyword's separators, a value, a
-// number and a line of a sheet have. Chars and Runs have the definitions. Stands on `word` and `refusal`, for laws alone.
+// number and a line of a sheet have. Chars and Runs have the definitions. Stands on `word` and `refusal`, for laws
+// alone.
 // The rules in words: docs/FORMAT.md, "Strings".
 ghost use mathlib.Core.Path.{_≡_};
 ghost use Prim.Native.Nat.{_≤_};

@@ -1,5 +1,6 @@
--- The two accounts of a number agree: the answer is a number exactly where the grammar writes the text within its digits, 20 exactly where it does
--- not write it, 21 exactly where it does with too many digits; and the parts are unique.
+-- The two accounts of a number agree: the answer is a number exactly where the grammar writes the text within its
+-- digits, 20 exactly where it does not write it, 21 exactly where it does with too many digits; and the parts are
+-- unique.
 -- Assumes nothing.
 use mathlib.Core.Path.{_≡_, refl, sym, ap, subst, _∙_}
 use mathlib.Core.Bool.{Bool, true, false, not, _&&_}
@@ -17,10 +18,13 @@ use Rattle.decimal.specs.declared.Decimal.{Decimal}
 use Rattle.decimal.specs.declared.NumberAnswer.{NumberAnswer}
 use Rattle.decimal.specs.declared.NumberAnswer.the-variants.{Is, Refused}
 use Rattle.chars.specs.Runs.{run, Stops, run-stops}
-use Rattle.decimal.specs.Run.{front, behind, run-none, parts, front-all, front-length, run-length, front-is, behind-is, run-all, behind-all, front-of-all}
+use Rattle.decimal.specs.Run.{front, behind, run-none, parts, front-all, front-length, run-length, front-is}
+use Rattle.decimal.specs.Run.{behind-is, run-all, behind-all, front-of-all}
 use Rattle.chars.specs.Chars.{digit}
-use Rattle.decimal.specs.Grammar.{Parts, Sign, Sign.dash, Sign.nothing, Digits, Fraction, Fraction.no-point, Fraction.point, Power, Power.no-power, Power.power, Writes, Short}
-use Rattle.decimal.specs.Number.{has, past, has-same, past-same, past-has, past-not, decimalOf, noNumber, tooLong, judged, tailRows, shapeRows, partsOf, numberIn}
+use Rattle.decimal.specs.Grammar.{Parts, Sign, Sign.dash, Sign.nothing, Digits, Fraction, Fraction.no-point}
+use Rattle.decimal.specs.Grammar.{Fraction.point, Power, Power.no-power, Power.power, Writes, Short}
+use Rattle.decimal.specs.Number.{has, past, has-same, past-same, past-has, past-not, decimalOf, noNumber, tooLong}
+use Rattle.decimal.specs.Number.{judged, tailRows, shapeRows, partsOf, numberIn}
 
 -- ---- from the parts to the text: what is read is what was written
 

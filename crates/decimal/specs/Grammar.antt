@@ -1,5 +1,6 @@
--- The grammar of numbers in values (document 01, "Numbers in values"), as a relation between a text and its parts, with no order of reading:
--- "A minus or nothing; one or more digits; optionally a point with one or more digits; optionally E, a minus or nothing, one or more digits."
+-- The grammar of numbers in values (document 01, "Numbers in values"), as a relation between a text and its parts, with
+-- no order of reading: "A minus or nothing; one or more digits; optionally a point with one or more digits; optionally
+-- E, a minus or nothing, one or more digits."
 -- Assumes nothing.
 use mathlib.Core.Path.{_≡_}
 use mathlib.Core.Bool.{Bool, true, false}
@@ -10,7 +11,8 @@ use Rattle.refusal.specs.Rows.{pick}
 use Rattle.decimal.specs.Run.{All}
 use Rattle.chars.specs.Chars.{digit}
 
--- what a text's parts are: a minus, the digits before the point and behind it (none: no point), a minus behind E, and the digits there (none: no E)
+-- what a text's parts are: a minus, the digits before the point and behind it (none: no point), a minus behind E, and
+-- the digits there (none: no E)
 pub record Parts : Type 0 where
   pub minus : Bool
   pub whole : List ℕ

@@ -1,4 +1,5 @@
--- What never is a number: a text with any byte but digits, a point, a minus and E. The comma, the plus and the space are such bytes.
+-- What never is a number: a text with any byte but digits, a point, a minus and E. The comma, the plus and the space
+-- are such bytes.
 -- Assumes nothing.
 use mathlib.Core.Path.{_≡_, refl, sym, _∙_}
 use mathlib.Core.Bool.{Bool, true, false, _||_}
@@ -8,7 +9,8 @@ use native.Mathlib.Omega.{arith}
 use lib.Dec.{eqb}
 use Rattle.decimal.specs.Run.{All, all-append, all-among, all-weaker}
 use Rattle.chars.specs.Chars.{digit}
-use Rattle.decimal.specs.Grammar.{Parts, Sign, Sign.dash, Sign.nothing, Fraction, Fraction.no-point, Fraction.point, Power, Power.no-power, Power.power, Writes}
+use Rattle.decimal.specs.Grammar.{Parts, Sign, Sign.dash, Sign.nothing, Fraction, Fraction.no-point}
+use Rattle.decimal.specs.Grammar.{Fraction.point, Power, Power.no-power, Power.power, Writes}
 use Rattle.decimal.specs.Number.{noNumber, numberIn}
 use Rattle.decimal.specs.Agreed.{no-number}
 

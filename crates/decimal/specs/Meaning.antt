@@ -1,5 +1,5 @@
--- What an answer means: the coefficient is the digits as written, read by their places, and coefficient times ten to the power is the decimal value
--- that the parts write.
+-- What an answer means: the coefficient is the digits as written, read by their places, and coefficient times ten to
+-- the power is the decimal value that the parts write.
 -- Assumes nothing.
 use mathlib.Core.Path.{_≡_, refl, sym, subst, _∙_}
 use mathlib.Core.Bool.{Bool, true, false, _&&_}
@@ -17,7 +17,8 @@ use Rattle.decimal.specs.declared.Decimal.{Decimal}
 use Rattle.decimal.specs.declared.NumberAnswer.the-variants.{Is}
 use Rattle.decimal.specs.Run.{All}
 use Rattle.chars.specs.Chars.{digit}
-use Rattle.decimal.specs.Grammar.{Parts, Fraction, Fraction.no-point, Fraction.point, Power, Power.no-power, Power.power, Writes, placed, over, under}
+use Rattle.decimal.specs.Grammar.{Parts, Fraction, Fraction.no-point, Fraction.point, Power, Power.no-power}
+use Rattle.decimal.specs.Grammar.{Power.power, Writes, placed, over, under}
 use Rattle.decimal.specs.Number.{powerOf, decimalOf, numberIn}
 use Rattle.digits.specs.Value.{worth, worth-digit, value}
 use Rattle.decimal.specs.Agreed.{is-number}

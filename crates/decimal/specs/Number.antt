@@ -1,19 +1,16 @@
--- Numbers in values, as the number question answers them (document 01, "Numbers in values"): the text is read from the left in the longest runs,
--- and the answer is the first row that is met. `Grammar` says what a number is without any order of reading, and `Agreed` that the two agree.
+-- Numbers in values, as the number question answers them (document 01, "Numbers in values"): the text is read from the
+-- left in the longest runs, and the answer is the first row that is met. `Grammar` says what a number is without any
+-- order of reading, and `Agreed` that the two agree.
 -- Assumes nothing.
-use mathlib.Core.Path.{_≡_, refl, sym, ap, _∙_}
+use mathlib.Core.Path.{_≡_, refl}
 use mathlib.Core.Bool.{Bool, true, false, not, _&&_}
 use mathlib.Core.List.{List, [], _∷_}
-use Prim.Native.Nat.{ℕ, suc, _+_, _-_, _*_, _^_, _≤_, _<_}
-use native.Mathlib.Nat.{le-trans, le-of-eq, one-mul, mul-le-mul-right, mul-le-mul-left, pow-le-pow-right, mul-assoc, pow-succ', one-le-pow}
-use native.Mathlib.Numerals.{add-one}
+use Prim.Native.Nat.{ℕ, _+_, _-_, _≤_, _<_}
 use native.Mathlib.Omega.{arith}
 use lib.IntN.{ℤ, pos, negℤ, _-ℤ_}
-use lib.ListN.{length, getD, take, drop, drop-of-length-le}
-use lib.Pow.{pow-add}
-use lib.Seq.{drop-cons}
-use lib.Dec.{leb, ltb, eqb}
-use borrow.Author.Tests.{leb-true, lt-ltb, le-ltb, eq-eqb, ne-eqb}
+use lib.ListN.{length, getD, take, drop}
+use lib.Dec.{ltb, eqb}
+use borrow.Author.Tests.{lt-ltb, le-ltb, eq-eqb, ne-eqb}
 use Rattle.refusal.specs.Rows.{Rows, pick, first}
 use Rattle.refusal.specs.Table.{refusal}
 use Rattle.refusal.specs.declared.Rule.the-variants.{NoNumber, Digits}

@@ -1,13 +1,13 @@
--- Runs of digits, blanks and what is no blank: the bytes of a kind at the front of a text, and what is behind them. The laws hold for any kind.
+-- Runs of digits, blanks and what is no blank: the bytes of a kind at the front of a text, and what is behind them. The
+-- laws hold for any kind.
 -- Assumes nothing.
 use mathlib.Core.Path.{_≡_, refl, ap, _∙_}
-use mathlib.Core.Bool.{Bool, true, false, _&&_}
+use mathlib.Core.Bool.{Bool, true, false}
 use mathlib.Core.List.{List, [], _∷_, _++_}
 use Prim.Native.Nat.{ℕ, suc, _+_, _-_}
 use native.Mathlib.Omega.{arith}
 use lib.ListN.{length, take, drop, take-append-drop, length-drop}
 use lib.Seq.{length-take-le, take-length, take-all, drop-length, take-at, drop-at}
-use lib.Dec.{leb}
 use Rattle.refusal.specs.Rows.{pick}
 use Rattle.chars.specs.Runs.{run, Stops, run-le}
 

@@ -1,5 +1,6 @@
 // Numbers in values: a text as sign, coefficient and power of ten (document 01, "Numbers in values", rows 20 and 21).
-// Number has the walk and Grammar the rule, proved equal in Agreed; Meaning says what the answer is worth, Marks what is never a number. Stands on `text`, `word`, `refusal`.
+// Number has the walk and Grammar the rule, proved equal in Agreed; Meaning says what the answer is worth, Marks what
+// is never a number. Stands on `text`, `word`, `refusal`.
 // The rules in words: docs/FORMAT.md, "Numbers in values".
 use chars::Kind;
 use refusal::Refusal;
@@ -8,10 +9,11 @@ ghost use mathlib.Core.Path.{_≡_};
 ghost use Prim.Native.Nat.{_+_, _<_, _≤_};
 ghost use lib.ListN.{length, take, drop};
 ghost use Rattle.word.specs.Part.{PartOf, RestOf};
-ghost use Rattle.decimal.specs.Number.{has, past, signed, powerOf, partsAre, decimalOf, noNumber, tooLong, judged, tailOf, numberIn};
+ghost use Rattle.decimal.specs.Number.{has, past, signed, powerOf, partsAre, decimalOf, noNumber, tooLong};
+ghost use Rattle.decimal.specs.Number.{judged, tailOf, numberIn};
 
-// The answer to the number question: sign, coefficient as written and power of ten; zero has sign plus. (It is no `Number`: a struct and a function
-// of one module may not differ only in the case of their letters.)
+// The answer to the number question: sign, coefficient as written and power of ten; zero has sign plus. (It is no
+// `Number`: a struct and a function of one module may not differ only in the case of their letters.)
 pub struct Decimal {
     pub minus: bool,
     pub coefficient: u64,
@@ -23,7 +25,8 @@ pub enum NumberAnswer {
     Refused(Refusal),
 }
 
-// The first n bytes, or all where there are fewer; and what is behind them. Both are the caller's own bytes, not a copy.
+// The first n bytes, or all where there are fewer; and what is behind them. Both are the caller's own bytes, not a
+// copy.
 fn front(s: &[u8], n: usize) -> &[u8]
     ensures { λ r. ⌜ now r ≡ take n (now (s .entry)) ⌝ }
     ensures own { λ r. ⌜ PartOf (s .entry) (0, n) r ⌝ }
@@ -80,7 +83,8 @@ fn power(down: bool, e: u32, n: u32) -> i32
 // The number that the parts of a text make. Their digits are few enough: the coefficient fits 64 bits.
 fn made(minus: bool, whole: &[u8], decimals: &[u8], down: bool, exponent: &[u8]) -> Decimal
     requires { ⌜ (length (now whole) + length (now decimals) ≤ 18) × (length (now exponent) ≤ 2) ⌝ }
-    ensures { λ r. ⌜ r ≡ decimalOf (partsAre minus (now (whole .entry)) (now (decimals .entry)) down (now (exponent .entry))) ⌝ }
+    ensures { λ r. ⌜ r ≡ decimalOf (partsAre minus (now (whole .entry)) (now (decimals .entry)) down
+        (now (exponent .entry))) ⌝ }
 {
     let w = digits::value(0, whole);
     let c = digits::value(w, decimals);
@@ -106,10 +110,11 @@ fn too_long() -> NumberAnswer
     NumberAnswer::Refused(refusal::of_file(Rule::Digits, 0))
 }
 
-// The answer for the parts of a text that the grammar writes: a number, unless it has more than 18 digits before E, leading zeros counted, or more
-// than 2 after it. The counts are compared one by one, so that no sum of them can wrap.
+// The answer for the parts of a text that the grammar writes: a number, unless it has more than 18 digits before E,
+// leading zeros counted, or more than 2 after it. The counts are compared one by one, so that no sum of them can wrap.
 fn judged(minus: bool, whole: &[u8], decimals: &[u8], down: bool, exponent: &[u8]) -> NumberAnswer
-    ensures { λ r. ⌜ r ≡ judged (partsAre minus (now (whole .entry)) (now (decimals .entry)) down (now (exponent .entry))) ⌝ }
+    ensures { λ r. ⌜ r ≡ judged (partsAre minus (now (whole .entry)) (now (decimals .entry)) down
+        (now (exponent .entry))) ⌝ }
 {
     if 18 < whole.len() {
         return too_long();
@@ -144,8 +149,8 @@ fn tail(minus: bool, whole: &[u8], decimals: &[u8], x: &[u8]) -> NumberAnswer
     judged(minus, whole, decimals, has(z, b'-'), front(y, n))
 }
 
-// The number that a text is (document 01, "Numbers in values"): a comma, a plus, a space and any other byte end the reading, and what is left then
-// makes it no number.
+// The number that a text is (document 01, "Numbers in values"): a comma, a plus, a space and any other byte end the
+// reading, and what is left then makes it no number.
 pub fn number(text: &[u8]) -> NumberAnswer
     ensures { λ r. ⌜ r ≡ numberIn (now (text .entry)) ⌝ }
 {

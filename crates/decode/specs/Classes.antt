@@ -5,11 +5,13 @@
 use mathlib.Core.Path.{_≡_, refl, sym, ap, _∙_}
 use mathlib.Core.Bool.{Bool, true, false, cond}
 use Prim.Native.Nat.{ℕ, zero, suc, _+_, _-_, _*_, _/_, _%_, _^_, _≤_, _<_}
-use native.Mathlib.Nat.{mod-lt, mul-one, mul-assoc, mul-comm, mul-pos, mul-lt-mul-of-pos-right, mul-le-mul-right, lt-of-mul-lt-mul-right, le-trans, le-add-right, le-mul-of-pos-right, zero-lt-suc, zero-mul}
+use native.Mathlib.Nat.{mod-lt, mul-one, mul-assoc, mul-comm, mul-pos, mul-lt-mul-of-pos-right, mul-le-mul-right}
+use native.Mathlib.Nat.{lt-of-mul-lt-mul-right, le-trans, le-add-right, le-mul-of-pos-right, zero-lt-suc, zero-mul}
 use native.Mathlib.Omega.{arith, by-contra}
 use lib.Dec.{ltb, leb, eqb}
 use lib.Pow.{pow-pos, field}
-use lib.Ieee.{Float, nan, inf, fin, Format, binary32, binary64, prec, emax, low, up, down, odd, hid, ones, top, ofFields, ofBits}
+use lib.Ieee.{Float, nan, inf, fin, Format, binary32, binary64, prec, emax, low, up, down, odd, hid, ones, top}
+use lib.Ieee.{ofFields, ofBits}
 use lib.Ieee.Digits.{Equals, odd-val}
 use lib.Ieee.Fits.{up-pos, down-pos}
 use borrow.Author.Tests.{lt-ltb, le-ltb, ltb-true, ltb-false, ne-eqb}

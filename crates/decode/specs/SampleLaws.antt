@@ -16,7 +16,9 @@ use Rattle.word.specs.WordLaws.{word-take}
 use Rattle.sample.specs.Needed.{needed, width}
 use Rattle.word.specs.Put.{put}
 use Rattle.sample.specs.Run.{valuesFrom, run-same, run-map, run-of, Filling, fill-some, fill-end}
-use Rattle.decode.specs.Sample.{twos, ones, scaled, groupSample, patternOf, sampleOf, sampleEnd, integersAsked, integersThere, integersRead, classOf, bitsAsked, bitsThere, patternsRead, classesRead}
+use Rattle.decode.specs.Sample.{twos, ones, scaled, groupSample, patternOf, sampleOf, sampleEnd, integersAsked}
+use Rattle.decode.specs.Sample.{integersThere, integersRead, classOf, bitsAsked, bitsThere, patternsRead}
+use Rattle.decode.specs.Sample.{classesRead}
 
 -- ---- two's complement
 

@@ -11,7 +11,8 @@ ghost use Rattle.word.specs.Put.{put};
 ghost use Rattle.word.specs.Word.{wordAt};
 ghost use Rattle.sample.specs.Needed.{needed};
 ghost use Rattle.sample.specs.Run.{valuesFrom};
-ghost use Rattle.decode.specs.Sample.{twos, exponentIn, ones, scaled, groupSample, patternOf, sampleOf, sampleEnd, integersThere, integersRead};
+ghost use Rattle.decode.specs.Sample.{twos, exponentIn, ones, scaled, groupSample, patternOf, sampleOf};
+ghost use Rattle.decode.specs.Sample.{sampleEnd, integersThere, integersRead};
 ghost use Rattle.decode.specs.Sample.{classOf, bitsThere, patternsRead, classesRead};
 
 // The whole number of two bytes at a place.
@@ -163,7 +164,8 @@ fn sample3(block: &[u8], high: bool, i: usize) -> i32
 // The four samples of group g: all are at hand before one is stored, so that a compiler can work them out together.
 fn read_group(block: &[u8], high: bool, g: usize, row: &mut [i32])
     requires { ⌜ (10 * g + 10 ≤ length (now block)) × (4 * g + 4 ≤ length (now row)) ⌝ }
-    ensures { λ _. ⌜ now (row .exit) ≡ put (now (row .entry)) (4 * g) (valuesFrom (sampleOf 3 high (now (block .entry))) (4 * g) 4) ⌝ }
+    ensures { λ _. ⌜ now (row .exit) ≡ put (now (row .entry)) (4 * g) (valuesFrom
+        (sampleOf 3 high (now (block .entry))) (4 * g) 4) ⌝ }
 {
     let at = 10 * g;
     let exponents = word_at(block, high, at);
@@ -185,7 +187,8 @@ fn read_group(block: &[u8], high: bool, g: usize, row: &mut [i32])
 // settled when it is compiled, where the body of one loop for both is too long for the compiler to do so.
 fn read_low(block: &[u8], row: &mut [i32])
     requires { ⌜ (length (now row) % 4 ≡ 0) × (needed 3 (length (now row)) ≤ length (now block)) ⌝ }
-    ensures { λ _. ⌜ now (row .exit) ≡ valuesFrom (sampleOf 3 false (now (block .entry))) 0 (length (now (row .entry))) ⌝ }
+    ensures { λ _. ⌜ now (row .exit) ≡ valuesFrom (sampleOf 3 false (now (block .entry))) 0 (length (now (row .entry)))
+        ⌝ }
 {
     let count = row.len() / 4;
     let mut g = 0;
@@ -198,7 +201,8 @@ fn read_low(block: &[u8], row: &mut [i32])
 // High byte first.
 fn read_high(block: &[u8], row: &mut [i32])
     requires { ⌜ (length (now row) % 4 ≡ 0) × (needed 3 (length (now row)) ≤ length (now block)) ⌝ }
-    ensures { λ _. ⌜ now (row .exit) ≡ valuesFrom (sampleOf 3 true (now (block .entry))) 0 (length (now (row .entry))) ⌝ }
+    ensures { λ _. ⌜ now (row .exit) ≡ valuesFrom (sampleOf 3 true (now (block .entry))) 0 (length (now (row .entry)))
+        ⌝ }
 {
     let count = row.len() / 4;
     let mut g = 0;
@@ -279,7 +283,8 @@ fn class5(pattern: u64) -> u8
 // The patterns of code 4, and their classes.
 fn patterns4(block: &[u8], high: bool, row: &mut [u64])
     requires { ⌜ needed 4 (length (now row)) ≤ length (now block) ⌝ }
-    ensures { λ _. ⌜ now (row .exit) ≡ valuesFrom (patternOf 4 high (now (block .entry))) 0 (length (now (row .entry))) ⌝ }
+    ensures { λ _. ⌜ now (row .exit) ≡ valuesFrom (patternOf 4 high (now (block .entry))) 0 (length (now (row .entry)))
+        ⌝ }
 {
     let mut i = 0;
     while i < row.len() {
@@ -302,7 +307,8 @@ fn classes4(row: &[u64], classes: &mut [u8])
 // The same of code 5.
 fn patterns5(block: &[u8], high: bool, row: &mut [u64])
     requires { ⌜ needed 5 (length (now row)) ≤ length (now block) ⌝ }
-    ensures { λ _. ⌜ now (row .exit) ≡ valuesFrom (patternOf 5 high (now (block .entry))) 0 (length (now (row .entry))) ⌝ }
+    ensures { λ _. ⌜ now (row .exit) ≡ valuesFrom (patternOf 5 high (now (block .entry))) 0 (length (now (row .entry)))
+        ⌝ }
 {
     let mut i = 0;
     while i < row.len() {
@@ -325,9 +331,12 @@ fn classes5(row: &[u64], classes: &mut [u8])
 // Fills the row with the patterns of code 4, and `classes` with their classes. Where the two differ in length, or the
 // block is too short: false, and nothing is written.
 pub fn read4(block: &[u8], high: bool, row: &mut [u64], classes: &mut [u8]) -> bool
-    ensures answer { λ r. ⌜ r ≡ bitsThere 4 (length (now (row .entry))) (length (now (classes .entry))) (now (block .entry)) ⌝ }
-    ensures filled { λ _. ⌜ now (row .exit) ≡ patternsRead 4 high (now (block .entry)) (now (row .entry)) (now (classes .entry)) ⌝ }
-    ensures classed { λ _. ⌜ now (classes .exit) ≡ classesRead 4 high (now (block .entry)) (now (row .entry)) (now (classes .entry)) ⌝ }
+    ensures answer { λ r. ⌜ r ≡ bitsThere 4 (length (now (row .entry))) (length (now (classes .entry)))
+        (now (block .entry)) ⌝ }
+    ensures filled { λ _. ⌜ now (row .exit) ≡ patternsRead 4 high (now (block .entry)) (now (row .entry))
+        (now (classes .entry)) ⌝ }
+    ensures classed { λ _. ⌜ now (classes .exit)
+        ≡ classesRead 4 high (now (block .entry)) (now (row .entry)) (now (classes .entry)) ⌝ }
 {
     if classes.len() != row.len() {
         return false;
@@ -342,9 +351,12 @@ pub fn read4(block: &[u8], high: bool, row: &mut [u64], classes: &mut [u8]) -> b
 
 // The same of code 5. The order is settled outside of the loop, whose body is too long for the compiler to do so.
 pub fn read5(block: &[u8], high: bool, row: &mut [u64], classes: &mut [u8]) -> bool
-    ensures answer { λ r. ⌜ r ≡ bitsThere 5 (length (now (row .entry))) (length (now (classes .entry))) (now (block .entry)) ⌝ }
-    ensures filled { λ _. ⌜ now (row .exit) ≡ patternsRead 5 high (now (block .entry)) (now (row .entry)) (now (classes .entry)) ⌝ }
-    ensures classed { λ _. ⌜ now (classes .exit) ≡ classesRead 5 high (now (block .entry)) (now (row .entry)) (now (classes .entry)) ⌝ }
+    ensures answer { λ r. ⌜ r ≡ bitsThere 5 (length (now (row .entry))) (length (now (classes .entry)))
+        (now (block .entry)) ⌝ }
+    ensures filled { λ _. ⌜ now (row .exit) ≡ patternsRead 5 high (now (block .entry)) (now (row .entry))
+        (now (classes .entry)) ⌝ }
+    ensures classed { λ _. ⌜ now (classes .exit)
+        ≡ classesRead 5 high (now (block .entry)) (now (row .entry)) (now (classes .entry)) ⌝ }
 {
     if classes.len() != row.len() {
         return false;
@@ -364,9 +376,12 @@ pub fn read5(block: &[u8], high: bool, row: &mut [u64], classes: &mut [u8]) -> b
 
 // Bits by the code: false for a code of integers, and for what is no code.
 pub fn read_bits(code: u8, block: &[u8], high: bool, row: &mut [u64], classes: &mut [u8]) -> bool
-    ensures answer { λ r. ⌜ r ≡ bitsThere code (length (now (row .entry))) (length (now (classes .entry))) (now (block .entry)) ⌝ }
-    ensures filled { λ _. ⌜ now (row .exit) ≡ patternsRead code high (now (block .entry)) (now (row .entry)) (now (classes .entry)) ⌝ }
-    ensures classed { λ _. ⌜ now (classes .exit) ≡ classesRead code high (now (block .entry)) (now (row .entry)) (now (classes .entry)) ⌝ }
+    ensures answer { λ r. ⌜ r ≡ bitsThere code (length (now (row .entry))) (length (now (classes .entry)))
+        (now (block .entry)) ⌝ }
+    ensures filled { λ _. ⌜ now (row .exit) ≡ patternsRead code high (now (block .entry)) (now (row .entry))
+        (now (classes .entry)) ⌝ }
+    ensures classed { λ _. ⌜ now (classes .exit)
+        ≡ classesRead code high (now (block .entry)) (now (row .entry)) (now (classes .entry)) ⌝ }
 {
     match code {
         4 => read4(block, high, row, classes),

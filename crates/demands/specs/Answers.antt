@@ -1,9 +1,9 @@
--- Demand 1: "every call ends with an answer for all bytes and all numbers given to it; input that meets rows of the refusal table gets the first of them in
--- its order, with its place; no other input is refused, and after a refusal no byte or sample of the caller's buffers has changed." The rows of each call are
--- lists (FileRows, QuestionRows, WriterRows), and each answer is a value of its definition for all arguments, so there always is one.
+-- Demand 1: "every call ends with an answer for all bytes and all numbers given to it; input that meets rows of the
+-- refusal table gets the first of them in its order, with its place; no other input is refused, and after a refusal no
+-- byte or sample of the caller's buffers has changed." The rows of each call are lists (FileRows, QuestionRows,
+-- WriterRows), and each answer is a value of its definition for all arguments, so there always is one.
 -- Assumes nothing.
 use mathlib.Core.Path.{_≡_, refl, sym, ap, _∙_}
-use mathlib.Core.Bool.{Bool}
 use mathlib.Core.List.{List}
 use mathlib.Core.Logic.{_↔_}
 use Prim.Native.Nat.{ℕ}
@@ -30,7 +30,8 @@ use Rattle.demands.specs.FileRows.{checkRows, check-answers-first}
 use Rattle.demands.specs.QuestionRows.{integersAskedRows, bitsAskedRows, integers-answer-first, bits-answer-first}
 use Rattle.demands.specs.WriterRows.{startRows, addRows, start-answers-first, addition-answers-first}
 
--- ---- "input that meets rows of the refusal table gets the first of them in its order, with its place; no other input is refused"
+-- ---- "input that meets rows of the refusal table gets the first of them in its order, with its place; no other input
+-- is refused"
 
 -- Rules out a check that refuses what keeps the rules, or that accepts what breaks one.
 pub check-refuses-by-the-first : (purpose : Purpose) (xs : List ℕ) (n : ℕ) (r : Refusal) → (checkOf Strict purpose xs n ≡ Refused r) ↔ Met (checkRows Strict purpose xs n) r
@@ -92,7 +93,8 @@ bits-refused-by-the-first xs n z s c r = rw (bits-answer-first Strict xs n z s c
 pub bits-accepted-where-none : (xs : List ℕ) (n : ℕ) (z : ℤ) (s c : ℕ) → (bitsAnswer Strict xs n z s c ≡ Accepted) ↔ NoneMet (bitsAskedRows Strict xs n z s c)
 bits-accepted-where-none xs n z s c = rw (bits-answer-first Strict xs n z s c) (accepted-where-none-is-met (bitsAskedRows Strict xs n z s c))
 
--- ---- "after a refusal no byte or sample of the caller's buffers has changed". Check and questions on blocks, strings and numbers are lent no memory that
+-- ---- "after a refusal no byte or sample of the caller's buffers has changed". Check and questions on blocks, strings
+-- and numbers are lent no memory that
 -- they may change. Rules out a writer that stores before its last row, and a reader that fills a row in part.
 
 pub refused-start-changes-nothing : (xs : List ℕ) (order slots : ℕ) (sheet : List ℕ) (r : Refusal) → startAnswer xs order slots sheet ≡ written.Refused r

@@ -1,9 +1,9 @@
--- Document 01, "What a caller may rely on": "Try these against the promises: a reader that refuses all files, or answers the same for all (demand 2 excludes
--- both); a start or an addition that refuses every list (1); an addition that writes nothing yet answers a length (2 and 3); one that writes the first trace
--- and later only raises N (3); invented N, S or length (2)." Each is excluded here, by a corollary of that name.
+-- Document 01, "What a caller may rely on": "Try these against the promises: a reader that refuses all files, or
+-- answers the same for all (demand 2 excludes both); a start or an addition that refuses every list (1); an addition
+-- that writes nothing yet answers a length (2 and 3); one that writes the first trace and later only raises N (3);
+-- invented N, S or length (2)." Each is excluded here, by a corollary of that name.
 -- Assumes nothing.
 use mathlib.Core.Path.{_≡_, refl, sym, ap, _∙_}
-use mathlib.Core.Bool.{false}
 use mathlib.Core.List.{List, [], _∷_}
 use Prim.Native.Nat.{ℕ, _+_, _*_, _≤_, _<_}
 use native.Mathlib.Omega.{arith}
@@ -40,7 +40,8 @@ use Rattle.afresh.specs.FileOf.{sizes, fileSize}
 use Rattle.afresh.specs.Calls.{after, answersOf, acceptedOf, start-grows, calls-afresh}
 use Rattle.afresh.specs.Stands.{emptyTrace, file-traces}
 use Rattle.afresh.specs.FileLaws.{file-fronted}
-use Rattle.afresh.specs.Afresh.{lengths, start-accepted, none-refused, written-afresh, afresh-accepted, accepted-writable}
+use Rattle.afresh.specs.Afresh.{lengths, start-accepted, none-refused, written-afresh, afresh-accepted}
+use Rattle.afresh.specs.Afresh.{accepted-writable}
 use Rattle.afresh.specs.Worked.{units, shot, worked-sizes, worked-good, worked-writable}
 use Rattle.demands.specs.ListReads.{list-file-block}
 use Rattle.demands.specs.GoodLists.{GoodList, writable-is-good, good-is-writable}
@@ -68,7 +69,8 @@ not-all-files-refused xs order slots sheet ts g some =
       list-file-block h (w .some) (w .measures) (omega arith) some,
     )
 
--- such lists are there: document 01's own file ("pointer 56, B 44, D 8, length 108"), and one with two slots and that trace twice
+-- such lists are there: document 01's own file ("pointer 56, B 44, D 8, length 108"), and one with two slots and that
+-- trace twice
 two-sizes : fileSize 2 units (shot ∷ shot ∷ []) ≡ 164
 unfolding startSize areaSize sheetStrings sheetLines sheetLinesFrom lineLen lineKeyLen run joined same textSize room needed count fileSize sizes
 two-sizes = refl
@@ -118,7 +120,8 @@ a-list-is-written xs h =
     let t : traceSize nul lineFeed shot ≡ 52 = omega (arith, worked-sizes .1, worked-sizes .2) in
     (rw s at (r .0), (rw (s, t) at (r .1)))
 
--- ---- "an addition that writes nothing yet answers a length": where a length is answered N is one more, and the buffer is not what it was
+-- ---- "an addition that writes nothing yet answers a length": where a length is answered N is one more, and the buffer
+-- is not what it was
 
 pub an-addition-writes : (xs : List ℕ) (n : ℕ) (x : Trace) (end : ℕ) → Bytes xs → addAnswer xs n x ≡ To end
     → (countOf (take end (addLeft xs n x)) ≡ countOf (take n xs) + 1) × (addLeft xs n x ≡ xs → ⊥)
@@ -133,7 +136,8 @@ an-addition-writes xs n x end by to =
           omega arith),
     )
 
--- ---- "one that writes the first trace and later only raises N": after any calls each accepted trace stands in the image, with all its bytes, at its own place
+-- ---- "one that writes the first trace and later only raises N": after any calls each accepted trace stands in the
+-- image, with all its bytes, at its own place
 
 pub every-trace-is-written : (xs : List ℕ) (order slots : ℕ) (sheet : List ℕ) (e : ℕ) → startAnswer xs order slots sheet ≡ To e → (calls : List Trace) (k : ℕ)
     → k < length (acceptedOf (startLeft xs order slots sheet) e calls)
@@ -160,7 +164,8 @@ pub numbers-are-the-files : (f : List ℕ) (k : ℕ)
 unfolding fileBlockOf countOf roomOf traceBlockOf pointerOf blockSize dataSize sampleCount formatCode
 numbers-are-the-files f k = (refl, refl, refl, refl, refl, refl, refl)
 
--- what the writers put there is the list's: N the number of accepted traces, and the length where the last one's D bytes end
+-- what the writers put there is the list's: N the number of accepted traces, and the length where the last one's D
+-- bytes end
 pub count-is-the-lists : (xs : List ℕ) (order slots : ℕ) (sheet : List ℕ) (e : ℕ) → startAnswer xs order slots sheet ≡ To e → (calls : List Trace)
     → (countOf (take (after (startLeft xs order slots sheet) e calls .1) (after (startLeft xs order slots sheet) e calls .0))
     ≡ length (acceptedOf (startLeft xs order slots sheet) e calls))

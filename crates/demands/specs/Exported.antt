@@ -1,15 +1,16 @@
--- Demand 2 as a caller in another language sees it: "the value as the caller's own bytes, not a copy" leaves the library as a start and a length (face/Face), and
--- the bytes there, in the caller's own buffer, are those of the list of strings that the part spells.
+-- Demand 2 as a caller in another language sees it: "the value as the caller's own bytes, not a copy" leaves the
+-- library as a start and a length (face/Face), and the bytes there, in the caller's own buffer, are those of the list
+-- of strings that the part spells.
 -- Assumes nothing.
-use mathlib.Core.Path.{_≡_, refl, sym, ap, _∙_}
+use mathlib.Core.Path.{_≡_, refl, sym, _∙_}
 use mathlib.Core.Bool.{Bool, true, false}
-use mathlib.Core.List.{List, []}
-use Prim.Native.Nat.{ℕ, _+_, _-_, _≤_, _<_}
+use mathlib.Core.List.{List}
+use Prim.Native.Nat.{ℕ, _-_, _≤_, _<_}
 use native.Mathlib.Omega.{arith}
 use lib.IntN.{ℤ}
 use lib.ListN.{length, take, drop}
 use Rattle.text.specs.declared.Manner.the-variants.{Strict}
-use Rattle.word.specs.Part.{part, part-take}
+use Rattle.word.specs.Part.{part-take}
 use Rattle.refusal.specs.Rows.{pick}
 use Rattle.strings.specs.declared.Place.{Place}
 use Rattle.strings.specs.Strings.{keyIn, valueIn}
@@ -44,7 +45,8 @@ yes-or-no string.Absent w e = (refl, λ h. (refl, refl))
 yes-or-no (string.Refused r) true e = absurd (let z : _≡_ {A = ℕ} 0 1 = cc in omega arith)
 yes-or-no (string.Refused r) false e = absurd (let z : _≡_ {A = ℕ} 0 1 = cc in omega arith)
 
--- Rules out a start or a length that is off, or that points into another string. Without the keyword it is "the empty part at the start of the lent buffer".
+-- Rules out a start or a length that is off, or that points into another string. Without the keyword it is "the empty
+-- part at the start of the lent buffer".
 pub exported-value-is-the-lists : (xs : List ℕ) (n : ℕ) (z : ℤ) (ss : List Str) → AnswersBy xs n z ss → (key : List ℕ)
     → (bytesFrom (asValue (findAnswer Strict xs n z key) .«value_start») (asValue (findAnswer Strict xs n z key) .«value_length») xs ≡ valueOfKey Strict ss key)
     × (asValue (findAnswer Strict xs n z key) .number ≡ 0)

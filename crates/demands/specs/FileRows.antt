@@ -1,6 +1,7 @@
--- Demand 1, the check. "every call ends with an answer for all bytes and all numbers given to it; input that meets rows of the refusal table gets the first
--- of them in its order, with its place": rows 1 to 17 of an image, in document 01's order ("1 to 7 first, then the first pointer, then the file's strings,
--- then each trace 8 to 17. Strings are taken one by one, 14 to 17 each"), are one list, and the check answers the first of it that is met.
+-- Demand 1, the check. "every call ends with an answer for all bytes and all numbers given to it; input that meets rows
+-- of the refusal table gets the first of them in its order, with its place": rows 1 to 17 of an image, in document 01's
+-- order ("1 to 7 first, then the first pointer, then the file's strings, then each trace 8 to 17. Strings are taken one
+-- by one, 14 to 17 each"), are one list, and the check answers the first of it that is met.
 -- Assumes nothing.
 use mathlib.Core.Path.{_≡_, refl, sym, ap, ap₂, _∙_}
 use mathlib.Core.Bool.{Bool, true, false, not}
@@ -10,30 +11,33 @@ use lib.ListN.{length, take, drop}
 use lib.IntN.{ℤ, pos, negsuc}
 use lib.Dec.{eqb}
 use Rattle.word.specs.Part.{part}
-use Rattle.refusal.specs.declared.Rule.{Rule}
 use Rattle.refusal.specs.declared.Rule.the-variants.{Length, Pointer, StringOffset}
 use Rattle.refusal.specs.declared.Part.{Part}
 use Rattle.refusal.specs.declared.Part.the-variants.{File, Trace}
 use Rattle.refusal.specs.declared.Verdict.{Verdict}
 use Rattle.refusal.specs.declared.Verdict.the-variants.{Accepted, Refused}
 use Rattle.refusal.specs.Table.{refusal, numberOf, partOf}
-use Rattle.refusal.specs.Rows.{Rows, pick, ruled, ruled-map}
+use Rattle.refusal.specs.Rows.{Rows, pick, ruled-map}
 use Rattle.refusal.specs.Verdicts.{andThen}
-use Rattle.refusal.specs.FirstRow.{row, firstOf, first-nothing, first-one, first-row, first-more, flat, EachFirst, first-flat, rowsAt, rule-first, each, Refuses, first-each}
+use Rattle.refusal.specs.FirstRow.{row, firstOf, first-nothing, first-one, first-row, first-more, flat, first-flat}
+use Rattle.refusal.specs.FirstRow.{rowsAt, rule-first, each, Refuses, first-each}
 use Rattle.text.specs.declared.Manner.{Manner}
 use Rattle.text.specs.Manner.{openEnd}
 use Rattle.strings.specs.declared.Frame.{Frame}
 use Rattle.strings.specs.declared.Frame.the-variants.{End, Broken, Text}
 use Rattle.strings.specs.declared.Judged.{Judged}
 use Rattle.strings.specs.declared.Judged.the-variants.{Keyword, Wrong}
-use Rattle.strings.specs.Strings.{offset, body, keyLen, frameRows, endOrText, frameOf, textRows, judgedOf, onJudged, onFrame, stepOf, onStep, stringsFrom, stringsOf}
+use Rattle.strings.specs.Strings.{offset, body, keyLen, frameRows, endOrText, frameOf, textRows, judgedOf, onJudged}
+use Rattle.strings.specs.Strings.{onFrame, stepOf, onStep, stringsFrom, stringsOf}
 use Rattle.head.specs.declared.Purpose.{Purpose}
 use Rattle.head.specs.Head.{highFirst, roomOf, countOf, stringEnd, lineEnd, headRows, headOf}
 use Rattle.block.specs.Block.{pointerOf, blockSize, endAt, badPointer, pointerRow, blockRows, blockOf}
 use Rattle.block.specs.BlockLaws.{headAt}
-use Rattle.image.specs.Image.{areaVerdict, traceChecks, traceOf, tracesFrom, filledChecks, restOf, imageOf, badLength, checkOf}
+use Rattle.image.specs.Image.{areaVerdict, traceChecks, traceOf, tracesFrom, filledChecks, restOf, imageOf, badLength}
+use Rattle.image.specs.Image.{checkOf}
 
--- ---- the strings of an area, from one at the place `at` on: 14 and 15 (`frameRows` of `strings`), 16 and 17 (`textRows`), and then the next string's.
+-- ---- the strings of an area, from one at the place `at` on: 14 and 15 (`frameRows` of `strings`), 16 and 17
+-- (`textRows`), and then the next string's.
 -- "Offset 0 ends the list". `how` is the manner of reading
 unfoldable pub stringRows : Manner → ℕ → Bool → List ℕ → List ℕ → Part → List ℕ → List ℕ → ℕ → List Verdict
 stringRows how zero high t u p prev l at = row (not (openEnd how)) StringOffset p at ∷ []
@@ -140,7 +144,8 @@ traces-first how high t u f (suc left) k prev =
     ap₂ andThen (trace-first how high t u f k prev) (traces-first how high t u f left (k + 1) e)
     ∙ sym (first-more (flat (oneTraceRows how high t u f k prev)) (tracesRows how high t u f left (k + 1) e))
 
--- ---- an image: 2 to 7 (`headRows` of `head`), "then the first pointer, then the file's strings, then each trace"; "With N=0 the file's strings run to the
+-- ---- an image: 2 to 7 (`headRows` of `head`), "then the first pointer, then the file's strings, then each trace";
+-- "With N=0 the file's strings run to the
 -- image's end", which only an addition takes
 abbrev pub filledRows : Manner → Bool → List ℕ → List ℕ → List ℕ → ℕ → ℕ → List (List Verdict)
 filledRows how high t u f m n =
@@ -186,7 +191,8 @@ image-first how purpose f =
     ap₂ andThen (head-first purpose (take 32 f) (length f)) (rest-first how (highFirst f) (stringEnd f) (lineEnd f) f (roomOf f) (countOf f))
     ∙ sym (first-more (each (headRows purpose (take 32 f) (length f))) (restRows how (highFirst f) (stringEnd f) (lineEnd f) f (roomOf f) (countOf f)))
 
--- the check answers the first row met. Rules out a check that stops early, takes the rows in another order, or gives another part or place.
+-- the check answers the first row met. Rules out a check that stops early, takes the rows in another order, or gives
+-- another part or place.
 pub check-answers-first : (how : Manner) (purpose : Purpose) (xs : List ℕ) (n : ℕ) → checkOf how purpose xs n ≡ firstOf (checkRows how purpose xs n)
 unfolding checkOf
 check-answers-first how purpose xs n =
@@ -196,7 +202,8 @@ check-answers-first how purpose xs n =
         ≡ firstOf (row w Length File 0 ∷ imageRows how purpose (take n xs))
     go w = sym (first-row w Length File 0 (imageRows how purpose (take n xs)))
 
--- ---- numbers, parts and places of rows 2 to 7 and of 9 to 13, as the table has them; the block of the trace k begins at p
+-- ---- numbers, parts and places of rows 2 to 7 and of 9 to 13, as the table has them; the block of the trace k begins
+-- at p
 
 abbrev pub numbered : Rows Verdict → List (ℕ × ℤ × ℕ)
 numbered [] = []

@@ -1,41 +1,44 @@
--- The lists that can be written, in document 01's words alone and without the writers' verdicts ("What we write", rows 24 to 31): the start's inputs, sheets as
--- lists of lines, samples as their codes hold them, and the file that the list defines, which has to fit. Theorem: these are exactly the lists of which no call is
--- refused (`Writable` of afresh says the same by the writers' own tests).
+-- The lists that can be written, in document 01's words alone and without the writers' verdicts ("What we write", rows
+-- 24 to 31): the start's inputs, sheets as lists of lines, samples as their codes hold them, and the file that the list
+-- defines, which has to fit. Theorem: these are exactly the lists of which no call is refused (`Writable` of afresh
+-- says the same by the writers' own tests).
 -- Assumes nothing.
-use mathlib.Core.Path.{_≡_, refl, sym, ap, _∙_}
+use mathlib.Core.Path.{_≡_, refl, ap, _∙_}
 use mathlib.Core.Bool.{Bool, true, false}
 use mathlib.Core.List.{List, [], _∷_}
 use mathlib.Core.Logic.{_↔_}
-use Prim.Native.Nat.{ℕ, zero, suc, _+_, _*_, _%_, _≤_, _<_}
+use Prim.Native.Nat.{ℕ, zero, suc, _+_, _%_, _≤_, _<_}
 use native.Mathlib.Omega.{arith}
 use lib.IntN.{ℤ, pos, negsuc, natAbs}
 use lib.Signed.{mag}
 use lib.ListN.{length, getD}
-use lib.Dec.{ltb, leb, eqb}
+use lib.Dec.{eqb}
 use borrow.Author.Tests.{lt-leb, le-ltb, leb-false, eq-eqb, eqb-true}
 use Rattle.word.specs.Tests.{never}
 use Rattle.word.specs.Round.{round4}
 use Rattle.encode.specs.declared.Fit.the-variants.{All}
-use Rattle.encode.specs.Unfit.{firstFrom, outside, unfitInteger, unfitPattern, unfitIntegers, unfitPatterns, all-good, first-none}
+use Rattle.encode.specs.Unfit.{firstFrom, outside, unfitInteger, unfitPattern, unfitIntegers, unfitPatterns, all-good}
 use Rattle.encode.specs.Back.{reach, fit-reach}
-use Rattle.sheet.specs.declared.Measured.the-variants.{Size}
 use Rattle.sheet.specs.Lines.{Line}
-use Rattle.sheet.specs.Area.{joined, sheetStrings, textSize, areaOf, areaSize}
+use Rattle.sheet.specs.Area.{areaMost, joined, sheetStrings, textSize, areaOf, areaSize}
 use Rattle.sheet.specs.Sizes.{length-area}
 use Rattle.sheet.specs.Paper.{sheetOf, GoodLines, accepted-lines, lines-read}
 use Rattle.area.specs.Spelling.{measured-size, good-measured}
-use Rattle.layout.specs.Layout.{nul, lineFeed, Trace, Samples, Samples.integers, Samples.patterns, fitting, unfit}
-use Rattle.afresh.specs.FileOf.{fileOf, fileSize, Measures, Good, EachGood}
+use Rattle.layout.specs.Layout.{slotsMost, nul, lineFeed, Trace, Samples, Samples.integers, Samples.patterns, fitting}
+use Rattle.layout.specs.Layout.{unfit}
+use Rattle.afresh.specs.FileOf.{fileOf, Measures, Good, EachGood}
 use Rattle.afresh.specs.FileLaws.{length-file}
 use Rattle.afresh.specs.Afresh.{Writable}
+use Rattle.head.specs.Head.{maximum}
 
--- ---- "Strings come as a sheet, lines of text ended by 0Ah: keyword (as above), tab, value"; "An area is at most 65,500 bytes"
+-- ---- "Strings come as a sheet, lines of text ended by 0Ah: keyword (as above), tab, value"; "An area is at most
+-- 65,500 bytes"
 
 pub record GoodSheet (sheet : List ℕ) : Type 0 where
   pub lines : List Line
   pub bytes : sheet ≡ sheetOf lines
   pub good : GoodLines [] lines
-  pub small : length (areaOf false nul lineFeed sheet) ≤ 65500
+  pub small : length (areaOf false nul lineFeed sheet) ≤ areaMost
 
 sheet-good : (sheet : List ℕ) → Measures sheet → GoodSheet sheet
 sheet-good sheet m =
@@ -50,7 +53,7 @@ sheet-measured sheet g =
     let ls = g .lines in
     let a : length (areaOf false nul lineFeed (sheetOf ls)) ≡ round4 (textSize nul (joined lineFeed ls)) =
     length-area false nul lineFeed (sheetOf ls) ∙ ap (λ (ms : List Line). round4 (textSize nul (joined lineFeed ms))) (lines-read [] ls (g .good)) in
-    let s : length (areaOf false nul lineFeed (sheetOf ls)) ≤ 65500 = rw (g .bytes) at (g .small) in
+    let s : length (areaOf false nul lineFeed (sheetOf ls)) ≤ areaMost = rw (g .bytes) at (g .small) in
     let m = good-measured nul lineFeed ls (g .good) (omega arith) in
     (round4 (textSize nul (joined lineFeed ls)), rw (g .bytes) (m .0))
 
@@ -137,17 +140,17 @@ abbrev pub GoodTraces : List Trace → Type 0
 GoodTraces [] = Unit {0}
 GoodTraces (x ∷ ts) = GoodTrace x × GoodTraces ts
 
--- "Starting takes byte order (0 low first, 1 high first), pointer slots and the file's sheet": 1 to 16,383 slots, no more traces than slots, and the file that the
--- list defines within the buffer and the maximum
+-- "Starting takes byte order (0 low first, 1 high first), pointer slots and the file's sheet": 1 to 16,383 slots, no
+-- more traces than slots, and the file that the list defines within the buffer and the maximum
 pub record GoodList (xs : List ℕ) (order slots : ℕ) (sheet : List ℕ) (ts : List Trace) : Type 0 where
   pub either : order ≤ 1
   pub some : 1 ≤ slots
-  pub few : slots ≤ 16383
+  pub few : slots ≤ slotsMost
   pub strings : GoodSheet sheet
   pub traces : GoodTraces ts
   pub slotted : length ts ≤ slots
   pub fits : length (fileOf (eqb order 1) slots sheet ts) ≤ length xs
-  pub most : length (fileOf (eqb order 1) slots sheet ts) ≤ 67108864
+  pub most : length (fileOf (eqb order 1) slots sheet ts) ≤ maximum
 
 trace-good : (x : Trace) → Good x → GoodTrace x
 trace-good x g = record { strings = sheet-good (x .sheet) (g .measures); samples = held (x .code) (x .samples) (g .kind) (g .held) }

@@ -1,10 +1,10 @@
--- Demand 3: "Start a file and add traces one at a time, each call given the bytes and the length that the calls before it left: after each accepted addition
--- the file is, byte for byte, the one that the whole list of accepted traces defines when written afresh; on any accepted file, ours or another maker's, and on
--- any image with N=0, an accepted addition changes only the trace count, one free pointer and the bytes from the old end to the new end; the file's strings
--- and every earlier trace read as before and the new one reads last."
+-- Demand 3: "Start a file and add traces one at a time, each call given the bytes and the length that the calls before
+-- it left: after each accepted addition the file is, byte for byte, the one that the whole list of accepted traces
+-- defines when written afresh; on any accepted file, ours or another maker's, and on any image with N=0, an accepted
+-- addition changes only the trace count, one free pointer and the bytes from the old end to the new end; the file's
+-- strings and every earlier trace read as before and the new one reads last."
 -- Assumes nothing.
 use mathlib.Core.Path.{_≡_, refl, sym, _∙_}
-use mathlib.Core.Bool.{Bool, false}
 use mathlib.Core.List.{List, [], _∷_, _++_}
 use mathlib.Core.Logic.{_⊎_}
 use Prim.Native.Nat.{ℕ, _+_, _-_, _*_, _≤_, _<_}
@@ -26,11 +26,13 @@ use Rattle.head.specs.Head.{highFirst, roomOf, countOf, stringEnd, lineEnd}
 use Rattle.image.specs.Image.{checkOf}
 use Rattle.image.specs.Keeps.{stringsEnd}
 use Rattle.head.specs.declared.FileAnswer.the-variants as file
-use Rattle.reader.specs.Questions.{fileAnswer, traceAnswer, countAnswer, nthAnswer, findAnswer, keywordAnswer, valueAnswer, numberAnswer, doubleAnswer, locationAnswer, integersAnswer, bitsAnswer, integersLeft, patternsLeft, classesLeft}
+use Rattle.reader.specs.Questions.{fileAnswer, traceAnswer, countAnswer, nthAnswer, findAnswer, keywordAnswer}
+use Rattle.reader.specs.Questions.{valueAnswer, numberAnswer, doubleAnswer, locationAnswer, integersAnswer, bitsAnswer}
+use Rattle.reader.specs.Questions.{integersLeft, patternsLeft, classesLeft}
 use Rattle.start.specs.declared.Written.{Written}
 use Rattle.start.specs.declared.Written.the-variants as written
 use Rattle.start.specs.declared.Written.the-variants.{To}
-use Rattle.layout.specs.Layout.{startSize, Trace, traceBytes}
+use Rattle.layout.specs.Layout.{slotsMost, startSize, Trace, traceBytes}
 use Rattle.start.specs.Start.{startAnswer, startLeft}
 use Rattle.append.specs.Grown.{newBytes}
 use Rattle.writer.specs.Answers.{addAnswer, addLeft}
@@ -45,13 +47,16 @@ use Rattle.growth.specs.StillRead as still
 use Rattle.growth.specs.AllBytes.{grown-are-bytes, start-are-bytes}
 use Rattle.afresh.specs.FileOf.{fileOf, fileSize, AllGood}
 use Rattle.afresh.specs.Step.{Holds, start-afresh, add-afresh}
-use Rattle.afresh.specs.Calls.{after, answersOf, acceptedOf, after-to, after-refused, after-accepted, start-grows, calls-afresh}
+use Rattle.afresh.specs.Calls.{after, answersOf, acceptedOf, after-to, after-refused, after-accepted, start-grows}
+use Rattle.afresh.specs.Calls.{calls-afresh}
 use Rattle.afresh.specs.Afresh.{lengths, none-refused, image-afresh, accepted-writable}
 use Rattle.demands.specs.GoodLists.{GoodList, writable-is-good, good-is-writable}
 
--- ---- "after each accepted addition the file is, byte for byte, the one that the whole list of accepted traces defines when written afresh": `after` are the
--- buffer and the length that the calls leave, `acceptedOf` the traces whose call answered a length. For every list of calls, so after each. Rules out an
--- addition that writes the first trace and later only raises N, and one that a refused call in between disturbs.
+-- ---- "after each accepted addition the file is, byte for byte, the one that the whole list of accepted traces defines
+-- when written afresh": `after` are the
+-- buffer and the length that the calls leave, `acceptedOf` the traces whose call answered a length. For every list of
+-- calls, so after each. Rules out an addition that writes the first trace and later only raises N, and one that a
+-- refused call in between disturbs.
 
 pub byte-for-byte : (xs : List ℕ) (order slots : ℕ) (sheet : List ℕ) (e : ℕ) → startAnswer xs order slots sheet ≡ To e → (calls : List Trace)
     → (take (after (startLeft xs order slots sheet) e calls .1) (after (startLeft xs order slots sheet) e calls .0)
@@ -64,8 +69,9 @@ pub past-the-image-nothing-changes : (xs : List ℕ) (order slots : ℕ) (sheet 
     → drop (after (startLeft xs order slots sheet) e calls .1) (after (startLeft xs order slots sheet) e calls .0) ≡ drop (after (startLeft xs order slots sheet) e calls .1) xs
 past-the-image-nothing-changes xs order slots sheet e to calls = start-grows xs order slots sheet e to calls .past
 
--- the image may also be copied into another buffer between two calls: `Made` has the images that calls hand on, each call with a buffer of its own that holds
--- the image at its start and has any bytes behind it. (A refused call leaves its buffer as it was, so it hands on the image that it got.)
+-- the image may also be copied into another buffer between two calls: `Made` has the images that calls hand on, each
+-- call with a buffer of its own that holds the image at its start and has any bytes behind it. (A refused call leaves
+-- its buffer as it was, so it hands on the image that it got.)
 pub data Made (order slots : ℕ) (sheet : List ℕ) : List Trace → List ℕ → Type 0 where
   a-start : (xs : List ℕ) (e : ℕ) → startAnswer xs order slots sheet ≡ To e → Made order slots sheet [] (take e (startLeft xs order slots sheet))
   an-addition : {ts : List Trace} {f : List ℕ} → Made order slots sheet ts f → (xs : List ℕ) → length f ≤ length xs → take (length f) xs ≡ f → (x : Trace) (end : ℕ)
@@ -76,7 +82,7 @@ record ImageOf (order slots : ℕ) (sheet : List ℕ) (ts : List Trace) (f : Lis
   size : length f ≡ fileSize slots sheet ts
   good : AllGood ts
   slotted : length ts ≤ slots
-  few : slots ≤ 16383
+  few : slots ≤ slotsMost
 
 held-image : {order slots : ℕ} {sheet : List ℕ} {ts : List Trace} {xs : List ℕ} {n : ℕ} → Holds (eqb order 1) slots sheet ts xs n
     → ImageOf order slots sheet ts (take n xs)
@@ -96,7 +102,8 @@ pub byte-for-byte-in-any-buffers : (order slots : ℕ) (sheet : List ℕ) (ts : 
     → f ≡ fileOf (eqb order 1) slots sheet ts
 byte-for-byte-in-any-buffers order slots sheet ts f m = made-image ts f m .image
 
--- "when written afresh": the accepted traces, given alone to a start in any buffer that has room for them, are all accepted and leave the same image
+-- "when written afresh": the accepted traces, given alone to a start in any buffer that has room for them, are all
+-- accepted and leave the same image
 pub written-afresh-alone : (xs : List ℕ) (order slots : ℕ) (sheet : List ℕ) (e : ℕ) → startAnswer xs order slots sheet ≡ To e → (calls : List Trace)
     → (ys : List ℕ) → GoodList ys order slots sheet (acceptedOf (startLeft xs order slots sheet) e calls)
     → (answersOf (startLeft ys order slots sheet) (startSize slots sheet) (acceptedOf (startLeft xs order slots sheet) e calls)
@@ -109,7 +116,8 @@ written-afresh-alone xs order slots sheet e to calls ys g =
     let ts : List Trace = acceptedOf (startLeft xs order slots sheet) e calls in
     (none-refused ys order slots sheet ts w, image-afresh ys order slots sheet ts w .0 ∙ sym (calls-afresh xs order slots sheet e to calls .0))
 
--- they are a good list (GoodLists: document 01's words, without the writers' verdicts), and the buffer of the calls itself has room for them
+-- they are a good list (GoodLists: document 01's words, without the writers' verdicts), and the buffer of the calls
+-- itself has room for them
 pub accepted-are-writable : (xs : List ℕ) (order slots : ℕ) (sheet : List ℕ) (e : ℕ) → startAnswer xs order slots sheet ≡ To e → (calls : List Trace)
     → GoodList xs order slots sheet (acceptedOf (startLeft xs order slots sheet) e calls)
 accepted-are-writable xs order slots sheet e to calls = writable-is-good (accepted-writable xs order slots sheet e to calls)
@@ -118,8 +126,10 @@ accepted-are-writable xs order slots sheet e to calls = writable-is-good (accept
 pub refused-calls-leave-no-trace : (calls : List Trace) (xs : List ℕ) (n : ℕ) → after xs n (acceptedOf xs n calls) ≡ after xs n calls
 refused-calls-leave-no-trace = after-accepted
 
--- ---- "on any accepted file, ours or another maker's, and on any image with N=0, an accepted addition changes only the trace count, one free pointer and the
--- bytes from the old end to the new end": of the lent buffer, byte by byte. Rules out an addition that moves the file's blocks, or writes past its end.
+-- ---- "on any accepted file, ours or another maker's, and on any image with N=0, an accepted addition changes only the
+-- trace count, one free pointer and the
+-- bytes from the old end to the new end": of the lent buffer, byte by byte. Rules out an addition that moves the file's
+-- blocks, or writes past its end.
 
 module _ (xs : List ℕ) (n : ℕ) (x : Trace) (end : ℕ) (to : addAnswer xs n x ≡ To end) where
   pub only-these-bytes-change : (i : ℕ) → (i < 6) ⊎ (8 ≤ i) → (i < 32 + 4 * countOf (take n xs)) ⊎ (36 + 4 * countOf (take n xs) ≤ i) → (i < n) ⊎ (end ≤ i)
@@ -143,7 +153,8 @@ module _ (xs : List ℕ) (n : ℕ) (x : Trace) (end : ℕ) (to : addAnswer xs n 
   pub pointer-was-free : 32 + 4 * countOf (take n xs) + 4 ≤ 32 + roomOf (take n xs)
   pointer-was-free = let s = added xs n x end to .slot in omega arith
 
-  -- ---- "the file's strings and every earlier trace read as before": the reader accepts the file, and what it answered on a part it answers still. Rules out
+  -- ---- "the file's strings and every earlier trace read as before": the reader accepts the file, and what it answered
+  -- on a part it answers still. Rules out
   -- an addition that spoils what stood there.
 
   module _ (by : Bytes xs) where
@@ -256,13 +267,15 @@ earlier-read-as-before-always (x ∷ calls) xs n by ok z old = go (addAnswer xs 
         (earlier-read-as-before xs n x end h by ok z old))
     go (written.Refused r) h more = rw (after-refused xs n x calls r h) (more xs n by ok z old)
 
--- the file's strings also where there was no trace, so that no reader took the image: they are those that its bytes spelled to its end
+-- the file's strings also where there was no trace, so that no reader took the image: they are those that its bytes
+-- spelled to its end
 pub file-strings-read-as-before : (xs : List ℕ) (n : ℕ) (x : Trace) (end : ℕ) (ss : List Str) → addAnswer xs n x ≡ To end → Bytes xs
     → Spells Strict (highFirst (take n xs)) (stringEnd (take n xs)) (lineEnd (take n xs)) ss (part (32 + roomOf (take n xs)) (stringsEnd (take n xs)) (take n xs))
     → AnswersBy (addLeft xs n x) end (negsuc 0) ss
 file-strings-read-as-before xs n x end ss to by s = rw (add-left xs n x end to) (still.strings-answers-kept by (added xs n x end to) s)
 
--- ---- "and the new one reads last": there is one trace more, and the last, trace N, reads as given (Reading `new-trace-reads-back`). Rules out an
+-- ---- "and the new one reads last": there is one trace more, and the last, trace N, reads as given (Reading
+-- `new-trace-reads-back`). Rules out an
 -- addition that puts it elsewhere in the order.
 
 pub one-trace-more : (xs : List ℕ) (n : ℕ) (x : Trace) (end : ℕ) → addAnswer xs n x ≡ To end → Bytes xs

@@ -1,10 +1,10 @@
--- Demand 2, what is ignored: bytes 14 to 31, the unused second byte of a one-byte terminator, pointer slots from N on, the reserved bytes of a trace block, gaps, what
--- follows an end mark, data beyond the needed bytes and the tail behind the last trace (document 01, "The file block", "The trace block", "Strings"). `Alike`
--- (ignored/Images) has a field for each byte that counts: the other bytes of two images may differ, and every answer is the same, refusals, places and samples
--- included; of images that are refused as well.
+-- Demand 2, what is ignored: bytes 14 to 31, the unused second byte of a one-byte terminator, pointer slots from N on,
+-- the reserved bytes of a trace block, gaps, what follows an end mark, data beyond the needed bytes and the tail behind
+-- the last trace (document 01, "The file block", "The trace block", "Strings"). `Alike` (ignored/Images) has a field
+-- for each byte that counts: the other bytes of two images may differ, and every answer is the same, refusals, places
+-- and samples included; of images that are refused as well.
 -- Assumes nothing.
 use mathlib.Core.Path.{_≡_}
-use mathlib.Core.Bool.{Bool}
 use mathlib.Core.List.{List}
 use Prim.Native.Nat.{ℕ, _≤_}
 use lib.IntN.{ℤ}

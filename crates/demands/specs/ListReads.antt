@@ -1,7 +1,8 @@
--- The file of a list reads as the list: N, each trace's block, strings and samples, and the file's strings, in either order.
+-- The file of a list reads as the list: N, each trace's block, strings and samples, and the file's strings, in either
+-- order.
 -- Assumes nothing.
 use mathlib.Core.Path.{_≡_}
-use mathlib.Core.Bool.{Bool, false}
+use mathlib.Core.Bool.{Bool}
 use mathlib.Core.List.{List}
 use Prim.Native.Nat.{ℕ, _+_, _*_, _≤_, _<_}
 use native.Mathlib.Omega.{arith}
@@ -14,13 +15,13 @@ use Rattle.word.specs.Part.{part}
 use Rattle.strings.specs.Spelled.{Spells}
 use Rattle.sheet.specs.Area.{sheetStrings}
 use Rattle.area.specs.Spelling.{area-spells}
-use Rattle.head.specs.Head.{fileBlockOf, highFirst, roomOf, stringEnd, lineEnd}
+use Rattle.head.specs.Head.{maximum, fileBlockOf, highFirst, roomOf, stringEnd, lineEnd}
 use Rattle.image.specs.Image.{checkOf}
 use Rattle.image.specs.Keeps.{traceAt}
 use Rattle.head.specs.declared.FileAnswer.the-variants as file
 use Rattle.reader.specs.Questions.{fileAnswer}
 use Rattle.reader.specs.Listed.{file-area}
-use Rattle.layout.specs.Layout.{nul, lineFeed, Trace}
+use Rattle.layout.specs.Layout.{slotsMost, nul, lineFeed, Trace}
 use Rattle.growth.specs.Answered.{AnswersBy, answered}
 use Rattle.growth.specs.TraceReads.{Standing, ReadsAs, reads-as}
 use Rattle.afresh.specs.FileOf.{fileOf, fileSize, Measures, EachGood}
@@ -30,8 +31,8 @@ use Rattle.afresh.specs.Stands.{emptyTrace, file-traces}
 use Rattle.afresh.specs.Kept.{feed-ends, file-strings, file-accepted}
 
 -- trace k stands in the file of a list
-file-standing : (high : Bool) (slots : ℕ) (sheet : List ℕ) (ts : List Trace) (k : ℕ) → slots ≤ 16383 → length ts ≤ slots → EachGood ts
-    → fileSize slots sheet ts ≤ 67108864 → k < length ts → Standing (fileOf high slots sheet ts) k (fileSize slots sheet (take k ts)) (getD ts k emptyTrace)
+file-standing : (high : Bool) (slots : ℕ) (sheet : List ℕ) (ts : List Trace) (k : ℕ) → slots ≤ slotsMost → length ts ≤ slots → EachGood ts
+    → fileSize slots sheet ts ≤ maximum → k < length ts → Standing (fileOf high slots sheet ts) k (fileSize slots sheet (take k ts)) (getD ts k emptyTrace)
 file-standing high slots sheet ts k few slotted good most low =
     let f = file-fronted high slots sheet ts few slotted in
     let t = file-traces high slots sheet ts slotted good most k low in
@@ -47,7 +48,7 @@ file-standing high slots sheet ts k few slotted good most low =
     }
 
 module _ {high : Bool} {slots : ℕ} {sheet : List ℕ} {ts : List Trace} {xs : List ℕ} {n : ℕ} (is : Holds high slots sheet ts xs n) (some : 1 ≤ slots)
-    (measures : Measures sheet) (most : n ≤ 67108864) where
+    (measures : Measures sheet) (most : n ≤ maximum) where
   list-accepted : 0 < length ts → checkOf Strict Read xs n ≡ Accepted
   list-accepted l = file-accepted Read high slots sheet ts xs n is some measures most (λ z. absurd (omega arith))
 

@@ -1,9 +1,10 @@
--- Demand 2, locations without any order of reading: "x alone or x, y and z as doubles, parted by spaces or tabs; separators at either end are dropped. The answer
--- keeps how many there were; absent y and z are 0" (document 01, "Numbers in values"). `Parted` (double/Values) says which values a text has: blanks and values in
--- turn, the values not empty, without a blank, and ended by a blank or the text's end, each with its place.
+-- Demand 2, locations without any order of reading: "x alone or x, y and z as doubles, parted by spaces or tabs;
+-- separators at either end are dropped. The answer keeps how many there were; absent y and z are 0" (document 01,
+-- "Numbers in values"). `Parted` (double/Values) says which values a text has: blanks and values in turn, the values
+-- not empty, without a blank, and ended by a blank or the text's end, each with its place.
 -- Assumes nothing.
 use mathlib.Core.Path.{_≡_, refl, sym, ap, _∙_}
-use mathlib.Core.Bool.{Bool, true, false, not, _||_}
+use mathlib.Core.Bool.{not, _||_}
 use mathlib.Core.List.{List, [], _∷_}
 use mathlib.Core.Logic.{_↔_}
 use Prim.Native.Nat.{ℕ}
@@ -15,7 +16,6 @@ use Rattle.refusal.specs.Rows.{first}
 use Rattle.double.specs.declared.Coordinates.{Coordinates}
 use Rattle.double.specs.declared.DoubleAnswer.{DoubleAnswer}
 use Rattle.double.specs.declared.DoubleAnswer.the-variants as double
-use Rattle.double.specs.declared.LocationAnswer.{LocationAnswer}
 use Rattle.double.specs.declared.LocationAnswer.the-variants as location
 use Rattle.double.specs.Double.{doubleOf}
 use Rattle.double.specs.Location.{absent, valueCount, coordinates, onDouble, oneOf, threeOf, located, locationOf}
@@ -26,8 +26,8 @@ use Rattle.demands.specs.QuestionRows.{inTurn, oneOrThree, location-refu
 pub one-list-of-values : (t : List ℕ) → (vs : List Value) × Parted 0 t vs × ((ws : List Value) → Parted 0 t ws → ws ≡ vs)
 one-list-of-values t = let own = parted t in (_, own, λ ws p. sym (one-split 0 t ws p) ∙ one-split 0 t _ own)
 
--- the answer by those values, refusals included: 23 for neither one nor three, else the first that is no double, at its own start. Rules out a location
--- whose values are parted at another character, or that keeps a blank.
+-- the answer by those values, refusals included: 23 for neither one nor three, else the first that is no double, at its
+-- own start. Rules out a location whose values are parted at another character, or that keeps a blank.
 pub location-of-its-values : (t : List ℕ) (vs : List Value) → Parted 0 t vs
     → locationOf t ≡ first ((not (eqb (length vs) 1 || eqb (length vs) 3), valueCount) ∷ []) (inTurn vs oneOrThree)
 location-of-its-values t vs p = rw (one-split 0 t vs p) at (location-refused-first t)

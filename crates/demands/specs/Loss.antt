@@ -1,17 +1,17 @@
--- Demand 2, "save the low bits that 20-bit samples cannot hold": "the exponent is the smallest, found from the leading zeros of the magnitude, that brings it to
--- at most 32,767; low bits are cut toward zero; 0 is 0000h. So the value read differs by less than 2 to the exponent, and by nothing up to 32,767" (document 01,
--- "Samples"). What is read back is said without the encoder, and there is one such value only: so rounding to nearest and any larger exponent are excluded.
+-- Demand 2, "save the low bits that 20-bit samples cannot hold": "the exponent is the smallest, found from the leading
+-- zeros of the magnitude, that brings it to at most 32,767; low bits are cut toward zero; 0 is 0000h. So the value read
+-- differs by less than 2 to the exponent, and by nothing up to 32,767" (document 01, "Samples"). What is read back is
+-- said without the encoder, and there is one such value only: so rounding to nearest and any larger exponent are
+-- excluded.
 -- Assumes nothing.
 use mathlib.Core.Path.{_≡_, refl, sym, ap, _∙_}
-use mathlib.Core.Bool.{Bool, true, false}
 use mathlib.Core.List.{List, map}
 use Prim.Native.Nat.{ℕ, zero, suc, _+_, _-_, _*_, _/_, _^_, _≤_, _<_}
 use native.Mathlib.Nat.{le-antisymm, mul-le-mul-right, suc-mul}
 use native.Mathlib.Omega.{arith, by-contra}
 use lib.IntN.{ℤ, pos, negsuc, negℤ, natAbs, _-ℤ_, _*ℤ_, pos-*ℤ-pos, negsuc-*ℤ-pos}
-use lib.Pow.{pow-pos}
 use Rattle.encode.specs.Write.{smallest, exponentOf, mantissaOf}
-use Rattle.encode.specs.WriteLaws.{Smallest, no-less, exponent-smallest}
+use Rattle.encode.specs.WriteLaws.{no-less, exponent-smallest}
 use Rattle.encode.specs.Cut.{cut, size-neg, size-mantissa, cut-near, cut-between, cut-exact}
 use Rattle.growth.specs.TraceReads.{readBack}
 
@@ -106,7 +106,8 @@ pub only-low-bits-are-lost : (row : List ℤ)
 unfolding readBack
 only-low-bits-are-lost row = (refl, refl, refl, low-bits-cut, cut-exact)
 
--- so 32771 is read back as 32770 and not, by the nearest, as 32772; and 40000 as itself, and not, by exponent 15, as 32768
+-- so 32771 is read back as 32770 and not, by the nearest, as 32772; and 40000 as itself, and not, by exponent 15, as
+-- 32768
 kept-values : (cut (pos 32771) ≡ pos 32770) × (cut (pos 40000) ≡ pos 40000)
 unfolding cut mantissaOf exponentOf smallest
 kept-values = (refl, refl)

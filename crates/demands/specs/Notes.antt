@@ -1,8 +1,9 @@
--- Demand 2, the lines of a NOTE: "in NOTE also whole line terminators, matched from the left"; "each NOTE line (a part between line terminators, also an empty
--- one)" (document 01, "Strings" and "Worked values"). For the NOTE of any accepted file, ours or another maker's.
+-- Demand 2, the lines of a NOTE: "in NOTE also whole line terminators, matched from the left"; "each NOTE line (a part
+-- between line terminators, also an empty one)" (document 01, "Strings" and "Worked values"). For the NOTE of any
+-- accepted file, ours or another maker's.
 -- Assumes nothing.
 use mathlib.Core.Path.{_≡_}
-use mathlib.Core.Bool.{Bool, false}
+use mathlib.Core.Bool.{Bool}
 use mathlib.Core.List.{List, [], _∷_}
 use Prim.Native.Nat.{ℕ, zero, suc, _<_}
 use native.Mathlib.Omega.{arith}
@@ -12,7 +13,8 @@ use Rattle.head.specs.declared.Purpose.the-variants.{Read}
 use Rattle.text.specs.declared.Manner.the-variants.{Strict}
 use Rattle.refusal.specs.declared.Verdict.the-variants.{Accepted}
 use Rattle.chars.specs.Chars.{note}
-use Rattle.note.specs.Note.{linesOf, withEnds, Each, Characters, Lacks, LineEnd, Lines, lines-back, no-line-holds-an-end, lines-are-of-characters, lines-once}
+use Rattle.note.specs.Note.{linesOf, withEnds, Each, Characters, Lacks, LineEnd, Lines, lines-back}
+use Rattle.note.specs.Note.{no-line-holds-an-end, lines-are-of-characters, lines-once}
 use Rattle.strings.specs.Spelled.{Str, nthStr, GoodString, Rising, Spells, Spells.empty, Spells.full}
 use Rattle.head.specs.Head.{lineEnd}
 use Rattle.head.specs.HeadLaws.{good-ends}
@@ -31,13 +33,15 @@ spelled-good : {high : Bool} {t u l : List ℕ} (ss : List Str) (i : ℕ) → Sp
 spelled-good ss i empty l = absurd (omega arith)
 spelled-good {t = t} {u = u} ss i (full rest r) l = rising-good t u [] ss i r l
 
--- Rules out a reading of a NOTE that gives one line which holds everything, loses a line or an empty one, or cuts a line in two.
+-- Rules out a reading of a NOTE that gives one line which holds everything, loses a line or an empty one, or cuts a
+-- line in two.
 pub note-is-its-lines : (xs : List ℕ) (n : ℕ) (z : ℤ) (ss : List Str) → checkOf Strict Read xs n ≡ Accepted → Lists Strict (take n xs) z ss
     → (i : ℕ) → i < length ss → nthStr ss i .key ≡ note
     → (u v : List ℕ) → u ≡ lineEnd (take n xs) → v ≡ nthStr ss i .value
     -- value characters and whole line terminators, in any order
     → Lines u v
-    -- with the terminators between them the lines are the value, no line holds a terminator, each is of value characters
+    -- with the terminators between them the lines are the value, no line holds a terminator, each is of value
+    -- characters
     × (withEnds u (linesOf (length v) u v) ≡ v)
     × Each (Lacks u) (linesOf (length v) u v)
     × Each Characters (linesOf (length v) u v)

@@ -1,6 +1,6 @@
--- "Two outcomes allowed by one promise are proved equal" (document 01, "What a caller may rely on"). Every promise of a public function is an equation for the
--- answer and one for each lent memory, both by a definition of the arguments alone, so two outcomes are equal whatever the function is. Rules out a promise
--- that leaves a choice.
+-- "Two outcomes allowed by one promise are proved equal" (document 01, "What a caller may rely on"). Every promise of a
+-- public function is an equation for the answer and one for each lent memory, both by a definition of the arguments
+-- alone, so two outcomes are equal whatever the function is. Rules out a promise that leaves a choice.
 -- Assumes nothing.
 use mathlib.Core.Path.{_≡_, sym, _∙_}
 use Prim.Native.Nat.{ℕ}

@@ -1,6 +1,7 @@
--- Demand 1, the questions: "Every question checks the whole file first", then "18 no such trace (a keyword question also takes -1, the file); 33 integers
--- asked of code 4 or 5, or bits of 1 to 3; 32 an output row's length is not S: in that order, place 0" (document 01). Each is a list of rows, and the answer
--- the first of it that is met, or else the value.
+-- Demand 1, the questions: "Every question checks the whole file first", then "18 no such trace (a keyword question
+-- also takes -1, the file); 33 integers asked of code 4 or 5, or bits of 1 to 3; 32 an output row's length is not S: in
+-- that order, place 0" (document 01). Each is a list of rows, and the answer the first of it that is met, or else the
+-- value.
 -- Assumes nothing.
 use mathlib.Core.Path.{_≡_, refl, sym, ap, _∙_}
 use mathlib.Core.Bool.{Bool, true, false, not, _||_}
@@ -46,7 +47,11 @@ use Rattle.block.specs.declared.TraceAnswer.the-variants as trace
 use Rattle.reader.specs.declared.CountAnswer.the-variants as count
 use Rattle.reader.specs.declared.StringAnswer.the-variants as string
 use Rattle.reader.specs.declared.KeywordAnswer.the-variants as keyword
-use Rattle.reader.specs.Questions.{noTrace, whoseOf, areaNamed, areaAsked, onArea, onTrace, fileAnswer, traceAnswer, placesIn, countAnswer, there, nthAnswer, findAnswer, yesOrNo, keywordAnswer, valueThere, valueAnswer, onString, numberAnswer, doubleAnswer, locationAnswer, codeAt, countAt, ofIntegers, ofBits, blockAt, integersRows, bitsRows, integersVerdict, bitsVerdict, integersAnswer, bitsAnswer, traceNumber}
+use Rattle.reader.specs.Questions.{noTrace, whoseOf, areaNamed, areaAsked, onArea, onTrace, fileAnswer, traceAnswer}
+use Rattle.reader.specs.Questions.{placesIn, countAnswer, there, nthAnswer, findAnswer, yesOrNo, keywordAnswer}
+use Rattle.reader.specs.Questions.{valueThere, valueAnswer, onString, numberAnswer, doubleAnswer, locationAnswer}
+use Rattle.reader.specs.Questions.{codeAt, countAt, ofIntegers, ofBits, blockAt, integersRows, bitsRows}
+use Rattle.reader.specs.Questions.{integersVerdict, bitsVerdict, integersAnswer, bitsAnswer, traceNumber}
 use Rattle.reader.specs.Listed.{found-value}
 use Rattle.refusal.specs.FirstRow.{row, firstOf, first-more, rowsAt, rule-first, asked-more, asked-row, asked-none}
 use Rattle.demands.specs.FileRows.{checkRows, check-answers-first}
@@ -162,8 +167,8 @@ keyword-answers-first how xs n z key = ap yesOrNo (find-answers-first how xs n z
     go Accepted = refl
     go (Refused r) = refl
 
--- "the other answers the value as the caller's own bytes, not a copy, and for a no or a refusal the empty part at the start of the lent buffer".
--- Rules out bytes of a file that was refused.
+-- "the other answers the value as the caller's own bytes, not a copy, and for a no or a refusal the empty part at the
+-- start of the lent buffer". Rules out bytes of a file that was refused.
 pub value-answers-first : (how : Manner) (xs : List ℕ) (n : ℕ) (z : ℤ) (key : List ℕ)
     → valueAnswer how xs n z key ≡ asked (λ r. []) (firstOf (partAskedRows how xs n z)) (valueFound (take n xs) (foundAsked how (take n xs) z key))
 unfolding valueAnswer
@@ -202,8 +207,10 @@ pub location-answers-first : (how : Manner) (xs : List ℕ) (n : ℕ) (z : ℤ) 
 unfolding locationAnswer
 location-answers-first how = made-first how location.Refused locationOf
 
--- ---- "20 no number, 21 too many digits, 22 not within the double case, 23 neither one nor three values: 23 first, then value by value; place is the
--- value's start in the text". Rules out a double of what is no number, and a location whose values are judged before they are counted.
+-- ---- "20 no number, 21 too many digits, 22 not within the double case, 23 neither one nor three values: 23 first,
+-- then value by value; place is the
+-- value's start in the text". Rules out a double of what is no number, and a location whose values are judged before
+-- they are counted.
 
 first-append : {A : Type 0} (rs qs : Rows A) (a : A) → first (rs ++ qs) a ≡ first rs (first qs a)
 first-append [] qs a = refl

@@ -1,8 +1,9 @@
--- Demand 2: "Reading agrees with the 1990 paper as document 01 fixes it: a file is accepted exactly when it keeps those rules, and its strings, numbers and
--- samples are the paper's; what we write reads back as what was given, save the low bits that 20-bit samples cannot hold."
+-- Demand 2: "Reading agrees with the 1990 paper as document 01 fixes it: a file is accepted exactly when it keeps those
+-- rules, and its strings, numbers and samples are the paper's; what we write reads back as what was given, save the low
+-- bits that 20-bit samples cannot hold."
 -- Assumes nothing.
 use mathlib.Core.Path.{_≡_, refl, sym, ap, _∙_}
-use mathlib.Core.Bool.{Bool, true, false}
+use mathlib.Core.Bool.{true, false}
 use mathlib.Core.List.{List, [], _∷_, _++_}
 use mathlib.Core.Logic.{_↔_}
 use Prim.Native.Nat.{ℕ, _+_, _*_, _≤_, _<_}
@@ -35,17 +36,19 @@ use Rattle.double.specs.LocationMarks.{comma-double, comma-location}
 use Rattle.double.specs.Rounded.{text-rounded-once}
 use Rattle.sheet.specs.declared.Measured.the-variants.{Size}
 use Rattle.sheet.specs.Lines.{Line, sheetLines}
-use Rattle.sheet.specs.Area.{joined, textSize, areaOf, areaSize, sheetStrings, measuredOf}
+use Rattle.sheet.specs.Area.{areaMost, joined, textSize, areaOf, areaSize, sheetStrings, measuredOf}
 use Rattle.sheet.specs.Sizes.{length-area}
 use Rattle.sheet.specs.Paper.{sheetOf, GoodLines, accepted-lines, lines-read, sheet-lines-once}
 use Rattle.area.specs.Spelling.{measured-size, good-measured}
 use Rattle.area.specs.Meaning.{NoteParted, lines-parted}
-use Rattle.head.specs.Head.{highFirst, countOf}
+use Rattle.head.specs.Head.{maximum, countOf}
 use Rattle.image.specs.Image.{checkOf}
 use Rattle.image.specs.Keeps.{Keeps}
 use Rattle.image.specs.Accepted.{accepted-keeps, keeps-accepted}
 use Rattle.head.specs.declared.FileAnswer.the-variants as file
-use Rattle.reader.specs.Questions.{fileAnswer, codeAt, countAt, ofIntegers, ofBits, samplesOf, patternsOf, classesOf, integersAnswer, bitsAnswer, integersLeft, patternsLeft, classesLeft, numberAnswer, doubleAnswer, locationAnswer}
+use Rattle.reader.specs.Questions.{fileAnswer, codeAt, countAt, ofIntegers, ofBits, samplesOf, patternsOf, classesOf}
+use Rattle.reader.specs.Questions.{integersAnswer, bitsAnswer, integersLeft, patternsLeft, classesLeft, numberAnswer}
+use Rattle.reader.specs.Questions.{doubleAnswer, locationAnswer}
 use Rattle.reader.specs.Listed.{Lists, file-lists, trace-lists, lists-once}
 use Rattle.reader.specs.Answers.{integers-read, bits-read}
 use Rattle.start.specs.declared.Written.the-variants.{To}
@@ -63,7 +66,8 @@ use Rattle.afresh.specs.Stands.{emptyTrace}
 use Rattle.afresh.specs.Afresh.{accepted-writable}
 use Rattle.demands.specs.ListReads.{list-reads, list-file-block, list-file-strings}
 
--- ---- "a file is accepted exactly when it keeps those rules": for every buffer of bytes and every length. Rules out a reader that refuses all files, and one
+-- ---- "a file is accepted exactly when it keeps those rules": for every buffer of bytes and every length. Rules out a
+-- reader that refuses all files, and one
 -- that takes a broken one.
 
 pub accepted-exactly-when-kept : (xs : List ℕ) (n : ℕ) → Bytes xs → (checkOf Strict Read xs n ≡ Accepted) ↔ ((n ≤ length xs) × Keeps Strict Read (take n xs))
@@ -73,7 +77,8 @@ accepted-exactly-when-kept xs n by = (accepted-keeps Strict Read xs n by, λ k. 
 pub taken-exactly-when-kept : (xs : List ℕ) (n : ℕ) → Bytes xs → (checkOf Strict Grow xs n ≡ Accepted) ↔ ((n ≤ length xs) × Keeps Strict Grow (take n xs))
 taken-exactly-when-kept xs n by = (accepted-keeps Strict Grow xs n by, λ k. keeps-accepted Strict Grow xs n (k .0) (k .1))
 
--- ---- "its strings .. are the paper's": each part of an accepted file has one list of strings, which its bytes spell (`Spells`), and every question on it is
+-- ---- "its strings .. are the paper's": each part of an accepted file has one list of strings, which its bytes spell
+-- (`Spells`), and every question on it is
 -- answered by that list. Rules out a reader that skips, doubles, reorders or invents a string.
 
 pub strings-of-the-file : (xs : List ℕ) (n : ℕ) → Bytes xs → checkOf Strict Read xs n ≡ Accepted
@@ -89,7 +94,8 @@ one-list-of-strings = lists-once Strict
 
 -- ---- "its .. numbers .. are the paper's"
 
--- a number is what the grammar writes, with not too many digits. Rules out a reader that takes more or fewer texts than document 01's.
+-- a number is what the grammar writes, with not too many digits. Rules out a reader that takes more or fewer texts than
+-- document 01's.
 pub number-exactly-when-written : (t : List ℕ) (n : Decimal) → (numberIn t ≡ number.Is n) ↔ ((p : Parts) × Writes p t × Short p × (n ≡ decimalOf p))
 number-exactly-when-written = is-number
 
@@ -118,7 +124,8 @@ never-with-a-comma xs n z ss a key before after e = (
   λ l h. comma-location before after l (sym (ap locationOf e) ∙ sym (a .location key) ∙ h),
 )
 
--- "multiplied or divided once": a double is the text's value, rounded once. Rules out two roundings, and a value next to the nearest.
+-- "multiplied or divided once": a double is the text's value, rounded once. Rules out two roundings, and a value next
+-- to the nearest.
 pub double-rounded-once : (xs : List ℕ) (n : ℕ) (z : ℤ) (ss : List Str) → AnswersBy xs n z ss → (key : List ℕ) (p : Parts) → Writes p (valueOfKey Strict ss key)
     → (x : Float) → doubleAnswer Strict xs n z key ≡ double.Is x → x ≡ round binary64 (decimalOf p .minus) (over p) (under p)
 double-rounded-once xs n z ss a key p w x e = text-rounded-once p (valueOfKey Strict ss key) w x (sym (a .double key) ∙ e)
@@ -140,9 +147,10 @@ bits-are-read = bits-read Strict
 
 -- ---- "what we write reads back as what was given, save the low bits that 20-bit samples cannot hold"
 
--- a sheet that is let through is the bytes of good lines, of one list of them only, and its strings are those lines': keyword and value of each line before the
--- first NOTE, and behind them one NOTE whose value is the values of all NOTE lines with the line terminator between (`NoteParted`). Rules out a writer that
--- reads a sheet in another way than its lines, loses one, or takes two sheets for one.
+-- a sheet that is let through is the bytes of good lines, of one list of them only, and its strings are those lines':
+-- keyword and value of each line before the first NOTE, and behind them one NOTE whose value is the values of all NOTE
+-- lines with the line terminator between (`NoteParted`). Rules out a writer that reads a sheet in another way than its
+-- lines, loses one, or takes two sheets for one.
 pub strings-are-the-lines : (t u s : List ℕ) (n : ℕ) → measuredOf t u s ≡ Size n
     → (ls : List Line) × (s ≡ sheetOf ls) × GoodLines [] ls × ((ms : List Line) → s ≡ sheetOf ms → GoodLines [] ms → ms ≡ ls)
     × (sheetStrings u s ≡ joined u ls) × NoteParted u ls
@@ -152,7 +160,7 @@ strings-are-the-lines t u s n e =
     (sheetLines s, l .0, l .1, λ ms b g. sheet-lines-once s ms (sheetLines s) b (l .0) g (l .1), refl, lines-parted u (sheetLines s) (l .1))
 
 -- and every list of good lines whose area is not too large is let through, as itself
-pub lines-are-let-through : (t u : List ℕ) (ls : List Line) → GoodLines [] ls → length (areaOf false t u (sheetOf ls)) ≤ 65500
+pub lines-are-let-through : (t u : List ℕ) (ls : List Line) → GoodLines [] ls → length (areaOf false t u (sheetOf ls)) ≤ areaMost
     → (measuredOf t u (sheetOf ls) ≡ Size (length (areaOf false t u (sheetOf ls)))) × (sheetStrings u (sheetOf ls) ≡ joined u ls)
 unfolding areaSize sheetStrings
 lines-are-let-through t u ls g h =
@@ -161,12 +169,14 @@ lines-are-let-through t u ls g h =
     let m = good-measured t u ls g (omega arith) in
     (m .0 ∙ ap Size (sym a), m .1)
 
--- the new trace, on any image that an addition takes. Rules out an addition that writes nothing, or writes what reads otherwise.
+-- the new trace, on any image that an addition takes. Rules out an addition that writes nothing, or writes what reads
+-- otherwise.
 pub new-trace-reads-back : (xs : List ℕ) (n : ℕ) (x : Trace) (end : ℕ) → Bytes xs → addAnswer xs n x ≡ To end
     → ReadsAs (addLeft xs n x) end (countOf (take n xs)) (round4 n) x
 new-trace-reads-back xs n x end by e = rw (add-left xs n x end e) (reads-last by (added xs n x end e))
 
--- every trace of a file that was started and added to, refused calls in between included, and the file itself. Rules out one that loses an earlier trace.
+-- every trace of a file that was started and added to, refused calls in between included, and the file itself. Rules
+-- out one that loses an earlier trace.
 module _ (xs : List ℕ) (order slots : ℕ) (sheet : List ℕ) (e : ℕ) (to : startAnswer xs order slots sheet ≡ To e) (calls : List Trace) where
   abbrev left : List ℕ × ℕ
   left = after (startLeft xs order slots sheet) e calls
@@ -174,7 +184,7 @@ module _ (xs : List ℕ) (order slots : ℕ) (sheet : List ℕ) (e : ℕ) (to : 
   abbrev given : List Trace
   given = acceptedOf (startLeft xs order slots sheet) e calls
 
-  most : left .1 ≤ 67108864
+  most : left .1 ≤ maximum
   most = let w = accepted-writable xs order slots sheet e to calls .most in let s = start-grows xs order slots sheet e to calls .holds .size in omega arith
 
   pub every-trace-reads-back : (k : ℕ) → k < length given → ReadsAs (left .0) (left .1) k (fileSize slots sheet (take k given)) (getD given k emptyTrace)

@@ -1,12 +1,12 @@
--- Demand 2, "its .. samples are the paper's", in raw words: bytes, weights and places of the file, and no name that hides a rule (document 01, "Samples", "The
--- trace block"; figures B-1 to B-5 of the paper).
+-- Demand 2, "its .. samples are the paper's", in raw words: bytes, weights and places of the file, and no name that
+-- hides a rule (document 01, "Samples", "The trace block"; figures B-1 to B-5 of the paper).
 -- Assumes nothing.
-use mathlib.Core.Path.{_≡_, refl, sym, ap, _∙_}
+use mathlib.Core.Path.{_≡_, refl, _∙_}
 use mathlib.Core.Bool.{Bool, true, false}
-use mathlib.Core.List.{List, [], _∷_}
-use Prim.Native.Nat.{ℕ, zero, suc, _+_, _-_, _*_, _/_, _%_, _^_, _≤_, _<_}
+use mathlib.Core.List.{List}
+use Prim.Native.Nat.{ℕ, suc, _+_, _-_, _*_, _/_, _%_, _^_, _≤_, _<_}
 use native.Mathlib.Omega.{arith}
-use lib.IntN.{ℤ, pos, negsuc, negℤ}
+use lib.IntN.{pos, negsuc, negℤ}
 use lib.ListN.{length, getD, take}
 use lib.Dec.{eqb}
 use lib.Ieee as ieee
@@ -76,7 +76,8 @@ pub samples-by-format : (high : Bool) (block : List ℕ) (i : ℕ) → Bytes blo
     -- code 2: 32 bits, two's complement
     × ((n : ℕ) → n ≡ wordAt 4 high block (4 * i)
     → (n < 2147483648 → sampleOf 2 high block i ≡ pos n) × (2147483648 ≤ n → sampleOf 2 high block i ≡ negℤ (pos (4294967296 - n))))
-    -- code 3: ten bytes for four samples; 4 bits of the first word are the exponent, the mantissa is one's complement, so that FFFFh is 0
+    -- code 3: ten bytes for four samples; 4 bits of the first word are the exponent, the mantissa is one's complement,
+    -- so that FFFFh is 0
     × ((e m : ℕ) → e ≡ wordAt 2 high block (10 * (i / 4)) / 2 ^ (4 * (i % 4)) % 16 → m ≡ wordAt 2 high block (10 * (i / 4) + 2 + 2 * (i % 4))
     → (m < 32768 → sampleOf 3 high block i ≡ pos (m * 2 ^ e)) × (32768 ≤ m → sampleOf 3 high block i ≡ negℤ (pos ((65535 - m) * 2 ^ e))))
     -- codes 4 and 5: the pattern of 32 and of 64 bits
@@ -114,7 +115,8 @@ class-by top e x t = (
   λ a b. rw (ne-eqb e 0 (omega arith), eq-eqb e top a, ne-eqb x 0 (omega arith)),
 )
 
--- "zero, underflow (exponent bits 0, fraction not 0), number, infinity, not a number": 8 exponent bits above 23 fraction bits, 11 above 52
+-- "zero, underflow (exponent bits 0, fraction not 0), number, infinity, not a number": 8 exponent bits above 23
+-- fraction bits, 11 above 52
 pub classes-by-bits : (n : ℕ)
     → Classed 255 (n / 8388608 % 256) (n % 8388608) (classOf 4 n) × Classed 2047 (n / 4503599627370496 % 2048) (n % 4503599627370496) (classOf 5 n)
 unfolding classOf
@@ -127,7 +129,8 @@ classes-by-bits n = (
 pub classes-are-ieee : (f : Format) (n : ℕ) → classOf (codeOf f) n ≡ valueClass f (ieee.ofBits f n)
 classes-are-ieee = class-ieee
 
--- ---- which bytes they are: S samples, out of the trace's own D bytes from p+B on. Rules out "Using B as the data's file position" and "Taking S from D".
+-- ---- which bytes they are: S samples, out of the trace's own D bytes from p+B on. Rules out "Using B as the data's
+-- file position" and "Taking S from D".
 
 pub samples-of-the-data : (f : List ℕ) (k : ℕ) (h : Bool) (p b d s c : ℕ) → h ≡ eqb (byteAt f 0) 58 → p ≡ wordAt 4 h f (32 + 4 * k)
     → b ≡ wordAt 2 h f (p + 2) → d ≡ wordAt 4 h f (p + 4) → s ≡ wordAt 4 h f (p + 8) → c ≡ byteAt f (p + 12)
@@ -141,7 +144,8 @@ samples-of-the-data f k h p b d s c eh ep eb ed es ec = rw (← eh, ← ep, ← 
 pub words-of-the-data : (w : ℕ) (h : Bool) (a e : ℕ) (f : List ℕ) (at : ℕ) → a + at + w ≤ e → wordAt w h (part a e f) at ≡ wordAt w h f (a + at)
 words-of-the-data = word-part
 
--- ---- "D may exceed this; the rest is ignored": blocks that agree in the needed bytes have the same samples, patterns and classes
+-- ---- "D may exceed this; the rest is ignored": blocks that agree in the needed bytes have the same samples, patterns
+-- and classes
 
 pub rest-of-the-data-ignored : (code : ℕ) (high : Bool) (block other : List ℕ) (s : ℕ) → take (needed code s) block ≡ take (needed code s) other
     → ((code ≡ 3 → s % 4 ≡ 0) → valuesFrom (sampleOf code high block) 0 s ≡ valuesFrom (sampleOf code high other) 0 s)

@@ -1,5 +1,5 @@
--- Document 01, "Worked values": "Marked * are the ones to prove, as a single statement over a table." The table has every marked value, and the numbers of
--- "Numbers in values" beside them.
+-- Document 01, "Worked values": "Marked * are the ones to prove, as a single statement over a table." The table has
+-- every marked value, and the numbers of "Numbers in values" beside them.
 -- Assumes nothing.
 use mathlib.Core.Path.{_≡_, refl}
 use mathlib.Core.Bool.{Bool, true, false}
@@ -13,9 +13,11 @@ use Rattle.refusal.specs.declared.Verdict.the-variants as verdict
 use Rattle.refusal.specs.Table as refusals
 use Rattle.sample.specs.Needed.{needed, width}
 use Rattle.sample.specs.Run as samples
-use Rattle.decode.specs.Sample.{patternOf, twos, exponentIn, ones, scaled, groupSample, sampleOf, integersThere, integersRead}
+use Rattle.decode.specs.Sample.{patternOf, twos, exponentIn, ones, scaled, groupSample, sampleOf, integersThere}
+use Rattle.decode.specs.Sample.{integersRead}
 use Rattle.encode.specs.Unfit.{firstFrom, unfitInteger, unfitIntegers}
-use Rattle.encode.specs.Write.{smallest, exponentOf, mantissaOf, onesBits, exponentsOf, wordsOf, groupBytes, groups, filledUp, integersData}
+use Rattle.encode.specs.Write.{smallest, exponentOf, mantissaOf, onesBits, exponentsOf, wordsOf, groupBytes, groups}
+use Rattle.encode.specs.Write.{filledUp, integersData}
 use Rattle.decimal.specs.declared.NumberAnswer.{NumberAnswer}
 use Rattle.decimal.specs.declared.NumberAnswer.the-variants as answer
 use Rattle.chars.specs.Runs.{run}
@@ -75,7 +77,8 @@ table =
     ∷ reads 3 false (16 ∷ 242 ∷ 1 ∷ 0 ∷ 254 ∷ 255 ∷ 5 ∷ 0 ∷ 255 ∷ 127 ∷ []) (pos 1 ∷ negsuc 1 ∷ pos 20 ∷ pos 1073709056 ∷ [])
     -- *Writing 100000 in code 3: exponent 2, mantissa 25000
     ∷ writes (pos 100000) 2 (pos 25000)
-    -- so by its bytes: a group of it and three zeros is 02 00 A8 61 and zeros low first, 00 02 61 A8 and zeros high first, filled up to 12 bytes
+    -- so by its bytes: a group of it and three zeros is 02 00 A8 61 and zeros low first, 00 02 61 A8 and zeros high
+    -- first, filled up to 12 bytes
     ∷ stands 3 false (pos 100000 ∷ pos 0 ∷ pos 0 ∷ pos 0 ∷ []) (2 ∷ 0 ∷ 168 ∷ 97 ∷ replicate 8 0)
     ∷ stands 3 true (pos 100000 ∷ pos 0 ∷ pos 0 ∷ pos 0 ∷ []) (0 ∷ 2 ∷ 97 ∷ 168 ∷ replicate 8 0)
     -- *-32769 reads back -32768; *1073741823 reads back 1073709056

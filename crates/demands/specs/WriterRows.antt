@@ -1,16 +1,17 @@
--- Demand 1, the writers: "Starting: 31 .., 25, 26, 27, 30. Adding: 1 to 17, then 24 .., 25 bad sheet line, 26 sheet order (place: the line's start; line by
--- line, 25 first), 27 .., 28 .., 29 .. (first index), 30 .." (document 01), each as one list of rows, and the answer is the first of it that is met, or else
--- the length that the layout has.
+-- Demand 1, the writers: "Starting: 31 .., 25, 26, 27, 30. Adding: 1 to 17, then 24 .., 25 bad sheet line, 26 sheet
+-- order (place: the line's start; line by line, 25 first), 27 .., 28 .., 29 .. (first index), 30 .." (document 01),
+-- each as one list of rows, and the answer is the first of it that is met, or else the length that the layout has.
 -- Assumes nothing.
 use mathlib.Core.Path.{_≡_, refl, sym, ap, _∙_}
-use mathlib.Core.Bool.{Bool, true, false, not, cond, _&&_, _||_}
+use mathlib.Core.Bool.{Bool, true, false, not, cond, _||_}
 use mathlib.Core.List.{List, [], _∷_, _++_}
 use Prim.Native.Nat.{ℕ, zero, suc, _+_}
 use lib.ListN.{length, take, drop}
 use lib.Dec.{ltb, leb, eqb}
 use Rattle.head.specs.declared.Purpose.the-variants.{Grow}
 use Rattle.refusal.specs.Verdicts.{asked, andThen}
-use Rattle.refusal.specs.declared.Rule.the-variants.{NoSlot, SheetLine, AreaSize, EntryCode, SampleRange, NoRoom, StartValues}
+use Rattle.refusal.specs.declared.Rule.the-variants.{NoSlot, SheetLine, AreaSize, EntryCode, SampleRange, NoRoom}
+use Rattle.refusal.specs.declared.Rule.the-variants.{StartValues}
 use Rattle.refusal.specs.declared.Part.the-variants.{File}
 use Rattle.refusal.specs.declared.Verdict.{Verdict}
 use Rattle.refusal.specs.declared.Verdict.the-variants.{Accepted, Refused}
@@ -22,19 +23,23 @@ use Rattle.strings.specs.declared.Judged.{Judged}
 use Rattle.strings.specs.declared.Judged.the-variants.{Keyword, Wrong}
 use Rattle.sheet.specs.declared.Step.the-variants.{Bad}
 use Rattle.sheet.specs.declared.Measured.the-variants as measured
-use Rattle.sheet.specs.Lines.{lineLen, lineOf, lineKeyLen, lineRows, lineJudged, onLineJudged, lineStep, onLineStep, checkFrom, linesVerdict}
-use Rattle.sheet.specs.Area.{areaSize, measuredOf}
-use Rattle.head.specs.Head.{roomOf, countOf, stringEnd, lineEnd}
+use Rattle.sheet.specs.Lines.{lineLen, lineOf, lineKeyLen, lineRows, lineJudged, onLineJudged, lineStep, onLineStep}
+use Rattle.sheet.specs.Lines.{checkFrom, linesVerdict}
+use Rattle.sheet.specs.Area.{areaMost, areaSize, measuredOf}
+use Rattle.head.specs.Head.{maximum, roomOf, countOf, stringEnd, lineEnd}
 use Rattle.start.specs.declared.Written.{Written}
 use Rattle.start.specs.declared.Written.the-variants as written
-use Rattle.layout.specs.Layout.{nul, lineFeed, startSize, Trace, Samples, Samples.integers, Samples.patterns, fitting, unfit}
+use Rattle.layout.specs.Layout.{nul, lineFeed, startSize, Trace, Samples, Samples.integers, Samples.patterns, fitting}
+use Rattle.layout.specs.Layout.{unfit}
 use Rattle.start.specs.Start.{onMeasured, badStart, startAnswer}
 use Rattle.append.specs.Grown.{newLength}
 use Rattle.writer.specs.Answers.{noSlot, areaAnswer, onFit, samplesVerdict, addAnswer}
-use Rattle.refusal.specs.FirstRow.{row, firstOf, first-nothing, first-row, first-more, rowsAt, rule-first, asked-more, asked-row, asked-none}
+use Rattle.refusal.specs.FirstRow.{row, firstOf, first-nothing, first-row, first-more, rowsAt, rule-first, asked-more}
+use Rattle.refusal.specs.FirstRow.{asked-row, asked-none}
 use Rattle.demands.specs.FileRows.{pick-first, checkRows, check-answers-first}
 
--- ---- the lines of a sheet, from one at the place `at` on: 25 "An empty or unfinished line is bad", the line's own 25 and 26 (`lineRows` of `sheet`), and
+-- ---- the lines of a sheet, from one at the place `at` on: 25 "An empty or unfinished line is bad", the line's own 25
+-- and 26 (`lineRows` of `sheet`), and
 -- then the next line's
 unfoldable pub linesRows : ℕ → List ℕ → List ℕ → ℕ → List Verdict
 linesRows zero prev s at = []
@@ -46,7 +51,7 @@ linesRows (suc m) prev s at =
 
 -- all of them, then 27 "area too large"
 abbrev pub sheetRows : List ℕ → List ℕ → List ℕ → List Verdict
-sheetRows t u s = linesRows (length s) [] s 0 ++ (row (ltb 65500 (areaSize t u s)) AreaSize File 0 ∷ [])
+sheetRows t u s = linesRows (length s) [] s 0 ++ (row (ltb areaMost (areaSize t u s)) AreaSize File 0 ∷ [])
 
 -- a line: unfinished, its own rows, and then what comes behind
 line-first : (w : Bool) (prev l : List ℕ) (at k : ℕ) (next : ℕ → ℕ → Verdict) (more : List Verdict) → next k (lineKeyLen l) ≡ firstOf more
@@ -74,8 +79,8 @@ sheet-first : (t u s : List ℕ) (more : Written) → onMeasured (measuredOf t u
 unfolding measuredOf linesVerdict
 sheet-first t u s more =
     rw (lines-first (length s) [] s 0)
-    (go (firstOf (linesRows (length s) [] s 0)) (ltb 65500 (areaSize t u s))
-    ∙ sym (asked-more written.Refused (linesRows (length s) [] s 0) (row (ltb 65500 (areaSize t u s)) AreaSize File 0 ∷ []) more))
+    (go (firstOf (linesRows (length s) [] s 0)) (ltb areaMost (areaSize t u s))
+    ∙ sym (asked-more written.Refused (linesRows (length s) [] s 0) (row (ltb areaMost (areaSize t u s)) AreaSize File 0 ∷ []) more))
   where
     go : (v : Verdict) (w : Bool)
         → onMeasured (asked measured.Refused v (pick w (measured.Refused (refusal AreaSize File 0)) (measured.Size (areaSize t u s)))) more
@@ -89,7 +94,7 @@ sheet-first t u s more =
 abbrev pub startRows : List ℕ → ℕ → ℕ → List ℕ → List Verdict
 startRows xs order slots sheet =
     row (badStart order slots) StartValues File 0
-    ∷ (sheetRows nul lineFeed sheet ++ (row (ltb (length xs) (startSize slots sheet) || ltb 67108864 (startSize slots sheet)) NoRoom File 0 ∷ []))
+    ∷ (sheetRows nul lineFeed sheet ++ (row (ltb (length xs) (startSize slots sheet) || ltb maximum (startSize slots sheet)) NoRoom File 0 ∷ []))
 
 -- the last row, and else the length
 room-first : (w : Bool) (end : ℕ) → pick w (written.Refused (refusal NoRoom File 0)) (written.To end) ≡ asked written.Refused (firstOf (row w NoRoom File 0 ∷ [])) (written.To end)
@@ -101,7 +106,7 @@ pub start-answers-first : (xs : List ℕ) (order slots : ℕ) (sheet : List ℕ)
     → startAnswer xs order slots sheet ≡ asked written.Refused (firstOf (startRows xs order slots sheet)) (written.To (startSize slots sheet))
 unfolding startAnswer
 start-answers-first xs order slots sheet =
-    let full : Bool = ltb (length xs) (startSize slots sheet) || ltb 67108864 (startSize slots sheet) in
+    let full : Bool = ltb (length xs) (startSize slots sheet) || ltb maximum (startSize slots sheet) in
     let end : Written = written.To (startSize slots sheet) in
     sym
     (asked-row written.Refused (badStart order slots) StartValues File 0 (sheetRows nul lineFeed sheet ++ (row full NoRoom File 0 ∷ [])) end
@@ -144,7 +149,7 @@ addRows xs n x =
     ++ (row (noSlot (roomOf f) (countOf f)) NoSlot File 0
     ∷ (sheetRows (stringEnd f) (lineEnd f) (x .sheet)
     ++ (row (not (fitting (x .code) (x .samples))) EntryCode File 0
-    ∷ (unfitRows (x .code) (x .samples) ++ (row (ltb (length xs) end || ltb 67108864 end) NoRoom File 0 ∷ [])))))
+    ∷ (unfitRows (x .code) (x .samples) ++ (row (ltb (length xs) end || ltb maximum end) NoRoom File 0 ∷ [])))))
 
 -- the steps of the definition, one behind the other
 steps : (c : Verdict) (s : Bool) (m : Rattle.sheet.specs.declared.Measured.Measured) (k : Bool) (f : Verdict) (w more : Written)
@@ -158,14 +163,15 @@ steps Accepted false (measured.Size b) true f w more h = h
 steps Accepted false (measured.Size b) false Accepted w more h = h
 steps Accepted false (measured.Size b) false (Refused r) w more h = h
 
--- Rules out an addition that skips a row, takes them in another order, refuses what no row refuses, or answers another length.
+-- Rules out an addition that skips a row, takes them in another order, refuses what no row refuses, or answers another
+-- length.
 pub addition-answers-first : (xs : List ℕ) (n : ℕ) (x : Trace)
     → addAnswer xs n x ≡ asked written.Refused (firstOf (addRows xs n x)) (written.To (newLength (take n xs) n x))
 unfolding addAnswer areaAnswer samplesVerdict
 addition-answers-first xs n x =
     let f : List ℕ = take n xs in
     let end : ℕ = newLength f n x in
-    let full : Bool = ltb (length xs) end || ltb 67108864 end in
+    let full : Bool = ltb (length xs) end || ltb maximum end in
     let new : Written = written.To end in
     let last : List Verdict = row full NoRoom File 0 ∷ [] in
     let us : List Verdict = unfitRows (x .code) (x .samples) in

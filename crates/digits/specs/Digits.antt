@@ -1,13 +1,13 @@
 -- A number in decimal, "without leading zeros": its characters, and that they are digits and mean the number.
 -- Assumes nothing.
 use mathlib.Core.Path.{_≡_, refl, sym, ap, _∙_}
-use mathlib.Core.Bool.{Bool, true, false, _&&_}
+use mathlib.Core.Bool.{Bool, true, false}
 use mathlib.Core.List.{List, [], _∷_}
 use Prim.Native.Nat.{ℕ, zero, suc, _+_, _-_, _*_, _^_, _/_, _%_, _≤_, _<_}
 use native.Mathlib.Nat.{pow-suc}
 use native.Mathlib.Omega.{arith}
 use lib.ListN.{length, getD, drop, set, length-set}
-use lib.Dec.{ltb, leb}
+use lib.Dec.{ltb}
 use borrow.Author.Tests.{lt-ltb, le-ltb, ltb-true, ltb-false, le-leb}
 use Rattle.word.specs.Part.{part, part-rest}
 use Rattle.refusal.specs.Rows.{pick}
@@ -15,7 +15,8 @@ use Rattle.chars.specs.Chars.{digit}
 use Rattle.chars.specs.Runs.{all}
 use Rattle.digits.specs.Value.{worth, worth-of, value}
 
--- the digits of n before those that are there: the last digit first. The first number bounds how many there are; one more than n is enough
+-- the digits of n before those that are there: the last digit first. The first number bounds how many there are; one
+-- more than n is enough
 unfoldable pub onto : ℕ → ℕ → List ℕ → List ℕ
 onto zero n there = there
 onto (suc m) n there = pick (ltb n 10) ((48 + n) ∷ there) (onto m (n / 10) ((48 + n % 10) ∷ there))

@@ -1,10 +1,11 @@
 -- What digits mean: each counts ten times what stands behind it (document 01, "Numbers in values").
 -- Assumes nothing.
 use mathlib.Core.Path.{_≡_, refl, sym, ap, _∙_}
-use mathlib.Core.Bool.{Bool, true, false, _&&_}
+use mathlib.Core.Bool.{Bool, true, false}
 use mathlib.Core.List.{List, [], _∷_}
 use Prim.Native.Nat.{ℕ, suc, _+_, _-_, _*_, _^_, _≤_, _<_}
-use native.Mathlib.Nat.{le-trans, le-of-eq, one-mul, mul-le-mul-right, mul-le-mul-left, pow-le-pow-right, mul-assoc, pow-succ', one-le-pow}
+use native.Mathlib.Nat.{le-trans, le-of-eq, one-mul, mul-le-mul-right, mul-le-mul-left, pow-le-pow-right, mul-assoc}
+use native.Mathlib.Nat.{pow-succ', one-le-pow}
 use native.Mathlib.Numerals.{add-one}
 use native.Mathlib.Omega.{arith}
 use lib.ListN.{length, getD, drop, drop-of-length-le}

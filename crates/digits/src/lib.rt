@@ -34,7 +34,8 @@ pub fn value(v: u64, s: &[u8]) -> u64
     w
 }
 
-// A number in decimal. Its digits come last first, so they are gathered at the end of a row of their own; no number of 64 bits has more than 20.
+// A number in decimal. Its digits come last first, so they are gathered at the end of a row of their own; no number of
+// 64 bits has more than 20.
 pub fn put_digits(out: &mut [u8], at: usize, n: u64) -> usize
     requires { ⌜ piece.Room (now out) at (digits n) ⌝ }
     ensures { λ r. ⌜ piece.Wrote (now (out .entry)) at (digits n) r (now (out .exit)) ⌝ }

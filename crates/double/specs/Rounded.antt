@@ -5,12 +5,14 @@ use mathlib.Core.Path.{_≡_, refl, sym, ap, ap₂, _∙_}
 use mathlib.Core.Bool.{Bool, true, false, not, cond}
 use mathlib.Core.List.{List, [], _∷_}
 use Prim.Native.Nat.{ℕ, zero, suc, _+_, _*_, _^_, _≤_, _<_}
-use native.Mathlib.Nat.{mul-mul-mul-comm, mul-one, one-mul, zero-mul, mul-pos, mul-comm, le-trans, pow-le-pow-right, one-le-pow}
+use native.Mathlib.Nat.{mul-mul-mul-comm, mul-one, one-mul, zero-mul, mul-pos, mul-comm, le-trans, pow-le-pow-right}
+use native.Mathlib.Nat.{one-le-pow}
 use native.Mathlib.Omega.{arith}
 use lib.Dec.{ltb, eqb·suc-zero}
 use lib.IntN.{ℤ, pos, negsuc, natAbs}
 use lib.Signed.{ltZ, nonNeg}
-use lib.Ieee.{Float, nan, inf, fin, Format, binary64, low, prec, emax, up, down, odd, units, round, neg, mul, div, ofInt, unlike}
+use lib.Ieee.{Float, nan, inf, fin, Format, binary64, low, prec, emax, up, down, odd, units, round, neg, mul, div}
+use lib.Ieee.{ofInt, unlike}
 use lib.Ieee.Exact.{HasValue}
 use lib.Ieee.Back.{round-whole}
 use lib.Ieee.Scale.{round-same}

@@ -18,7 +18,8 @@ use Rattle.word.specs.Word.{wordAt, bytesOf}
 use Rattle.word.specs.WordLaws.{word-among, word-drop, length-bytesOf}
 use Rattle.sample.specs.Needed.{byCode, needed, room, width}
 use Rattle.sample.specs.Run.{valuesFrom, length-run, getD-run}
-use Rattle.decode.specs.Sample.{twos, patternOf, sampleOf, integersAsked, integersThere, integersRead, classOf, bitsAsked, bitsThere, patternsRead, classesRead}
+use Rattle.decode.specs.Sample.{twos, patternOf, sampleOf, integersAsked, integersThere, integersRead, classOf}
+use Rattle.decode.specs.Sample.{bitsAsked, bitsThere, patternsRead, classesRead}
 use Rattle.decode.specs.SampleLaws.{twos-plus, twos-minus, there, bits-there, all-read, all-bits-read}
 use Rattle.encode.specs.Unfit.{outside, unfitInteger, unfitIntegers, unfitPattern, unfitPatterns, all-good}
 use Rattle.encode.specs.Write.{flat, residue, fixedBytes, groups, filledUp, integersData, bitsData}

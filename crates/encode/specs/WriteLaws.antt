@@ -5,7 +5,7 @@ use mathlib.Core.Path.{_≡_, refl, sym, ap, ap₂, _∙_}
 use mathlib.Core.Bool.{Bool, true, false, cond}
 use mathlib.Core.List.{List, [], _∷_, _++_, reverse}
 use Prim.Native.Nat.{ℕ, zero, suc, _+_, _-_, _*_, _/_, _%_, _^_, _≤_, _<_}
-use native.Mathlib.Nat.{le-trans, le-of-eq, le-div-iff-mul-le, div-one, mul-suc, mul-add, mul-one}
+use native.Mathlib.Nat.{le-div-iff-mul-le, div-one, mul-suc, mul-add, mul-one}
 use native.Mathlib.Numerals.{add-one}
 use native.Mathlib.Omega.{arith, by-contra}
 use lib.IntN.{ℤ, pos, negsuc, negℤ, natAbs}
@@ -22,7 +22,8 @@ use Rattle.word.specs.Round.{round4}
 use Rattle.word.specs.Word.{lowBytes, bytesOf}
 use Rattle.word.specs.WordLaws.{length-bytesOf}
 use Rattle.encode.specs.Unfit.{unfitInteger, unfitIntegers, all-good}
-use Rattle.encode.specs.Write.{flat, residue, mantissaMost, smallest, exponentOf, mantissaOf, onesBits, exponentsOf, wordsOf, groupBytes, groupOf, groups, filledUp}
+use Rattle.encode.specs.Write.{flat, residue, mantissaMost, smallest, exponentOf, mantissaOf, onesBits}
+use Rattle.encode.specs.Write.{exponentsOf, wordsOf, groupBytes, groupOf, groups, filledUp}
 use Rattle.encode.specs.declared.Fit.the-variants.{All}
 
 -- ---- two's complement

@@ -270,7 +270,8 @@ fn put_words(part: &mut [u8], high: bool, at: usize, w: u16, a: u16, b: u16, c: 
 
 // Group g of a row. Each exponent and each mantissa is worked out once.
 fn write_group(row: &[i32], high: bool, g: usize, part: &mut [u8])
-    requires { ⌜ (4 * g + 4 ≤ length (now row)) × (10 * g + 10 ≤ length (now part)) × (unfitIntegers 3 (now row) ≡ Fit.All) ⌝ }
+    requires { ⌜ (4 * g + 4 ≤ length (now row)) × (10 * g + 10 ≤ length (now part))
+        × (unfitIntegers 3 (now row) ≡ Fit.All) ⌝ }
     ensures { λ _. ⌜ now (part .exit) ≡ put (now (part .entry)) (10 * g) (groupOf high (now (row .entry)) g) ⌝ }
 {
     let i = 4 * g;
@@ -293,7 +294,8 @@ fn write_group(row: &[i32], high: bool, g: usize, part: &mut [u8])
 
 // The groups of a row, low byte first. There is a loop for each order, as `decode` has it.
 fn write_low(row: &[i32], part: &mut [u8])
-    requires { ⌜ (room 3 (length (now row)) ≤ length (now part)) × (length (now row) % 4 ≡ 0) × (unfitIntegers 3 (now row) ≡ Fit.All) ⌝ }
+    requires { ⌜ (room 3 (length (now row)) ≤ length (now part)) × (length (now row) % 4 ≡ 0)
+        × (unfitIntegers 3 (now row) ≡ Fit.All) ⌝ }
     ensures { λ _. ⌜ now (part .exit) ≡ put (now (part .entry)) 0 (groups false (now (row .entry))) ⌝ }
 {
     let count = row.len() / 4;
@@ -306,7 +308,8 @@ fn write_low(row: &[i32], part: &mut [u8])
 
 // High byte first.
 fn write_high(row: &[i32], part: &mut [u8])
-    requires { ⌜ (room 3 (length (now row)) ≤ length (now part)) × (length (now row) % 4 ≡ 0) × (unfitIntegers 3 (now row) ≡ Fit.All) ⌝ }
+    requires { ⌜ (room 3 (length (now row)) ≤ length (now part)) × (length (now row) % 4 ≡ 0)
+        × (unfitIntegers 3 (now row) ≡ Fit.All) ⌝ }
     ensures { λ _. ⌜ now (part .exit) ≡ put (now (part .entry)) 0 (groups true (now (row .entry))) ⌝ }
 {
     let count = row.len() / 4;
@@ -318,7 +321,8 @@ fn write_high(row: &[i32], part: &mut [u8])
 }
 
 fn write_groups(row: &[i32], high: bool, part: &mut [u8])
-    requires { ⌜ (room 3 (length (now row)) ≤ length (now part)) × (length (now row) % 4 ≡ 0) × (unfitIntegers 3 (now row) ≡ Fit.All) ⌝ }
+    requires { ⌜ (room 3 (length (now row)) ≤ length (now part)) × (length (now row) % 4 ≡ 0)
+        × (unfitIntegers 3 (now row) ≡ Fit.All) ⌝ }
     ensures { λ _. ⌜ now (part .exit) ≡ put (now (part .entry)) 0 (groups high (now (row .entry))) ⌝ }
 {
     if high {
@@ -330,7 +334,8 @@ fn write_groups(row: &[i32], high: bool, part: &mut [u8])
 
 // The data block of code 3: the groups, and zeros up to a multiple of 4.
 pub fn write3(row: &[i32], high: bool, part: &mut [u8])
-    requires { ⌜ (room 3 (length (now row)) ≤ length (now part)) × (length (now row) % 4 ≡ 0) × (unfitIntegers 3 (now row) ≡ Fit.All) ⌝ }
+    requires { ⌜ (room 3 (length (now row)) ≤ length (now part)) × (length (now row) % 4 ≡ 0)
+        × (unfitIntegers 3 (now row) ≡ Fit.All) ⌝ }
     ensures { λ _. ⌜ now (part .exit) ≡ put (now (part .entry)) 0 (integersData 3 high (now (row .entry))) ⌝ }
 {
     write_groups(row, high, part);

@@ -1,5 +1,6 @@
--- Answers as they cross to another language: number (0: no refusal), part and place by document 01's table, and behind them the value, which is 0
--- after a refusal. Fields bear the names that include/seg2.h gives them («..»: the `_` in a name takes no argument).
+-- Answers as they cross to another language: number (0: no refusal), part and place by document 01's table, and behind
+-- them the value, which is 0 after a refusal. Fields bear the names that include/seg2.h gives them («..»: the `_` in a
+-- name takes no argument).
 -- Assumes nothing.
 use mathlib.Core.Bool.{Bool}
 use Prim.Native.Nat.{ℕ, _-_}

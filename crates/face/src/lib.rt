@@ -15,7 +15,8 @@ use refusal::Verdict;
 use start::Written;
 ghost use mathlib.Core.Path.{_≡_};
 ghost use Prim.Native.Nat.{_-_};
-ghost use Rattle.face.specs.Face.{flag, asVerdict, asFile, asTrace, asCount, asString, asKeyword, asValue, asNumber, asDouble, asLocation, asLength};
+ghost use Rattle.face.specs.Face.{flag, asVerdict, asFile, asTrace, asCount, asString, asKeyword, asValue};
+ghost use Rattle.face.specs.Face.{asNumber, asDouble, asLocation, asLength};
 
 #[repr(C)]
 pub struct Seg2Verdict {
@@ -24,7 +25,8 @@ pub struct Seg2Verdict {
     pub place: usize,
 }
 
-// The byte order (0 low first, 1 high first), M, N, and the lengths of the string and the line terminator, whose characters stand in bytes 9 and 12 on.
+// The byte order (0 low first, 1 high first), M, N, and the lengths of the string and the line terminator, whose
+// characters stand in bytes 9 and 12 on.
 #[repr(C)]
 pub struct Seg2File {
     pub number: u32,

@@ -1,4 +1,5 @@
--- What is written are bytes, so that the laws of one addition hold of the next: the buffer after a start or an addition is a buffer of bytes again.
+-- What is written are bytes, so that the laws of one addition hold of the next: the buffer after a start or an addition
+-- is a buffer of bytes again.
 -- Assumes nothing.
 use mathlib.Core.Path.{_≡_, refl}
 use mathlib.Core.Bool.{Bool, true, false}
@@ -22,13 +23,17 @@ use Rattle.word.specs.WordLaws.{bytesOf-bytes}
 use Rattle.chars.specs.Chars.{blank, keyChar, valueChar, note, blank-value, control}
 use Rattle.chars.specs.Runs.{all, same, same-eq, same-not}
 use Rattle.note.specs.Note.{Lines, Lines.done, Lines.char, Lines.line}
-use Rattle.strings.specs.Spelled.{Str, GoodString, Rising, textOf, sizeOf, texts, markedEnd, Spells, Spells.empty, Spells.full}
-use Rattle.encode.specs.Write.{flat, residue, fixedBytes, exponentsOf, mantissaOf, onesBits, wordsOf, groupBytes, groups, filledUp, integersData, bitsData}
+use Rattle.strings.specs.Spelled.{Str, GoodString, Rising, textOf, sizeOf, texts, markedEnd, Spells, Spells.empty}
+use Rattle.strings.specs.Spelled.{Spells.full}
+use Rattle.encode.specs.Write.{flat, residue, fixedBytes, exponentsOf, mantissaOf, onesBits, wordsOf, groupBytes}
+use Rattle.encode.specs.Write.{groups, filledUp, integersData, bitsData}
 use Rattle.sheet.specs.declared.Measured.the-variants.{Size}
 use Rattle.sheet.specs.Area.{areaOf, areaSize, padding, sheetStrings, textSize, measuredOf}
 use Rattle.area.specs.Spelling.{among, Terminators, terminators-end, area-spells}
 use Rattle.head.specs.Head.{highFirst, stringEnd, lineEnd}
-use Rattle.layout.specs.Layout.{Trace, Samples, Samples.integers, Samples.patterns, count, fitting, samplesData, orderMark, plainEnds, nul, lineFeed, fileBlock, startImage, traceBlock, blockBytes, dataBytes, traceBytes}
+use Rattle.layout.specs.Layout.{Trace, Samples, Samples.integers, Samples.patterns, count, fitting, samplesData}
+use Rattle.layout.specs.Layout.{orderMark, plainEnds, nul, lineFeed, fileBlock, startImage, traceBlock, blockBytes}
+use Rattle.layout.specs.Layout.{dataBytes, traceBytes}
 use Rattle.append.specs.Grown.{newBytes, grown}
 use Rattle.start.specs.StartShown.{Started}
 use Rattle.writer.specs.Shown.{Added}

@@ -1,8 +1,8 @@
--- A part of an accepted file whose bytes spell a list of strings is answered by that list: how many they are, the i-th, whether a keyword is there, its
--- value, and the value as a number, a double and a location (document 01, "Strings", "Numbers in values").
+-- A part of an accepted file whose bytes spell a list of strings is answered by that list: how many they are, the i-th,
+-- whether a keyword is there, its value, and the value as a number, a double and a location (document 01, "Strings",
+-- "Numbers in values").
 -- Assumes nothing.
 use mathlib.Core.Path.{_≡_}
-use mathlib.Core.Bool.{false}
 use mathlib.Core.List.{List}
 use Prim.Native.Nat.{ℕ, _≤_, _<_}
 use lib.IntN.{ℤ}
@@ -20,8 +20,10 @@ use Rattle.image.specs.Image.{checkOf}
 use Rattle.reader.specs.declared.CountAnswer.the-variants as count
 use Rattle.reader.specs.declared.StringAnswer.the-variants as string
 use Rattle.reader.specs.declared.KeywordAnswer.the-variants.{Yes, No}
-use Rattle.reader.specs.Questions.{countAnswer, nthAnswer, keywordAnswer, valueAnswer, numberAnswer, doubleAnswer, locationAnswer}
-use Rattle.reader.specs.Listed.{Lists, IsString, listed-count, listed-nth, listed-past, listed-keyword, listed-value, listed-number, listed-double, listed-location}
+use Rattle.reader.specs.Questions.{countAnswer, nthAnswer, keywordAnswer, valueAnswer, numberAnswer, doubleAnswer}
+use Rattle.reader.specs.Questions.{locationAnswer}
+use Rattle.reader.specs.Listed.{Lists, IsString, listed-count, listed-nth, listed-past, listed-keyword, listed-value}
+use Rattle.reader.specs.Listed.{listed-number, listed-double, listed-location}
 
 -- the answers on part z of the file in the first n bytes of xs
 pub record AnswersBy (xs : List ℕ) (n : ℕ) (z : ℤ) (ss : List Str) : Type 0 where

@@ -1,5 +1,6 @@
--- The terminators of an image that keeps the rules are such as an area can be written with: document 01's house rule ("each terminator's length is 1 or 2,
--- the used terminator characters are 0 to 31, neither terminator uses tab (9), and the two share no character") as the sheet asks it.
+-- The terminators of an image that keeps the rules are such as an area can be written with: document 01's house rule
+-- ("each terminator's length is 1 or 2, the used terminator characters are 0 to 31, neither terminator uses tab (9),
+-- and the two share no character") as the sheet asks it.
 -- Assumes nothing.
 use mathlib.Core.Path.{_≡_, refl}
 use mathlib.Core.Bool.{Bool, true, false, not, _||_}

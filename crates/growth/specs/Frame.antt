@@ -1,8 +1,9 @@
--- What an addition leaves in the lent buffer: "This and every other writer leave the bytes past what they write" (document 01, "What we write"). Only N's two
--- bytes, the four of slot N, and those from the old end to the new end may differ.
+-- What an addition leaves in the lent buffer: "This and every other writer leave the bytes past what they write"
+-- (document 01, "What we write"). Only N's two bytes, the four of slot N, and those from the old end to the new end may
+-- differ.
 -- Assumes nothing.
 use mathlib.Core.Path.{_≡_, sym, ap, _∙_}
-use mathlib.Core.Bool.{Bool, true}
+use mathlib.Core.Bool.{Bool}
 use mathlib.Core.List.{List, [], _∷_}
 use mathlib.Core.Logic.{_⊎_, ⊎-elim}
 use Prim.Native.Nat.{ℕ, zero, suc, _+_, _*_, _≤_, _<_}
@@ -118,7 +119,8 @@ module _ (high : Bool) (xs new : List ℕ) (n k at c : ℕ) (apart : 36 + 4 * k 
 
 -- ---- an addition
 
--- where the three stores lie: the count, the free slot, which ends within the pointer room, and the free end of the buffer
+-- where the three stores lie: the count, the free slot, which ends within the pointer room, and the free end of the
+-- buffer
 pub record Lies (xs : List ℕ) (n : ℕ) (x : Trace) (end : ℕ) : Type 0 where
   pub some : 32 ≤ n
   pub in-buffer : n ≤ length xs

@@ -1,6 +1,7 @@
--- One image with a trace more than another, told by the bytes alone (document 01, "What we write": "The new trace begins at the old length rounded up to
--- 4, and is written into the free end of the buffer, the gap and all unnamed bytes zero .. The image's length is given beside the buffer and the new
--- length is answered; it is where the new trace's D bytes end"). An accepted addition makes such an image.
+-- One image with a trace more than another, told by the bytes alone (document 01, "What we write": "The new trace
+-- begins at the old length rounded up to 4, and is written into the free end of the buffer, the gap and all unnamed
+-- bytes zero .. The image's length is given beside the buffer and the new length is answered; it is where the new
+-- trace's D bytes end"). An accepted addition makes such an image.
 -- Assumes nothing.
 use mathlib.Core.Path.{_≡_, refl, sym, ap, _∙_}
 use mathlib.Core.Bool.{true}
@@ -19,13 +20,14 @@ use Rattle.word.specs.WordLaws.{word-take}
 use Rattle.encode.specs.declared.Fit.the-variants.{All}
 use Rattle.sheet.specs.declared.Measured.the-variants.{Size}
 use Rattle.sheet.specs.Area.{areaSize, measuredOf}
-use Rattle.head.specs.Head.{highFirst, roomOf, countOf, stringEnd, lineEnd}
+use Rattle.head.specs.Head.{maximum, highFirst, roomOf, countOf, stringEnd, lineEnd}
 use Rattle.image.specs.Keeps.{Keeps}
 use Rattle.image.specs.Accepted.{accepted-keeps}
 use Rattle.layout.specs.Layout.{Trace, fitting, unfit, traceSize, traceBytes}
 use Rattle.append.specs.Grown.{newBytes, newLength, grown}
 use Rattle.writer.specs.Shown.{Added}
-use Rattle.growth.specs.Frame.{lies, length-grown, grown-front, grown-middle, grown-rest, grown-new, grown-count, grown-pointer}
+use Rattle.growth.specs.Frame.{lies, length-grown, grown-front, grown-middle, grown-rest, grown-new, grown-count}
+use Rattle.growth.specs.Frame.{grown-pointer}
 
 pub record Grows (f g : List ℕ) (x : Trace) : Type 0 where
   -- the old image is one that an addition takes, has a slot, and the trace is one that fits it
@@ -45,7 +47,7 @@ pub record Grows (f g : List ℕ) (x : Trace) : Type 0 where
   pub gap : part (length f) (round4 (length f)) g ≡ replicate (round4 (length f) - length f) 0
   pub trace : part (round4 (length f)) (length g) g ≡ traceBytes (highFirst f) (stringEnd f) (lineEnd f) x
   pub size : length g ≡ round4 (length f) + traceSize (stringEnd f) (lineEnd f) x
-  pub most : length g ≤ 67108864
+  pub most : length g ≤ maximum
 
 -- the gap and the trace in what was stored from the old end on
 gap-in : (l tb : List ℕ) (n at end : ℕ) → n ≤ at → at ≤ end → part n end l ≡ replicate (at - n) 0 ++ tb → part n at l ≡ replicate (at - n) 0

@@ -1,8 +1,9 @@
--- What an addition keeps of the image: byte order, revision, M, both terminators and every byte from the end of the pointer room to the old end, so each
--- old trace as it was, at its old place; and what it changes of the file block: N is one more, and slot N has the new trace's place.
+-- What an addition keeps of the image: byte order, revision, M, both terminators and every byte from the end of the
+-- pointer room to the old end, so each old trace as it was, at its old place; and what it changes of the file block: N
+-- is one more, and slot N has the new trace's place.
 -- Assumes nothing.
 use mathlib.Core.Path.{_≡_, sym, ap, _∙_}
-use mathlib.Core.Bool.{Bool, true}
+use mathlib.Core.Bool.{Bool}
 use mathlib.Core.List.{List}
 use mathlib.Core.Logic.{⊎-elim}
 use Prim.Native.Nat.{ℕ, zero, suc, _+_, _-_, _*_, _≤_, _<_}

@@ -1,6 +1,6 @@
--- The new trace in the grown image: it stands at the old length rounded up to 4, its block says its own sizes, count and code, then come its strings and
--- its data, and nothing follows (document 01, "What we write": "D is the needed bytes rounded up to 4"; the new length "is where the new trace's D bytes
--- end").
+-- The new trace in the grown image: it stands at the old length rounded up to 4, its block says its own sizes, count
+-- and code, then come its strings and its data, and nothing follows (document 01, "What we write": "D is the needed
+-- bytes rounded up to 4"; the new length "is where the new trace's D bytes end").
 -- Assumes nothing.
 use mathlib.Core.Path.{_≡_, sym, ap, _∙_}
 use mathlib.Core.List.{List}

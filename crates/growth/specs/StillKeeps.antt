@@ -1,7 +1,8 @@
--- The grown image is a file: it keeps all rules, with a trace or without one before it, so the reader and the next addition accept it.
+-- The grown image is a file: it keeps all rules, with a trace or without one before it, so the reader and the next
+-- addition accept it.
 -- Assumes nothing.
 use mathlib.Core.Path.{_≡_, refl, ap, ap₂, _∙_}
-use mathlib.Core.Bool.{Bool, true, false}
+use mathlib.Core.Bool.{Bool, false}
 use mathlib.Core.List.{List, [], _∷_, _++_, append-assoc}
 use Prim.Native.Nat.{ℕ, zero, suc, _+_, _-_, _%_, _≤_, _<_}
 use native.Mathlib.Nat.{lt-of-not-le}
@@ -20,7 +21,8 @@ use Rattle.word.specs.Round.{round4, round4-whole, round4-up}
 use Rattle.word.specs.Word.{bytesOf}
 use Rattle.refusal.specs.Rows.{pick}
 use Rattle.refusal.specs.declared.Verdict.the-variants.{Accepted}
-use Rattle.strings.specs.Spelled.{Str, textOf, sizeOf, texts, markedEnd, Spells, Spells.empty, Ends.mark, Ends.none, Spells.full}
+use Rattle.strings.specs.Spelled.{Str, textOf, sizeOf, texts, markedEnd, Spells, Spells.empty, Ends.mark, Ends.none}
+use Rattle.strings.specs.Spelled.{Spells.full}
 use Rattle.sheet.specs.Area as area
 use Rattle.sheet.specs.Area.{areaSize}
 use Rattle.area.specs.Spelling.{area-bounds, area-spells}
@@ -34,7 +36,9 @@ use Rattle.append.specs.Grown.{grown}
 use Rattle.writer.specs.Shown.{Added}
 use Rattle.growth.specs.Frame.{length-grown}
 use Rattle.growth.specs.Grows.{Grows, grown-grows}
-use Rattle.growth.specs.Kept.{longer, low-kept, second-kept, high-kept, revision-kept, room-kept, count-grown, size-kept, string-end-kept, line-end-kept, trace-at-kept, trace-at-new, part-kept, trace-kept}
+use Rattle.growth.specs.Kept.{longer, low-kept, second-kept, high-kept, revision-kept, room-kept, count-grown}
+use Rattle.growth.specs.Kept.{size-kept, string-end-kept, line-end-kept, trace-at-kept, trace-at-new, part-kept}
+use Rattle.growth.specs.Kept.{trace-kept}
 use Rattle.layout.specs.LayoutLaws.{kinded, room-enough}
 use Rattle.growth.specs.NewTrace.{has-new}
 

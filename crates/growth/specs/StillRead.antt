@@ -1,8 +1,7 @@
--- An addition changes no answer on what was there: every question on the file's strings, on an old trace, its strings and its samples is answered as
--- before (document 01, "Strings", "Numbers in values", "Samples").
+-- An addition changes no answer on what was there: every question on the file's strings, on an old trace, its strings
+-- and its samples is answered as before (document 01, "Strings", "Numbers in values", "Samples").
 -- Assumes nothing.
 use mathlib.Core.Path.{_≡_, refl, sym, ap, ap₂, _∙_}
-use mathlib.Core.Bool.{true, false}
 use mathlib.Core.List.{List, [], _∷_}
 use Prim.Native.Nat.{ℕ, zero, suc, _+_, _≤_, _<_}
 use native.Mathlib.Omega.{arith}
@@ -32,12 +31,17 @@ use Rattle.head.specs.declared.FileAnswer.the-variants as file
 use Rattle.reader.specs.Listed.{found-value}
 use Rattle.reader.specs.Answers.{data-at, samples-at, patterns-at, classes-at}
 use Rattle.block.specs.declared.TraceBlock.{TraceBlock}
-use Rattle.reader.specs.Questions.{blockAt, noTrace, whoseOf, areaNamed, areaAsked, onArea, onTrace, fileAnswer, traceAnswer, placesIn, countAnswer, there, nthAnswer, findAnswer, keywordAnswer, valueThere, valueAnswer, numberAnswer, doubleAnswer, locationAnswer, dataOf, integersVerdict, bitsVerdict, integersAnswer, bitsAnswer, samplesOf, patternsOf, classesOf, traceNumber, integersLeft, patternsLeft, classesLeft}
+use Rattle.reader.specs.Questions.{blockAt, noTrace, whoseOf, areaNamed, areaAsked, onArea, onTrace, fileAnswer}
+use Rattle.reader.specs.Questions.{traceAnswer, placesIn, countAnswer, there, nthAnswer, findAnswer, keywordAnswer}
+use Rattle.reader.specs.Questions.{valueThere, valueAnswer, numberAnswer, doubleAnswer, locationAnswer, dataOf}
+use Rattle.reader.specs.Questions.{integersVerdict, bitsVerdict, integersAnswer, bitsAnswer, samplesOf, patternsOf}
+use Rattle.reader.specs.Questions.{classesOf, traceNumber, integersLeft, patternsLeft, classesLeft}
 use Rattle.layout.specs.Layout.{Trace}
 use Rattle.append.specs.Grown.{grown}
 use Rattle.writer.specs.Shown.{placed, Added}
 use Rattle.growth.specs.Grows.{Grows, grown-grows}
-use Rattle.growth.specs.Kept.{behind-room, longer, high-kept, room-kept, count-grown, size-kept, string-end-kept, trace-at-kept, part-kept, trace-kept}
+use Rattle.growth.specs.Kept.{behind-room, longer, high-kept, room-kept, count-grown, size-kept, string-end-kept}
+use Rattle.growth.specs.Kept.{trace-at-kept, part-kept, trace-kept}
 use Rattle.growth.specs.StillKeeps.{strings-end-grown, file-spelled-kept, grown-accepted}
 use Rattle.growth.specs.Answered.{AnswersBy, answered}
 

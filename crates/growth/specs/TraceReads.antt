@@ -1,8 +1,9 @@
--- A trace that stands in an accepted file reads as what was given: its block, the strings of its sheet, its samples (document 01, "Samples": "So the value
--- read differs by less than 2 to the exponent, and by nothing up to 32,767" under code 3, and nothing differs under the others).
+-- A trace that stands in an accepted file reads as what was given: its block, the strings of its sheet, its samples
+-- (document 01, "Samples": "So the value read differs by less than 2 to the exponent, and by nothing up to 32,767"
+-- under code 3, and nothing differs under the others).
 -- Assumes nothing.
 use mathlib.Core.Path.{_≡_, refl, sym, ap, _∙_}
-use mathlib.Core.Bool.{Bool, true, false}
+use mathlib.Core.Bool.{Bool, true}
 use mathlib.Core.List.{List, [], map}
 use Prim.Native.Nat.{ℕ, zero, suc, _+_, _%_, _<_}
 use native.Mathlib.Omega.{arith}
@@ -29,14 +30,16 @@ use Rattle.sheet.specs.Area.{sheetStrings, measuredOf}
 use Rattle.note.specs.Note.{LineEnd}
 use Rattle.area.specs.Spelling.{area-spells}
 use Rattle.head.specs.Head.{highFirst, countOf, stringEnd, lineEnd}
-use Rattle.block.specs.Block.{dataAt, endAt, traceBlockOf}
+use Rattle.block.specs.Block.{dataAt, traceBlockOf}
 use Rattle.image.specs.Image.{checkOf}
 use Rattle.image.specs.Keeps.{traceAt}
 use Rattle.block.specs.declared.TraceAnswer.the-variants as trace
-use Rattle.reader.specs.Questions.{traceAnswer, dataOf, codeAt, countAt, ofIntegers, integersAnswer, bitsAnswer, samplesOf, patternsOf, classesOf, integersLeft, patternsLeft, classesLeft}
+use Rattle.reader.specs.Questions.{traceAnswer, dataOf, codeAt, countAt, ofIntegers, integersAnswer, bitsAnswer}
+use Rattle.reader.specs.Questions.{samplesOf, patternsOf, classesOf, integersLeft, patternsLeft, classesLeft}
 use Rattle.reader.specs.Listed.{whose-one, trace-area}
-use Rattle.reader.specs.Answers.{data-at, samples-at, patterns-at, classes-at, integers-read, bits-read}
-use Rattle.layout.specs.Layout.{Trace, Samples.integers, Samples.patterns, fitting, unfit, samplesData, blockBytes, dataBytes, traceSize}
+use Rattle.reader.specs.Answers.{samples-at, patterns-at, classes-at, integers-read, bits-read}
+use Rattle.layout.specs.Layout.{Trace, Samples.integers, Samples.patterns, fitting, unfit, samplesData, blockBytes}
+use Rattle.layout.specs.Layout.{dataBytes, traceSize}
 use Rattle.layout.specs.Layout as layout
 use Rattle.layout.specs.LayoutLaws.{Stands}
 use Rattle.growth.specs.Answered.{AnswersBy, answered}

@@ -1,10 +1,10 @@
--- The file block (document 01, "The file block" and rows 2 to 7). f is the image, the bytes that are the file, or no more than its first 32: all that
--- is said of the block stands there.
+-- The file block (document 01, "The file block" and rows 2 to 7). f is the image, the bytes that are the file, or no
+-- more than its first 32: all that is said of the block stands there.
 -- Assumes nothing.
 use mathlib.Core.Bool.{Bool, true, false, not, _&&_, _||_}
 use mathlib.Core.List.{List, [], _∷_}
 use Prim.Native.Nat.{ℕ, _+_, _/_, _%_, _<_}
-use lib.ListN.{length, getD}
+use lib.ListN.{getD}
 use lib.Dec.{ltb, eqb}
 use Rattle.word.specs.Part.{part}
 use Rattle.word.specs.Word.{wordAt}
@@ -47,8 +47,8 @@ roomOf f = wordAt 2 (highFirst f) f 4
 unfoldable pub countOf : List ℕ → ℕ
 countOf f = wordAt 2 (highFirst f) f 6
 
--- "8 length of the string terminator with characters in 9-10, 11 length of the line terminator with characters in 12-13": the one whose length
--- stands at a place. The unused second byte of a one-byte terminator is ignored
+-- "8 length of the string terminator with characters in 9-10, 11 length of the line terminator with characters in
+-- 12-13": the one whose length stands at a place. The unused second byte of a one-byte terminator is ignored
 unfoldable pub terminatorAt : List ℕ → ℕ → List ℕ
 terminatorAt f at = part (at + 1) (at + 1 + getD f at 0) f
 
@@ -106,7 +106,8 @@ headRows purpose b end =
 unfoldable pub headOf : Purpose → List ℕ → ℕ → Verdict
 headOf purpose b end = first (headRows purpose b end) Accepted
 
--- ---- the block as an answer: order, M and N, and the lengths of the two terminators, whose characters stand in bytes 9 and 12 on
+-- ---- the block as an answer: order, M and N, and the lengths of the two terminators, whose characters stand in bytes
+-- 9 and 12 on
 
 unfoldable pub fileBlockOf : List ℕ → FileBlock
 fileBlockOf b = record { high = highFirst b; m = roomOf b; n = countOf b; strings = getD b 8 0; lines = getD b 11 0 }

@@ -23,7 +23,8 @@ use Rattle.refusal.specs.declared.Verdict.the-variants.{Accepted}
 use Rattle.chars.specs.Runs.{all, more, none}
 use Rattle.chars.specs.Chars.{control}
 use Rattle.note.specs.Note.{LineEnd, control-ends}
-use Rattle.head.specs.Head.{known, mayBeEmpty, highFirst, revisionOf, roomOf, countOf, terminatorAt, stringEnd, lineEnd, goodTerminator, lacks, apart, headRows, headOf, fileBlockOf}
+use Rattle.head.specs.Head.{known, mayBeEmpty, highFirst, revisionOf, roomOf, countOf, terminatorAt, stringEnd}
+use Rattle.head.specs.Head.{lineEnd, goodTerminator, lacks, apart, headRows, headOf, fileBlockOf}
 
 -- ---- terminators of one and of two characters
 module _ (f : List ℕ) (at : ℕ) (fits : at + 3 ≤ length f) where

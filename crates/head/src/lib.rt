@@ -1,6 +1,6 @@
-// The file block (document 01, "The file block", rows 2 to 7): byte order, revision, pointer room, count and the two terminators.
-// Head has the definitions, HeadLaws what an image that passes the rows has. Stands on `text`, `word`, `refusal`.
-// f is the image, the first `n` bytes of the lent buffer, or no more than its first 32.
+// The file block (document 01, "The file block", rows 2 to 7): byte order, revision, pointer room, count and the two
+// terminators. Head has the definitions, HeadLaws what an image that passes the rows has. Stands on `text`, `word`,
+// `refusal`. f is the image, the first `n` bytes of the lent buffer, or no more than its first 32.
 // The rules in words: docs/FORMAT.md, "The file block".
 use refusal::Refusal;
 use refusal::Rule;
@@ -11,8 +11,10 @@ ghost use Prim.Native.Nat.{_+_, _≤_, _<_};
 ghost use lib.ListN.{length};
 ghost use Rattle.word.specs.Part.{PartOf};
 ghost use Rattle.chars.specs.Chars.{control};
-ghost use Rattle.head.specs.Head.{known, highFirst, terminatorAt, stringEnd, lineEnd, goodTerminator, lacks, apart, mayBeEmpty};
-ghost use Rattle.head.specs.Head.{badRoom, badCount, badLines, refused, badFile, headAnswer, InWords, terminatorSpan, fileBlockOf};
+ghost use Rattle.head.specs.Head.{known, highFirst, terminatorAt, stringEnd, lineEnd, goodTerminator, lacks};
+ghost use Rattle.head.specs.Head.{apart, mayBeEmpty};
+ghost use Rattle.head.specs.Head.{badRoom, badCount, badLines, refused, badFile, headAnswer, InWords};
+ghost use Rattle.head.specs.Head.{terminatorSpan, fileBlockOf};
 
 // "A file is at most 67,108,864 bytes": `maximum` of the definitions.
 pub const MAXIMUM: usize = 67108864;
@@ -23,7 +25,8 @@ pub enum Purpose {
     Grow,
 }
 
-// The byte order, M, N, and the lengths of the string terminator (its characters stand from byte 9 on) and of the line terminator (from 12 on).
+// The byte order, M, N, and the lengths of the string terminator (its characters stand from byte 9 on) and of the line
+// terminator (from 12 on).
 pub struct FileBlock {
     pub high: bool,
     pub m: usize,

@@ -1,12 +1,13 @@
--- The strings of an area: "Offset 0 ends the list; what follows in the area is ignored" (document 01, "Strings"). Two areas of one length that are alike up to and
--- with the end mark get the same refusal, the same places and the same strings.
+-- The strings of an area: "Offset 0 ends the list; what follows in the area is ignored" (document 01, "Strings"). Two
+-- areas of one length that are alike up to and with the end mark get the same refusal, the same places and the same
+-- strings.
 -- Assumes nothing.
-use mathlib.Core.Path.{_≡_, refl, sym, ap, ap₂, _∙_}
+use mathlib.Core.Path.{_≡_, refl, sym, ap, _∙_}
 use mathlib.Core.Bool.{Bool, true, false}
 use mathlib.Core.List.{List, [], _∷_}
-use Prim.Native.Nat.{ℕ, zero, suc, _+_, _-_, _≤_, _<_}
+use Prim.Native.Nat.{ℕ, zero, suc, _+_, _-_, _≤_}
 use native.Mathlib.Omega.{arith}
-use lib.ListN.{length, take, drop, length-take, length-drop}
+use lib.ListN.{length, take, drop, length-drop}
 use lib.Seq.{take-all, take-take}
 use Rattle.text.specs.declared.Manner.the-variants.{Strict}
 use Rattle.word.specs.Part.{part, length-part, drop-take, part-drop, part-take, part-part, part-none}
@@ -14,20 +15,20 @@ use Rattle.word.specs.Word.{wordAt}
 use Rattle.word.specs.WordLaws.{word-take}
 use Rattle.refusal.specs.Rows.{pick}
 use Rattle.refusal.specs.declared.Part.{Part}
-use Rattle.refusal.specs.declared.Verdict.{Verdict}
 use Rattle.chars.specs.Runs.{same}
 use Rattle.strings.specs.declared.Frame.{Frame}
 use Rattle.strings.specs.declared.Frame.the-variants.{End, Text, Broken}
 use Rattle.strings.specs.declared.Step.{Step}
 use Rattle.strings.specs.declared.Step.the-variants.{Next, Done, Bad}
 use Rattle.strings.specs.declared.Place.{Place}
-use Rattle.strings.specs.declared.Found.{Found}
-use Rattle.strings.specs.declared.Found.the-variants.{Nothing, Is}
-use Rattle.strings.specs.Strings.{offset, body, keyLen, gapLen, afterKey, frameRows, frameOf, judgedOf, onFrame, stepOf, onStep, stringsFrom, stringsOf, placeOf, onText, placesFrom, placesOf, keyIn, valueIn, findOf, valueFound}
+use Rattle.strings.specs.declared.Found.the-variants.{Is}
+use Rattle.strings.specs.Strings.{offset, body, keyLen, gapLen, afterKey, frameOf, onFrame, stepOf, onStep, stringsFrom}
+use Rattle.strings.specs.Strings.{stringsOf, placeOf, onText, placesFrom, placesOf, keyIn, valueIn, findOf, valueFound}
 use Rattle.strings.specs.Paper.{end-told}
-use Rattle.strings.specs.Walks.{InFrame, in-frame, next-fits, next-bounds, Fits, place-fits}
+use Rattle.strings.specs.Walks.{in-frame, next-fits, next-bounds, place-fits}
 
--- what of a string's frame is read: an end mark's two bytes, the o bytes of a string and what is read behind it, all that is left where it is broken
+-- what of a string's frame is read: an end mark's two bytes, the o bytes of a string and what is read behind it, all
+-- that is left where it is broken
 abbrev pub readOf : Frame → ℕ → (ℕ → ℕ) → ℕ
 readOf End left next = 2
 readOf (Broken r) left next = left

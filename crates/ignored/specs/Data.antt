@@ -1,12 +1,11 @@
--- "D may exceed this; the rest is ignored" (document 01, "The trace block"): two data blocks that agree in the needed bytes of s samples have the same samples, the
--- same patterns and the same classes.
+-- "D may exceed this; the rest is ignored" (document 01, "The trace block"): two data blocks that agree in the needed
+-- bytes of s samples have the same samples, the same patterns and the same classes.
 -- Assumes nothing.
 use mathlib.Core.Path.{_≡_, refl, sym, ap, _∙_}
-use mathlib.Core.Bool.{Bool, true}
+use mathlib.Core.Bool.{Bool}
 use mathlib.Core.List.{List}
-use Prim.Native.Nat.{ℕ, zero, suc, _+_, _*_, _/_, _%_, _≤_, _<_}
+use Prim.Native.Nat.{ℕ, zero, suc, _*_, _/_, _%_, _<_}
 use native.Mathlib.Omega.{arith}
-use lib.IntN.{ℤ}
 use lib.ListN.{take}
 use borrow.Author.Tests.{eq-eqb}
 use Rattle.word.specs.WordLaws.{word-take}

@@ -1,11 +1,13 @@
--- Two images that are alike where it counts: in the first 32 bytes the order, the revision, M, N and the terminators' used bytes; the slots in use; of each trace
--- the first 13 bytes of its block, its strings and the needed bytes of its data; the file's strings. All else may differ: "14-31 reserved, ignored", the unused
--- second byte of a one-byte terminator, "later slots are ignored", "reserved to byte 31", what follows an end mark, data beyond the needed bytes, "Gaps between
--- traces and bytes after the last" (document 01). Theorem: the check answers alike, refusals and places included.
+-- Two images that are alike where it counts: in the first 32 bytes the order, the revision, M, N and the terminators'
+-- used bytes; the slots in use; of each trace the first 13 bytes of its block, its strings and the needed bytes of its
+-- data; the file's strings. All else may differ: "14-31 reserved, ignored", the unused second byte of a one-byte
+-- terminator, "later slots are ignored", "reserved to byte 31", what follows an end mark, data beyond the needed bytes,
+-- "Gaps between traces and bytes after the last" (document 01). Theorem: the check answers alike, refusals and places
+-- included.
 -- Assumes nothing.
-use mathlib.Core.Path.{_≡_, refl, sym, ap, ap₂, _∙_}
+use mathlib.Core.Path.{_≡_, refl, sym, ap, _∙_}
 use mathlib.Core.Bool.{Bool, true, false}
-use mathlib.Core.List.{List, [], _∷_}
+use mathlib.Core.List.{List}
 use Prim.Native.Nat.{ℕ, zero, suc, _+_, _-_, _*_, _≤_, _<_}
 use native.Mathlib.Omega.{arith, by-contra}
 use lib.ListN.{length, getD, take, drop, length-take, length-drop}
@@ -16,17 +18,16 @@ use lib.Dec.{eqb}
 use borrow.Author.Tests.{eq-eqb}
 use Rattle.head.specs.declared.Purpose.{Purpose}
 use Rattle.text.specs.declared.Manner.the-variants.{Strict}
-use Rattle.refusal.specs.Verdicts.{andThen}
 use Rattle.word.specs.Tests.{never}
 use Rattle.word.specs.Part.{part, getD-part, drop-take}
 use Rattle.word.specs.Word.{wordAt}
 use Rattle.word.specs.WordLaws.{word-take, word-part}
-use Rattle.refusal.specs.Rows.{first, pick}
+use Rattle.refusal.specs.Rows.{pick}
 use Rattle.refusal.specs.declared.Part.{Part}
 use Rattle.refusal.specs.declared.Part.the-variants.{File, Trace}
-use Rattle.refusal.specs.declared.Verdict.{Verdict}
 use Rattle.sample.specs.Needed.{needed}
-use Rattle.head.specs.Head.{highFirst, revisionOf, roomOf, countOf, terminatorAt, stringEnd, lineEnd, goodTerminator, headOf}
+use Rattle.head.specs.Head.{highFirst, revisionOf, roomOf, countOf, terminatorAt, stringEnd, lineEnd, goodTerminator}
+use Rattle.head.specs.Head.{headOf}
 use Rattle.block.specs.Block.{pointerOf, markAt, blockSize, dataSize, sampleCount, formatCode, dataAt, endAt, blockOf}
 use Rattle.image.specs.Image.{areaVerdict, traceOf, tracesFrom, filledChecks, restOf, imageOf}
 use Rattle.block.specs.BlockLaws.{headAt, own-mark, own-size, own-data, own-samples, own-code}
@@ -39,7 +40,8 @@ abbrev pub AlikeStrings : List ℕ → List ℕ → ℕ → ℕ → Type 0
 AlikeStrings f g a e =
     take (usedOf (highFirst f) (stringEnd f) (part a e f)) (part a e f) ≡ take (usedOf (highFirst f) (stringEnd f) (part a e f)) (part a e g)
 
--- of the file block bytes 0 to 8 stand alone: order, revision, M, N, the length of the string terminator; of a trace block bytes 0 to 12: 4422h, B, D, S, the code
+-- of the file block bytes 0 to 8 stand alone: order, revision, M, N, the length of the string terminator; of a trace
+-- block bytes 0 to 12: 4422h, B, D, S, the code
 abbrev pub fileFront : ℕ
 fileFront = 9
 

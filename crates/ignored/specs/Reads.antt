@@ -1,31 +1,27 @@
--- Images that are alike where it counts (Images) get the same answer from the check and from every question: refusals, places, strings, numbers and samples.
+-- Images that are alike where it counts (Images) get the same answer from the check and from every question: refusals,
+-- places, strings, numbers and samples.
 -- Assumes nothing.
 use mathlib.Core.Path.{_≡_, refl, sym, ap, ap₂, _∙_}
-use mathlib.Core.Bool.{Bool, true, false}
+use mathlib.Core.Bool.{Bool}
 use mathlib.Core.List.{List, []}
-use Prim.Native.Nat.{ℕ, zero, suc, _+_, _≤_, _<_}
+use Prim.Native.Nat.{ℕ, _+_, _≤_, _<_}
 use native.Mathlib.Omega.{arith}
-use lib.IntN.{ℤ, pos, negsuc}
+use lib.IntN.{ℤ}
 use lib.ListN.{length, take}
-use lib.Dec.{eqb}
 use borrow.Author.Tests.{le-ltb, ne-eqb}
 use Rattle.head.specs.declared.Purpose.{Purpose}
 use Rattle.head.specs.declared.Purpose.the-variants.{Read}
 use Rattle.text.specs.declared.Manner.the-variants.{Strict}
 use Rattle.refusal.specs.Verdicts.{asked}
 use Rattle.word.specs.Part.{part}
-use Rattle.refusal.specs.Rows.{first, pick}
 use Rattle.refusal.specs.declared.Refusal.{Refusal}
 use Rattle.refusal.specs.declared.Verdict.{Verdict}
 use Rattle.refusal.specs.declared.Verdict.the-variants.{Accepted, Refused}
 use Rattle.strings.specs.declared.Place.{Place}
 use Rattle.strings.specs.Strings.{placesOf, nthOf, findOf, valueFound}
 use Rattle.decimal.specs.declared.NumberAnswer.the-variants as number
-use Rattle.decimal.specs.Number.{numberIn}
 use Rattle.double.specs.declared.DoubleAnswer.the-variants as double
 use Rattle.double.specs.declared.LocationAnswer.the-variants as location
-use Rattle.double.specs.Double.{doubleOf}
-use Rattle.double.specs.Location.{locationOf}
 use Rattle.head.specs.Head.{fileBlockOf, highFirst, roomOf, countOf, stringEnd}
 use Rattle.block.specs.Block.{sampleCount, formatCode, dataAt, endAt, traceBlockOf}
 use Rattle.image.specs.Image.{checkOf}
@@ -34,17 +30,22 @@ use Rattle.reader.specs.declared.Whose.{Whose}
 use Rattle.reader.specs.declared.Whose.the-variants.{Whole, One, Nobody}
 use Rattle.reader.specs.declared.Area.{Area}
 use Rattle.reader.specs.declared.Area.the-variants.{Outside, From}
-use Rattle.reader.specs.declared.StringAnswer.{StringAnswer}
 use Rattle.reader.specs.declared.StringAnswer.the-variants as string
 use Rattle.head.specs.declared.FileAnswer.the-variants as file
 use Rattle.block.specs.declared.TraceAnswer.the-variants as trace
 use Rattle.reader.specs.declared.CountAnswer.the-variants as count
-use Rattle.reader.specs.Questions.{noTrace, whoseOf, areaNamed, areaAsked, onArea, onTrace, fileAnswer, traceAnswer, placesIn, countAnswer, there, nthAnswer, findAnswer, keywordAnswer, yesOrNo, valueThere, valueAnswer, onString, numberAnswer, doubleAnswer, locationAnswer, codeAt, countAt, dataOf, integersVerdict, bitsVerdict, integersAnswer, bitsAnswer, samplesIn, patternsIn, classesIn, samplesOf, patternsOf, classesOf, integersLeft, patternsLeft, classesLeft, kept, traceNumber}
+use Rattle.reader.specs.Questions.{noTrace, whoseOf, areaNamed, areaAsked, onArea, onTrace, fileAnswer, traceAnswer}
+use Rattle.reader.specs.Questions.{placesIn, countAnswer, there, nthAnswer, findAnswer, keywordAnswer, yesOrNo}
+use Rattle.reader.specs.Questions.{valueThere, valueAnswer, numberAnswer, doubleAnswer, locationAnswer, codeAt, countAt}
+use Rattle.reader.specs.Questions.{dataOf, integersVerdict, bitsVerdict, integersAnswer, bitsAnswer, samplesIn}
+use Rattle.reader.specs.Questions.{patternsIn, classesIn, samplesOf, patternsOf, classesOf, integersLeft, patternsLeft}
+use Rattle.reader.specs.Questions.{classesLeft, kept}
 use Rattle.reader.specs.Reach.{checked, whose-trace, some-trace, area-fits, trace-blocked}
 use Rattle.reader.specs.Listed.{found-value}
 use Rattle.reader.specs.Answers.{integers-accepted, bits-accepted}
 use Rattle.ignored.specs.Areas.{SameAt, places-same, texts-same, find-same, value-same}
-use Rattle.ignored.specs.Images.{AlikeStrings, AlikeTrace, Alike, part-long, same-order, same-room, same-traces, same-size, same-pointer, same-block, same-data, same-count, same-code, same-end, same-image}
+use Rattle.ignored.specs.Images.{AlikeStrings, Alike, part-long, same-order, same-room, same-traces, same-size}
+use Rattle.ignored.specs.Images.{same-pointer, same-block, same-data, same-count, same-code, same-end, same-image}
 use Rattle.ignored.specs.Data.{samples-same, patterns-same, classes-same}
 
 module _ {f g : List ℕ} (a : Alike f g) where

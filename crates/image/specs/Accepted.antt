@@ -28,13 +28,15 @@ use Rattle.text.specs.declared.Manner.{Manner}
 use Rattle.head.specs.declared.Purpose.{Purpose}
 use Rattle.note.specs.Note.{LineEnd}
 use Rattle.strings.specs.Paper.{spelled-accepted, accepted-spelled}
-use Rattle.head.specs.Head.{maximum, known, highFirst, roomOf, countOf, stringEnd, lineEnd, goodTerminator, headOf, refused}
+use Rattle.head.specs.Head.{maximum, known, highFirst, roomOf, countOf, stringEnd, lineEnd, goodTerminator, headOf}
+use Rattle.head.specs.Head.{refused}
 use Rattle.head.specs.HeadLaws.{Headed, headed, head-accepts, good-length, good-chars, good-ends}
-use Rattle.block.specs.Block.{blockSize, dataSize, dataAt, endAt, pointerRow, blockOf}
-use Rattle.image.specs.Image.{areaVerdict, traceChecks, traceOf, tracesFrom, filledChecks, restOf, imageOf, badLength, checkOf}
+use Rattle.block.specs.Block.{blockSize, dataSize, dataAt, endAt}
+use Rattle.image.specs.Image.{areaVerdict, traceChecks, traceOf, tracesFrom, filledChecks, restOf, imageOf}
+use Rattle.image.specs.Image.{badLength, checkOf}
 use Rattle.block.specs.BlockLaws.{Pointed, pointed, pointer-accepts, Blocked, blocked, block-accepts}
 use Rattle.image.specs.ImageLaws.{long-enough, length-accepts}
-use Rattle.image.specs.Keeps.{traceAt, endBefore, stringsEnd, Strings, KeepsTerminator, KeepsTrace, KeepsFile, Keeps}
+use Rattle.image.specs.Keeps.{traceAt, endBefore, stringsEnd, Strings, KeepsTerminator, KeepsTrace, Keeps}
 
 -- ---- an area
 area-kept : (how : Manner) (f : List ℕ) (whose : Part) (a e : ℕ) → LineEnd (lineEnd f) → Bytes f

@@ -1,5 +1,5 @@
--- The check of a whole file (document 01, rows 1 and 8 to 17 in their order; rows 2 to 7 are head/Head, the rows of a block block/Block). f is the image,
--- `how` the manner of reading.
+-- The check of a whole file (document 01, rows 1 and 8 to 17 in their order; rows 2 to 7 are head/Head, the rows of a
+-- block block/Block). f is the image, `how` the manner of reading.
 -- Assumes nothing.
 use mathlib.Core.Bool.{Bool, _||_}
 use mathlib.Core.List.{List, [], _∷_}
@@ -24,7 +24,8 @@ use Rattle.block.specs.BlockLaws.{headAt}
 use Rattle.head.specs.declared.Purpose.{Purpose}
 use Rattle.head.specs.Head.{maximum, highFirst, roomOf, countOf, stringEnd, lineEnd, headOf, refused}
 
--- rows 14 to 17 of an area of the file: "The file's strings fill the bytes from 32+M to the first pointer", "strings from byte 32 to B"
+-- rows 14 to 17 of an area of the file: "The file's strings fill the bytes from 32+M to the first pointer", "strings
+-- from byte 32 to B"
 unfoldable pub areaVerdict : Manner → Bool → List ℕ → List ℕ → List ℕ → Part → ℕ → ℕ → Verdict
 areaVerdict how high t u f whose a e = stringsOf how high t u whose (part a e f) a
 

@@ -1,5 +1,6 @@
--- The rules of a file in the format's own words, and in no order of checking (document 01, "The file block", "The trace block", "Strings").
--- f is the image, `how` the manner of reading. Two records: what each trace keeps, and what the whole file keeps.
+-- The rules of a file in the format's own words, and in no order of checking (document 01, "The file block", "The trace
+-- block", "Strings"). f is the image, `how` the manner of reading. Two records: what each trace keeps, and what the
+-- whole file keeps.
 -- Assumes nothing.
 use mathlib.Core.Path.{_≡_}
 use mathlib.Core.Bool.{true}
@@ -20,7 +21,8 @@ use Rattle.chars.specs.Chars.{control}
 use Rattle.head.specs.Head.{maximum, highFirst, revisionOf, roomOf, countOf, terminatorAt, stringEnd, lineEnd, apart}
 use Rattle.block.specs.Block.{traceMark, pointerOf, markAt, blockSize, dataSize, sampleCount, formatCode, dataAt, endAt}
 
--- where the trace k begins, and where what stands before it ends: the pointer room before the first, then the data of the trace before
+-- where the trace k begins, and where what stands before it ends: the pointer room before the first, then the data of
+-- the trace before
 abbrev pub traceAt : List ℕ → ℕ → ℕ
 traceAt f k = pointerOf (highFirst f) f k
 
@@ -28,7 +30,8 @@ unfoldable pub endBefore : List ℕ → ℕ → ℕ
 endBefore f zero = 32 + roomOf f
 endBefore f (suc k) = endAt (highFirst f) f (traceAt f k)
 
--- "The file's strings fill the bytes from 32+M to the first pointer"; "With N=0 the file's strings run to the image's end"
+-- "The file's strings fill the bytes from 32+M to the first pointer"; "With N=0 the file's strings run to the image's
+-- end"
 abbrev pub stringsEnd : List ℕ → ℕ
 stringsEnd f = pick (eqb (countOf f) 0) (length f) (traceAt f 0)
 

@@ -1,7 +1,7 @@
-// The check of a whole file (document 01, rows 1 to 17, in the order of its table). Image has the walk, Keeps the rules in no order; Accepted proves
-// that an image is accepted exactly where it keeps the rules. Stands on `head`, `block`, `strings`.
-// f is the image, the first `n` bytes of the lent buffer; t and u are its terminators, `how` is the manner of reading. Each part of the check hands on
-// what it read.
+// The check of a whole file (document 01, rows 1 to 17, in the order of its table). Image has the walk, Keeps the rules
+// in no order; Accepted proves that an image is accepted exactly where it keeps the rules. Stands on `head`, `block`,
+// `strings`. f is the image, the first `n` bytes of the lent buffer; t and u are its terminators, `how` is the manner
+// of reading. Each part of the check hands on what it read.
 // The rules in words: docs/FORMAT.md, "Refusal numbers, in order of checking".
 use block::TraceAnswer;
 use head::FileAnswer;
@@ -28,7 +28,8 @@ pub enum Walked {
 // Rows 9 to 17 of the trace k, whose block begins at p.
 fn block(f: &[u8], high: bool, t: &[u8], u: &[u8], k: u16, p: usize, how: Manner) -> Walked
     requires { ⌜ (p < 4294967296) × (p + 32 ≤ length (now f)) × (0 < length (now u)) ⌝ }
-    ensures { λ r. ⌜ r ≡ walked (firstOf (blockChecks how high (now (t .entry)) (now (u .entry)) (now (f .entry)) k p)) high (now (f .entry)) p ⌝ }
+    ensures { λ r. ⌜ r ≡ walked (firstOf (blockChecks how high (now (t .entry)) (now (u .entry)) (now (f .entry)) k p))
+        high (now (f .entry)) p ⌝ }
 {
     let from = p + 32;
     let rows = block::block_rows(&f[p..from], high, f.len(), k, p);
@@ -48,7 +49,8 @@ fn block(f: &[u8], high: bool, t: &[u8], u: &[u8], k: u16, p: usize, how: Manner
 // Rows 8 to 17 of the trace k, behind what ends at prev.
 fn trace(f: &[u8], high: bool, t: &[u8], u: &[u8], k: u16, prev: usize, how: Manner) -> Walked
     requires { ⌜ (36 + 4 * k ≤ length (now f)) × (0 < length (now u)) ⌝ }
-    ensures { λ r. ⌜ r ≡ walked (traceOf how high (now (t .entry)) (now (u .entry)) (now (f .entry)) k prev) high (now (f .entry)) (pointerOf high (now (f .entry)) k) ⌝ }
+    ensures { λ r. ⌜ r ≡ walked (traceOf how high (now (t .entry)) (now (u .entry)) (now (f .entry)) k prev) high
+        (now (f .entry)) (pointerOf high (now (f .entry)) k) ⌝ }
 {
     let p = block::pointer(f, high, k);
     let row = block::pointer_row(f.len(), k, prev, p);
@@ -80,8 +82,8 @@ fn traces(f: &[u8], high: bool, t: &[u8], u: &[u8], n: u16, start: usize, how: M
     Verdict::Accepted
 }
 
-// What comes behind rows 2 to 7: the first pointer, the file's strings, the traces; with N=0 the strings run to the end. The first pointer is judged
-// once, and the first trace goes on from it.
+// What comes behind rows 2 to 7: the first pointer, the file's strings, the traces; with N=0 the strings run to the
+// end. The first pointer is judged once, and the first trace goes on from it.
 fn rest(f: &[u8], high: bool, t: &[u8], u: &[u8], m: usize, n: u16, how: Manner) -> Verdict
     requires { ⌜ (32 + m ≤ length (now f)) × (4 * n ≤ m) × (0 < length (now u)) ⌝ }
     ensures { λ r. ⌜ r ≡ restOf how high (now (t .entry)) (now (u .entry)) (now (f .entry)) m n ⌝ }

@@ -1,4 +1,5 @@
--- The written bytes by their places: how many they are, and what stands where (document 01, "The file block", "The trace block", "What we write").
+-- The written bytes by their places: how many they are, and what stands where (document 01, "The file block", "The
+-- trace block", "What we write").
 -- Assumes nothing.
 use mathlib.Core.Path.{_≡_, refl, sym, ap, _∙_}
 use mathlib.Core.Bool.{Bool, true, false}
@@ -17,12 +18,14 @@ use Rattle.sample.specs.Needed.{needed, room}
 use Rattle.decode.specs.Sample.{integersAsked, bitsAsked}
 use Rattle.encode.specs.Back.{length-integersData, length-bitsData}
 use Rattle.sheet.specs.declared.Measured.the-variants.{Size}
-use Rattle.sheet.specs.Area.{areaOf, areaSize, measuredOf}
+use Rattle.sheet.specs.Area.{areaMost, areaOf, areaSize, measuredOf}
 use Rattle.sheet.specs.Sizes.{length-area}
 use Rattle.area.specs.Spelling.{measured-size}
 use Rattle.head.specs.Head.{highFirst, revisionOf, roomOf, countOf, terminatorAt, stringEnd, lineEnd}
 use Rattle.block.specs.Block.{traceMark, markAt, blockSize, dataSize, sampleCount, formatCode}
-use Rattle.layout.specs.Layout.{orderMark, plainEnds, nul, lineFeed, fileBlock, startImage, startSize, Trace, Samples, integers, patterns, count, fitting, samplesData, traceBlock, blockBytes, dataBytes, traceSize, traceBytes}
+use Rattle.layout.specs.Layout.{orderMark, plainEnds, nul, lineFeed, fileBlock, startImage, startSize, Trace}
+use Rattle.layout.specs.Layout.{Samples, integers, patterns, count, fitting, samplesData, traceBlock, blockBytes}
+use Rattle.layout.specs.Layout.{dataBytes, traceSize, traceBytes}
 
 -- ---- a file block
 
@@ -101,7 +104,8 @@ module _ (m n : ℕ) (r : List ℕ) (small : m < 65536) (few : n < 65536) where
         ones = (refl, refl);
       }
 
--- ---- what row 28 has shown: the code is one of the five, and under code 3 the samples are whole groups; each needs a byte at least
+-- ---- what row 28 has shown: the code is one of the five, and under code 3 the samples are whole groups; each needs a
+-- byte at least
 
 pub record Kinded (code s : ℕ) : Type 0 where
   pub least : 1 ≤ code
@@ -246,7 +250,8 @@ trace-data high t u x h =
     ap (λ (r : List ℕ). part (blockBytes t u x) (traceSize t u x) r) w
     ∙ part-among (b ++ a) d [] (blockBytes t u x) (traceSize t u x) l (omega (arith, length-samplesData (x .code) high (x .samples) h))
 
--- ---- what is read in a file f where the bytes of a trace stand at p: "At pointer p: 4422h, block size B (2 bytes), data size D (4), sample count S (4),
+-- ---- what is read in a file f where the bytes of a trace stand at p: "At pointer p: 4422h, block size B (2 bytes),
+-- data size D (4), sample count S (4),
 -- format code (1), reserved to byte 31, strings from byte 32 to B. Data occupies D bytes from p+B"
 
 pub record Stands (high : Bool) (t u f : List ℕ) (p : ℕ) (x : Trace) : Type 0 where
@@ -280,7 +285,7 @@ stands high t u f p x n m k small inside bytes =
     let tb : List ℕ = traceBytes high t u x in
     let behind : List ℕ = areaOf high t u (x .sheet) ++ samplesData (x .code) high (x .samples) in
     let area = measured-size t u (x .sheet) n m in
-    let low : areaSize t u (x .sheet) ≤ 65500 = omega (arith, area .1, area .2) in
+    let low : areaSize t u (x .sheet) ≤ areaMost = omega (arith, area .1, area .2) in
     let each : s ≤ needed (x .code) s = kinded (x .code) (x .samples) k .each in
     let enough = room-enough (x .code) s .0 in
     let z : p + 0 ≡ p = omega arith in

@@ -3,7 +3,7 @@
 use mathlib.Core.Path.{_≡_, refl, sym}
 use mathlib.Core.Bool.{Bool, true, false}
 use mathlib.Core.List.{List, [], _∷_, _++_, append-assoc}
-use Prim.Native.Nat.{ℕ, _+_, _-_, _*_, _%_, _≤_}
+use Prim.Native.Nat.{ℕ, _+_, _-_, _*_, _%_}
 use native.Mathlib.Omega.{arith}
 use lib.IntN.{ℤ}
 use lib.ListN.{length, replicate, length-append, length-replicate}
@@ -18,8 +18,11 @@ use Rattle.sheet.specs.declared.Measured.the-variants as measured
 use Rattle.sheet.specs.Area.{areaOf, areaSize, measuredOf}
 use Rattle.sheet.specs.Sizes.{length-area}
 use Rattle.area.specs.Spelling.{measured-size}
-use Rattle.layout.specs.Layout.{orderMark, plainEnds, nul, lineFeed, fileBlock, startImage, Trace, Samples, integers, patterns, count, fitting, unfit, samplesData, traceBlock, blockBytes, dataBytes, traceBytes}
-use Rattle.layout.specs.LayoutLaws.{length-mark, length-fileBlock, length-traceBlock, integers-kinded, bits-kinded}
+use Rattle.layout.specs.Layout.{orderMark, plainEnds, nul, lineFeed, fileBlock, startImage, Trace, Samples}
+use Rattle.layout.specs.Layout.{integers, patterns, count, fitting, unfit, samplesData, traceBlock, blockBytes}
+use Rattle.layout.specs.Layout.{dataBytes, traceBytes}
+use Rattle.layout.specs.LayoutLaws.{length-mark, length-fileBlock, length-traceBlock, integers-kinded}
+use Rattle.layout.specs.LayoutLaws.{bits-kinded}
 
 -- ---- a start
 

@@ -1,4 +1,5 @@
--- The lines of a listing (document 01, the end of "Worked values"), byte by byte: 9 is the tab between fields, 10 the end of a line.
+-- The lines of a listing (document 01, the end of "Worked values"), byte by byte: 9 is the tab between fields, 10 the
+-- end of a line.
 -- Assumes nothing.
 use mathlib.Core.Bool.{Bool}
 use mathlib.Core.List.{List, [], _∷_, _++_}

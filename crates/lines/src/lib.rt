@@ -1,6 +1,6 @@
-// The lines of a listing, stored one behind the other in a row that the caller lends (document 01, the end of "Worked values").
-// Lines and Digits have the definitions, Wrote what a stored piece leaves. Stands on `text`, `word`, `refusal`.
-// A piece is stored from the place `at` on; its function answers the place behind it.
+// The lines of a listing, stored one behind the other in a row that the caller lends (document 01, the end of "Worked
+// values"). Lines and Digits have the definitions, Wrote what a stored piece leaves. Stands on `text`, `word`,
+// `refusal`. A piece is stored from the place `at` on; its function answers the place behind it.
 // The rules in words: docs/FORMAT.md, "Worked values".
 use refusal::Part;
 use refusal::Refusal;
@@ -11,7 +11,8 @@ ghost use Prim.Native.Nat.{_+_, _≤_};
 ghost use lib.ListN.{length};
 ghost use Rattle.refusal.specs.Table.{numberOf};
 ghost use Rattle.digits.specs.Digits.{digits};
-ghost use Rattle.lines.specs.Lines.{ended, whose, order, headLine, traceLine, refusalLine, space, spaced, label, stringLine};
+ghost use Rattle.lines.specs.Lines.{ended, whose, order, headLine, traceLine, refusalLine, space, spaced, label};
+ghost use Rattle.lines.specs.Lines.{stringLine};
 ghost use Rattle.word.specs.Wrote.{Room, Wrote};
 
 fn put_byte(out: &mut [u8], at: usize, b: u8) -> usize
@@ -95,7 +96,8 @@ fn put_part(out: &mut [u8], at: usize, part: Part) -> usize
 // The place of a refusal has at most 20 digits.
 fn put_place(out: &mut [u8], at: usize, place: usize) -> usize
     requires { ⌜ at + 21 ≤ length (now out) ⌝ }
-    ensures { λ r. ⌜ Wrote (now (out .entry)) at (ended place 10) r (now (out .exit)) × (length (ended place 10) ≤ 21) ⌝ }
+    ensures { λ r. ⌜ Wrote (now (out .entry)) at (ended place 10) r (now (out .exit))
+        × (length (ended place 10) ≤ 21) ⌝ }
 {
     put_ended(out, at, place, 10)
 }
@@ -103,7 +105,8 @@ fn put_place(out: &mut [u8], at: usize, place: usize) -> usize
 // The number of a rule has at most 2 digits.
 fn put_rule(out: &mut [u8], at: usize, rule: Rule) -> usize
     requires { ⌜ at + 3 ≤ length (now out) ⌝ }
-    ensures { λ r. ⌜ Wrote (now (out .entry)) at (ended (numberOf rule) 9) r (now (out .exit)) × (length (ended (numberOf rule) 9) ≤ 3) ⌝ }
+    ensures { λ r. ⌜ Wrote (now (out .entry)) at (ended (numberOf rule) 9) r (now (out .exit))
+        × (length (ended (numberOf rule) 9) ≤ 3) ⌝ }
 {
     put_ended(out, at, refusal::number(rule) as usize, 9)
 }
@@ -161,7 +164,8 @@ fn put_label(out: &mut [u8], at: usize, part: Part, key: &[u8]) -> usize
 // A string's line, or one of a NOTE's.
 pub fn put_line(out: &mut [u8], at: usize, part: Part, key: &[u8], v: &[u8]) -> usize
     requires { ⌜ Room (now out) at (stringLine part (now key) (now v)) ⌝ }
-    ensures { λ r. ⌜ Wrote (now (out .entry)) at (stringLine part (now (key .entry)) (now (v .entry))) r (now (out .exit)) ⌝ }
+    ensures { λ r. ⌜ Wrote (now (out .entry)) at (stringLine part (now (key .entry)) (now (v .entry))) r
+        (now (out .exit)) ⌝ }
 {
     let a = put_label(out, at, part, key);
     let b = put_spaced(out, a, v);

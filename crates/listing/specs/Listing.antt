@@ -1,7 +1,6 @@
 -- What the listing program prints (document 01, the end of "Worked values"), byte by byte: 9 is the tab between fields,
 -- 10 the end of a line.
 -- Assumes nothing.
-use mathlib.Core.Bool.{false}
 use mathlib.Core.List.{List, [], _∷_, _++_}
 use Prim.Native.Nat.{ℕ, zero, suc, _+_, _*_, _≤_}
 use lib.ListN.{length}

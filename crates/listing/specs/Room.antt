@@ -37,7 +37,8 @@ use Rattle.image.specs.Accepted.{before-next}
 use Rattle.reader.specs.Reach.{some-trace, trace-pointed, trace-blocked}
 use Rattle.digits.specs.Digits.{digits, digits-few}
 use Rattle.lines.specs.Lines.{whose, headLine, traceLine, stringLine}
-use Rattle.listing.specs.Listing.{linesText, valuesOf, stringsText, stringsIn, traceText, tracesText, fileText, roomFor}
+use Rattle.listing.specs.Listing.{linesText, valuesOf, stringsText, stringsIn, traceText, tracesText, fileText}
+use Rattle.listing.specs.Listing.{roomFor}
 use Rattle.lines.specs.Sizes.{five, length-ended, length-order, length-head, length-trace, length-label, length-line}
 use Rattle.lines.specs.Spaced.{length-spaced}
 use Rattle.listing.specs.Told.{line-some}

@@ -32,7 +32,8 @@ use Rattle.image.specs.Accepted.{image-headed}
 use Rattle.reader.specs.Reach.{checked, some-trace, pointer-slot, trace-pointed, trace-blocked}
 use Rattle.listing.specs.declared.Listed.the-variants.{To, Full}
 use Rattle.lines.specs.Lines.{headLine, traceLine, refusalLine}
-use Rattle.listing.specs.Listing.{stringsText, stringsIn, traceText, tracesText, fileText, checkedText, listingOf, programOf, roomFor, printAnswer, Within, printLeft}
+use Rattle.listing.specs.Listing.{stringsText, stringsIn, traceText, tracesText, fileText, checkedText, listingOf}
+use Rattle.listing.specs.Listing.{programOf, roomFor, printAnswer, Within, printLeft}
 use Rattle.word.specs.Wrote.{Room, Wrote, room-front, room-back, joined, first-room, second-room, both-wrote}
 
 module _ (f : List ℕ) (ok : imageOf Strict Read f ≡ Accepted) (size : 32 ≤ length f) where

@@ -20,7 +20,8 @@ use Rattle.lines.specs.Sizes.{length-line}
 use Rattle.lines.specs.Spaced.{length-spaced}
 use Rattle.listing.specs.Listing.{linesText, stringsText, traceText, tracesText}
 use Rattle.word.specs.Wrote.{Room, Wrote, Left, left-start, left-room, left-turn, left-over, left-last-room, left-last}
-use Rattle.listing.specs.Turns.{line-on, line-last, lines-more, lines-one, textFrom, lineText, string-in, string-next, string-none, strings-over, trace-next, traces-over}
+use Rattle.listing.specs.Turns.{line-on, line-last, lines-more, lines-one, textFrom, lineText, string-in}
+use Rattle.listing.specs.Turns.{string-next, string-none, strings-over, trace-next, traces-over}
 
 -- ---- a NOTE: the line from `from` on ends at e
 module _ (out₀ : List ℕ) (at : ℕ) (p : Part) (key u v : List ℕ) where

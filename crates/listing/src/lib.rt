@@ -23,7 +23,8 @@ ghost use Rattle.strings.specs.Strings.{placesOf};
 ghost use Rattle.strings.specs.Spelled.{strsIn};
 ghost use Rattle.head.specs.Head.{countOf};
 ghost use Rattle.image.specs.Image.{imageOf};
-ghost use Rattle.listing.specs.Listing.{linesText, valuesOf, stringsText, traceText, tracesText, fileText, roomFor, listAnswer, Within, listLeft, programAnswer, programLeft};
+ghost use Rattle.listing.specs.Listing.{linesText, valuesOf, stringsText, traceText, tracesText, fileText};
+ghost use Rattle.listing.specs.Listing.{roomFor, listAnswer, Within, listLeft, programAnswer, programLeft};
 ghost use Rattle.word.specs.Wrote.{Room, Wrote};
 
 // How many bytes the listing has; or that the row lent may be too short for it.
@@ -34,8 +35,11 @@ pub enum Listed {
 
 // A NOTE: each line by itself.
 fn put_lines(out: &mut [u8], at: usize, part: Part, key: &[u8], u: &[u8], v: &[u8]) -> usize
-    requires { ⌜ (0 < length (now u)) × Room (now out) at (linesText part (now key) (linesOf (length (now v)) (now u) (now v))) ⌝ }
-    ensures { λ r. ⌜ Wrote (now (out .entry)) at (linesText part (now (key .entry)) (linesOf (length (now (v .entry))) (now (u .entry)) (now (v .entry)))) r (now (out .exit)) ⌝ }
+    requires { ⌜ (0 < length (now u)) × Room (now out) at (linesText part (now key)
+        (linesOf (length (now v)) (now u) (now v))) ⌝ }
+    ensures { λ r. ⌜ Wrote (now (out .entry)) at
+        (linesText part (now (key .entry)) (linesOf (length (now (v .entry))) (now (u .entry)) (now (v .entry)))) r
+        (now (out .exit)) ⌝ }
 {
     let mut from: usize = 0;
     let mut to = at;
@@ -50,8 +54,11 @@ fn put_lines(out: &mut [u8], at: usize, part: Part, key: &[u8], u: &[u8], v: &[u
 
 // A string. Only a NOTE has lines.
 fn put_string(out: &mut [u8], at: usize, part: Part, u: &[u8], key: &[u8], v: &[u8]) -> usize
-    requires { ⌜ (0 < length (now u)) × Room (now out) at (linesText part (now key) (valuesOf (now u) (now key) (now v))) ⌝ }
-    ensures { λ r. ⌜ Wrote (now (out .entry)) at (linesText part (now (key .entry)) (valuesOf (now (u .entry)) (now (key .entry)) (now (v .entry)))) r (now (out .exit)) ⌝ }
+    requires { ⌜ (0 < length (now u)) × Room (now out) at (linesText part (now key)
+        (valuesOf (now u) (now key) (now v))) ⌝ }
+    ensures { λ r. ⌜ Wrote (now (out .entry)) at
+        (linesText part (now (key .entry)) (valuesOf (now (u .entry)) (now (key .entry)) (now (v .entry)))) r
+        (now (out .exit)) ⌝ }
 {
     if text::is_note(key) {
         return put_lines(out, at, part, key, u, v);
@@ -71,8 +78,12 @@ fn put_strings(
     t: &[u8],
     u: &[u8],
 ) -> usize
-    requires { ⌜ (a ≤ e) × (e ≤ length (now f)) × (0 < length (now u)) × Room (now out) at (stringsText part (now u) (strsIn (now f) (placesOf Strict high (now t) (parts.part a e (now f)) a))) ⌝ }
-    ensures { λ r. ⌜ Wrote (now (out .entry)) at (stringsText part (now (u .entry)) (strsIn (now (f .entry)) (placesOf Strict high (now (t .entry)) (parts.part a e (now (f .entry))) a))) r (now (out .exit)) ⌝ }
+    requires { ⌜ (a ≤ e) × (e ≤ length (now f)) × (0 < length (now u))
+        × Room (now out) at (stringsText part (now u)
+        (strsIn (now f) (placesOf Strict high (now t) (parts.part a e (now f)) a))) ⌝ }
+    ensures { λ r. ⌜ Wrote (now (out .entry)) at
+        (stringsText part (now (u .entry)) (strsIn (now (f .entry)) (placesOf Strict high (now (t .entry))
+        (parts.part a e (now (f .entry))) a))) r (now (out .exit)) ⌝ }
 {
     let mut s = a;
     let mut to = at;
@@ -97,7 +108,8 @@ fn put_strings(
 
 // A trace of an accepted file: its line and its strings.
 fn put_trace(out: &mut [u8], at: usize, f: &[u8], k: u16) -> usize
-    requires { ⌜ (imageOf Strict Read (now f) ≡ Accepted) × (32 ≤ length (now f)) × (k < countOf (now f)) × Room (now out) at (traceText (now f) k) ⌝ }
+    requires { ⌜ (imageOf Strict Read (now f) ≡ Accepted) × (32 ≤ length (now f)) × (k < countOf (now f))
+        × Room (now out) at (traceText (now f) k) ⌝ }
     ensures { λ r. ⌜ Wrote (now (out .entry)) at (traceText (now (f .entry)) k) r (now (out .exit)) ⌝ }
 {
     let high = head::is_high(f);
@@ -120,7 +132,8 @@ fn put_trace(out: &mut [u8], at: usize, f: &[u8], k: u16) -> usize
 
 // The traces of an accepted file.
 fn put_traces(out: &mut [u8], at: usize, f: &[u8], n: u16) -> usize
-    requires { ⌜ (imageOf Strict Read (now f) ≡ Accepted) × (32 ≤ length (now f)) × (n ≡ countOf (now f)) × Room (now out) at (tracesText (now f) n 0) ⌝ }
+    requires { ⌜ (imageOf Strict Read (now f) ≡ Accepted) × (32 ≤ length (now f)) × (n ≡ countOf (now f))
+        × Room (now out) at (tracesText (now f) n 0) ⌝ }
     ensures { λ r. ⌜ Wrote (now (out .entry)) at (tracesText (now (f .entry)) n 0) r (now (out .exit)) ⌝ }
 {
     let mut k: u16 = 0;
@@ -134,7 +147,8 @@ fn put_traces(out: &mut [u8], at: usize, f: &[u8], n: u16) -> usize
 
 // An accepted file.
 fn put_file(out: &mut [u8], f: &[u8]) -> usize
-    requires { ⌜ (imageOf Strict Read (now f) ≡ Accepted) × (32 ≤ length (now f)) × Room (now out) 0 (fileText (now f)) ⌝ }
+    requires { ⌜ (imageOf Strict Read (now f) ≡ Accepted) × (32 ≤ length (now f))
+        × Room (now out) 0 (fileText (now f)) ⌝ }
     ensures { λ r. ⌜ Wrote (now (out .entry)) 0 (fileText (now (f .entry))) r (now (out .exit)) ⌝ }
 {
     let b = head::file_block(f);

@@ -1,5 +1,5 @@
--- The i-th of a list of places, and the first with a keyword: a law for each turn of the loops that look for them, and that what is found lies in
--- the file.
+-- The i-th of a list of places, and the first with a keyword: a law for each turn of the loops that look for them, and
+-- that what is found lies in the file.
 -- Assumes nothing.
 use mathlib.Core.Path.{_≡_, refl, sym}
 use mathlib.Core.Bool.{Bool, true, false}

@@ -1,5 +1,6 @@
-// Questions on the list of strings that an area spells: how many, the i-th, the one with a keyword, each by its place in the lent file (document 01,
-// "Strings"), in any manner of reading. The definitions are those of `strings`; Lists has what a walk along the list needs. Stands on `strings`, `text`.
+// Questions on the list of strings that an area spells: how many, the i-th, the one with a keyword, each by its place
+// in the lent file (document 01, "Strings"), in any manner of reading. The definitions are those of `strings`; Lists
+// has what a walk along the list needs. Stands on `strings`, `text`.
 // The rules in words: docs/FORMAT.md, "Strings".
 use chars::Kind;
 use strings::Entry;
@@ -92,7 +93,8 @@ pub fn nth(f: &[u8], a: usize, e: usize, high: bool, t: &[u8], i: usize, how: Ma
 // The string with a keyword: the first that counts as it. Any bytes may be asked for.
 pub fn find(f: &[u8], a: usize, e: usize, high: bool, t: &[u8], key: &[u8], how: Manner) -> Found
     requires { ⌜ (a ≤ e) × (e ≤ length (now f)) ⌝ }
-    ensures { λ r. ⌜ r ≡ findOf how (now (f .entry)) (placesOf how high (now (t .entry)) (part a e (now (f .entry))) a) (now (key .entry)) ⌝ }
+    ensures { λ r. ⌜ r ≡ findOf how (now (f .entry)) (placesOf how high (now (t .entry)) (part a e (now (f .entry))) a)
+        (now (key .entry)) ⌝ }
 {
     let mut at = a;
     while at < e {

@@ -1,4 +1,5 @@
--- The value of a NOTE: "in NOTE also whole line terminators, matched from the left" (document 01, "Strings"). u is the line terminator.
+-- The value of a NOTE: "in NOTE also whole line terminators, matched from the left" (document 01, "Strings"). u is the
+-- line terminator.
 -- Assumes nothing.
 use mathlib.Core.Path.{_≡_, refl, sym, ap, _∙_}
 use mathlib.Core.Bool.{Bool, true, false, not, _&&_, _||_}
@@ -35,7 +36,8 @@ unfoldable pub lineLen : List ℕ → List ℕ → ℕ
 lineLen u [] = 0
 lineLen u (b ∷ bs) = pick (starts u (b ∷ bs)) 0 (suc (lineLen u bs))
 
--- the lines of a value, an empty one too: what stands between its terminators. The number bounds how many there are; the length of v is enough
+-- the lines of a value, an empty one too: what stands between its terminators. The number bounds how many there are;
+-- the length of v is enough
 unfoldable pub linesOf : ℕ → List ℕ → List ℕ → List (List ℕ)
 linesOf zero u v = v ∷ []
 linesOf (suc m) u v =
@@ -60,7 +62,8 @@ Characters l = all valueChar l ≡ true
 abbrev pub Lacks : List ℕ → List ℕ → Type 0
 Lacks u l = (i : ℕ) → starts u (drop i l) ≡ false
 
--- row 6 leaves a terminator one or two characters, 0 to 31 and no tab; of that only this is needed: it starts with a byte that no value has
+-- row 6 leaves a terminator one or two characters, 0 to 31 and no tab; of that only this is needed: it starts with a
+-- byte that no value has
 abbrev pub LineEnd : List ℕ → Type 0
 LineEnd u = (0 < length u) × (valueChar (getD u 0 0) ≡ false)
 
@@ -69,7 +72,8 @@ unfolding all
 control-ends [] some h = absurd (omega arith)
 control-ends (x ∷ u) some h = (some, control-no-value x (both (control x) (all control u) h .0))
 
--- ---- what a NOTE's value may be, without any order of reading: value characters and line terminators, in any order. `lines` says the same
+-- ---- what a NOTE's value may be, without any order of reading: value characters and line terminators, in any order.
+-- `lines` says the same
 pub data Lines (u : List ℕ) : List ℕ → Type 0 where
   done : Lines u []
   char : {b : ℕ} {bs : List ℕ} → valueChar b ≡ true → Lines u bs → Lines u (b ∷ bs)
@@ -346,7 +350,8 @@ again x xs l (k ∷ ls) (suc m) n h f =
     rw (ended-line x xs l r n (h .0), lt-leb (length (l ++ (u ++ r))) (length l) (omega arith), take-append-seam l (u ++ r), d)
     (ap (λ (z : List (List ℕ)). l ∷ z) (again x xs k ls m n (h .1) (omega arith)))
 
--- they are the only lines of value characters that give the value, so no other reading of a NOTE has lines to answer with
+-- they are the only lines of value characters that give the value, so no other reading of a NOTE has lines to answer
+-- with
 pub lines-once : (u v l : List ℕ) (ls : List (List ℕ)) → LineEnd u → Each Characters (l ∷ ls) → withEnds u (l ∷ ls) ≡ v
     → linesOf (length v) u v ≡ l ∷ ls
 lines-once [] v l ls e h w = absurd (omega (arith, e .0))

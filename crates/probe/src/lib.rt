@@ -1,5 +1,5 @@
-// The listing, exported for a host's tests: the face does not show it. Nothing is asked of a caller, as nothing checks a
-// host's.
+// The listing, exported for a host's tests: the face does not show it. Nothing is asked of a caller, as nothing checks
+// a host's.
 ghost use mathlib.Core.Path.{_≡_};
 ghost use lib.ListN.{length};
 ghost use Rattle.listing.specs.Listing.{listAnswer, listLeft, programAnswer, programLeft};

@@ -1,22 +1,19 @@
--- Blocks and samples of an accepted file: when they are answered, and what is left in the lent rows: the samples of that trace, all S of them, or
--- the rows as they were.
+-- Blocks and samples of an accepted file: when they are answered, and what is left in the lent rows: the samples of
+-- that trace, all S of them, or the rows as they were.
 -- Assumes nothing.
 use mathlib.Core.Path.{_≡_, refl}
-use mathlib.Core.Bool.{true, false, not}
-use mathlib.Core.List.{List, [], _∷_}
+use mathlib.Core.Bool.{true}
+use mathlib.Core.List.{List}
 use Prim.Native.Nat.{ℕ, zero, suc, _≤_, _<_}
 use native.Mathlib.Omega.{arith}
 use lib.IntN.{ℤ, pos}
 use lib.ListN.{length, take}
-use lib.Dec.{eqb}
-use borrow.Author.Tests.{eq-eqb, ne-eqb, eqb-true, not-false}
-use Rattle.refusal.specs.Verdicts.{asked, isAccepted, refused-not}
+use borrow.Author.Tests.{eq-eqb, eqb-true, not-false}
+use Rattle.refusal.specs.Verdicts.{asked, refused-not}
 use Rattle.refusal.specs.Rows.{ruled-clear}
-use Rattle.refusal.specs.declared.Rule.the-variants.{RowLength, CodeKind}
 use Rattle.refusal.specs.declared.Refusal.{Refusal}
 use Rattle.refusal.specs.declared.Verdict.{Verdict}
 use Rattle.refusal.specs.declared.Verdict.the-variants.{Accepted, Refused}
-use Rattle.sample.specs.Run.{length-run}
 use Rattle.head.specs.Head.{highFirst, countOf, refused}
 use Rattle.block.specs.Block.{dataAt, endAt, traceBlockOf}
 use Rattle.image.specs.Image.{checkOf}
@@ -30,7 +27,10 @@ use Rattle.sample.specs.Run.{valuesFrom}
 use Rattle.decode.specs.Sample.{sampleOf, patternOf, classOf}
 use Rattle.image.specs.Keeps.{traceAt}
 use Rattle.head.specs.declared.Purpose.the-variants.{Read}
-use Rattle.reader.specs.Questions.{noTrace, fileAnswer, traceAnswer, onTrace, whoseOf, codeAt, countAt, ofIntegers, ofBits, blockAt, dataOf, samplesIn, patternsIn, classesIn, integersRows, bitsRows, integersVerdict, bitsVerdict, integersAnswer, bitsAnswer, samplesOf, patternsOf, classesOf, integersLeft, patternsLeft, classesLeft}
+use Rattle.reader.specs.Questions.{noTrace, onTrace, whoseOf, codeAt, countAt, ofIntegers, ofBits, blockAt}
+use Rattle.reader.specs.Questions.{dataOf, samplesIn, patternsIn, classesIn, integersRows, bitsRows}
+use Rattle.reader.specs.Questions.{integersVerdict, bitsVerdict, integersAnswer, bitsAnswer, samplesOf}
+use Rattle.reader.specs.Questions.{patternsOf, classesOf, integersLeft, patternsLeft, classesLeft}
 use Rattle.reader.specs.Reach.{whose-trace}
 use Rattle.reader.specs.Listed.{whose-one}
 

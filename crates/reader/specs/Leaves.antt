@@ -18,7 +18,7 @@ use Rattle.head.specs.declared.Purpose.the-variants.{Read}
 use Rattle.refusal.specs.Verdicts.{asked}
 use Rattle.sample.specs.Needed.{needed}
 use Rattle.block.specs.declared.TraceBlock.{TraceBlock}
-use Rattle.head.specs.Head.{highFirst, roomOf, stringEnd}
+use Rattle.head.specs.Head.{maximum, highFirst, roomOf, stringEnd}
 use Rattle.block.specs.Block.{pointerOf, blockSize}
 use Rattle.image.specs.Image.{checkOf}
 use Rattle.reader.specs.declared.Whose.the-variants.{Whole, One}
@@ -29,7 +29,8 @@ use Rattle.reader.specs.declared.Opened.the-variants as opened
 use Rattle.reader.specs.declared.StringAnswer.{StringAnswer}
 use Rattle.reader.specs.declared.StringAnswer.the-variants as string
 use Rattle.reader.specs.declared.CountAnswer.the-variants as count
-use Rattle.reader.specs.Questions.{noTrace, areaNamed, areaAsked, onArea, placesIn, there, countAnswer, nthAnswer, findAnswer, ofIntegers, ofBits}
+use Rattle.reader.specs.Questions.{noTrace, areaNamed, areaAsked, onArea, placesIn, there, countAnswer, nthAnswer}
+use Rattle.reader.specs.Questions.{findAnswer, ofIntegers, ofBits}
 
 -- ---- the area of a part, as it is read
 pub area-whole : (f : List ℕ) (h : Bool) (m p : ℕ) → h ≡ highFirst f → m ≡ wordAt 2 h f 4 → p ≡ pointerOf h f 0 → From (32 + m) p ≡ areaNamed f Whole
@@ -106,7 +107,7 @@ Within n (string.Refused r) = Unit {0}
 -- what the check has shown of t
 pub record Fits (n : ℕ) (t : TraceBlock) : Type 0 where
   pub inside : t .p + t .b + t .d ≤ n
-  pub most : n ≤ 67108864
+  pub most : n ≤ maximum
   pub groups : t .code ≡ 3 → t .s % 4 ≡ 0
   pub samples : needed (t .code) (t .s) ≤ t .d
 

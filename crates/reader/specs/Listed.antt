@@ -1,15 +1,15 @@
--- The answers on an accepted file in the format's own words: each part of it has one list of strings, which its bytes spell, and every question on
--- strings is answered from that list.
+-- The answers on an accepted file in the format's own words: each part of it has one list of strings, which its bytes
+-- spell, and every question on strings is answered from that list.
 -- Assumes nothing.
 use mathlib.Core.Path.{_≡_, refl, sym, ap, _∙_}
-use mathlib.Core.Bool.{Bool, false}
+use mathlib.Core.Bool.{Bool}
 use mathlib.Core.List.{List, [], _∷_}
 use Prim.Native.Nat.{ℕ, zero, suc, _+_, _≤_, _<_}
 use native.Mathlib.Omega.{arith}
 use lib.IntN.{ℤ, pos, negsuc}
 use lib.ListN.{length, take}
 use lib.Dec.{eqb}
-use borrow.Author.Tests.{lt-ltb, le-ltb, ne-eqb}
+use borrow.Author.Tests.{lt-ltb, ne-eqb}
 use Rattle.word.specs.Part.{part}
 use Rattle.word.specs.Bytes.{Bytes}
 use Rattle.refusal.specs.Rows.{pick, pick-second}
@@ -32,7 +32,7 @@ use Rattle.double.specs.declared.LocationAnswer.the-variants as location
 use Rattle.decimal.specs.Number.{numberIn}
 use Rattle.double.specs.Double.{doubleOf}
 use Rattle.double.specs.Location.{locationOf}
-use Rattle.reader.specs.declared.Whose.the-variants.{Whole, One, Nobody}
+use Rattle.reader.specs.declared.Whose.the-variants.{Whole, One}
 use Rattle.reader.specs.declared.Area.the-variants.{From}
 use Rattle.reader.specs.declared.Opened.the-variants as opened
 use Rattle.reader.specs.declared.CountAnswer.the-variants as count
@@ -41,8 +41,10 @@ use Rattle.reader.specs.declared.StringAnswer.the-variants as string
 use Rattle.reader.specs.declared.KeywordAnswer.the-variants as keyword
 use Rattle.text.specs.declared.Manner.{Manner}
 use Rattle.head.specs.declared.Purpose.the-variants.{Read}
-use Rattle.reader.specs.Questions.{noTrace, whoseOf, areaNamed, areaAsked, there, yesOrNo, valueThere, onString, countAnswer, nthAnswer, findAnswer, keywordAnswer, valueAnswer, numberAnswer, doubleAnswer, locationAnswer}
-use Rattle.reader.specs.Leaves.{openedOf, count-bad, nth-bad, find-bad, count-told, nth-told, find-told}
+use Rattle.reader.specs.Questions.{whoseOf, areaNamed, areaAsked, there, yesOrNo, valueThere, onString}
+use Rattle.reader.specs.Questions.{countAnswer, nthAnswer, findAnswer, keywordAnswer, valueAnswer, numberAnswer}
+use Rattle.reader.specs.Questions.{doubleAnswer, locationAnswer}
+use Rattle.reader.specs.Leaves.{openedOf, count-told, nth-told, find-told}
 use Rattle.reader.specs.Reach.{Reached, reached, checked, some-trace}
 
 -- ---- whom a number names among n traces

@@ -1,6 +1,7 @@
--- The questions on a file (document 01, "Strings", "Numbers in values", "Samples", and rows 18, 32 and 33). xs is the lent buffer, n the length given
--- beside it, f the image: the first n bytes. Every answer is the check's refusal, or else one of the image alone. `how` is the manner of reading, and a
--- question has it as a parameter: the check and the strings are read in one manner.
+-- The questions on a file (document 01, "Strings", "Numbers in values", "Samples", and rows 18, 32 and 33). xs is the
+-- lent buffer, n the length given beside it, f the image: the first n bytes. Every answer is the check's refusal, or
+-- else one of the image alone. `how` is the manner of reading, and a question has it as a parameter: the check and the
+-- strings are read in one manner.
 -- Assumes nothing.
 use mathlib.Core.Bool.{Bool, true, false, not}
 use mathlib.Core.List.{List, [], _∷_}
@@ -71,7 +72,8 @@ whoseOf (pos k) n = pick (ltb k n) (One k) Nobody
 whoseOf (negsuc zero) n = Whole
 whoseOf (negsuc (suc k)) n = Nobody
 
--- the bytes that the strings of a part stand in: of the file "from 32+M to the first pointer", of a trace "from byte 32 to B" behind its pointer
+-- the bytes that the strings of a part stand in: of the file "from 32+M to the first pointer", of a trace "from byte 32
+-- to B" behind its pointer
 unfoldable pub areaNamed : List ℕ → Whose → Area
 areaNamed f Whole = From (32 + roomOf f) (traceAt f 0)
 areaNamed f (One k) = From (traceAt f k + 32) (dataAt (highFirst f) f (traceAt f k))
@@ -167,7 +169,8 @@ doubleAnswer how xs n z key = onString double.Refused (findAnswer how xs n z key
 unfoldable pub locationAnswer : Manner → List ℕ → ℕ → ℤ → List ℕ → LocationAnswer
 locationAnswer how xs n z key = onString location.Refused (findAnswer how xs n z key) (locationOf (valueAnswer how xs n z key))
 
--- ---- samples. "18 no such trace; 33 integers asked of code 4 or 5, or bits of 1 to 3; 32 an output row's length is not S: in that order, place 0"
+-- ---- samples. "18 no such trace; 33 integers asked of code 4 or 5, or bits of 1 to 3; 32 an output row's length is
+-- not S: in that order, place 0"
 
 abbrev pub codeAt : List ℕ → ℕ → ℕ
 codeAt f k = formatCode f (traceAt f k)

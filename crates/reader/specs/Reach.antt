@@ -1,4 +1,5 @@
--- What an accepted check has shown: whom a part number names, that the area of a part lies in the file, and so does every place that is found.
+-- What an accepted check has shown: whom a part number names, that the area of a part lies in the file, and so does
+-- every place that is found.
 -- Assumes nothing.
 use mathlib.Core.Path.{_≡_, refl, sym, ap, _∙_}
 use mathlib.Core.Bool.{Bool, true, false}
@@ -24,7 +25,7 @@ use Rattle.strings.specs.declared.Found.the-variants.{Nothing, Is}
 use Rattle.strings.specs.Strings.{PlaceIn, nthOf, findOf}
 use Rattle.lookup.specs.Lists.{AllIn, area-in, nth-in, find-in}
 use Rattle.block.specs.declared.TraceBlock.{TraceBlock}
-use Rattle.head.specs.Head.{highFirst, roomOf, countOf, stringEnd, goodTerminator, refused}
+use Rattle.head.specs.Head.{maximum, highFirst, roomOf, countOf, stringEnd, goodTerminator, refused}
 use Rattle.block.specs.Block.{dataAt, traceBlockOf}
 use Rattle.image.specs.Image.{imageOf, badLength, checkOf}
 use Rattle.block.specs.BlockLaws.{Pointed, Blocked}
@@ -42,14 +43,16 @@ use Rattle.reader.specs.declared.StringAnswer.{StringAnswer}
 use Rattle.reader.specs.declared.StringAnswer.the-variants as string
 use Rattle.text.specs.declared.Manner.{Manner}
 use Rattle.head.specs.declared.Purpose.the-variants.{Read}
-use Rattle.reader.specs.Questions.{noTrace, whoseOf, areaNamed, areaAsked, onArea, onTrace, placesIn, there, nthAnswer, findAnswer, traceAnswer, valueThere, valueAnswer, spanThere, spanAnswer, onString}
+use Rattle.reader.specs.Questions.{noTrace, whoseOf, areaNamed, areaAsked, onArea, onTrace, placesIn, there}
+use Rattle.reader.specs.Questions.{nthAnswer, findAnswer, traceAnswer, valueThere, valueAnswer, spanThere}
+use Rattle.reader.specs.Questions.{spanAnswer, onString}
 use Rattle.reader.specs.Leaves.{openedOf, onOpened, nth-opened, find-opened, Within, Fits}
 
 -- ---- an accepted check
 pub record Checked (how : Manner) (xs : List ℕ) (n : ℕ) : Type 0 where
   pub image : imageOf how Read (take n xs) ≡ Accepted
   pub least : 32 ≤ n
-  pub most : n ≤ 67108864
+  pub most : n ≤ maximum
   pub fits : n ≤ length xs
   pub size : length (take n xs) ≡ n
 

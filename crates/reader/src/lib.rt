@@ -1,7 +1,7 @@
-// The questions on a file: blocks, strings, keywords and numbers in values (document 01, rows 18, 20 to 23). Questions has the definitions, those of
-// samples too; Listed, Answers and Reach are the second view. Every question checks the whole file first; its answer is one of the image, the first `n`
-// bytes of the lent buffer. A part is -1 for the file, else the trace; `how` is the manner of reading. Stands on `image`, `lookup`, `double` and what
-// they stand on.
+// The questions on a file: blocks, strings, keywords and numbers in values (document 01, rows 18, 20 to 23). Questions
+// has the definitions, those of samples too; Listed, Answers and Reach are the second view. Every question checks the
+// whole file first; its answer is one of the image, the first `n` bytes of the lent buffer. A part is -1 for the file,
+// else the trace; `how` is the manner of reading. Stands on `image`, `lookup`, `double` and what they stand on.
 // The rules in words: docs/FORMAT.md, "Strings".
 use block::TraceAnswer;
 use decimal::NumberAnswer;
@@ -23,7 +23,9 @@ ghost use Rattle.refusal.specs.declared.Verdict.the-variants.{Accepted};
 ghost use Rattle.head.specs.declared.Purpose.the-variants.{Read};
 ghost use Rattle.head.specs.Head.{countOf};
 ghost use Rattle.image.specs.Image.{imageOf};
-ghost use Rattle.reader.specs.Questions.{noTrace, areaAsked, fileAnswer, traceAnswer, countAnswer, nthAnswer, findAnswer, keywordAnswer, valueThere, valueAnswer, spanThere, spanAnswer, numberAnswer, doubleAnswer, locationAnswer, whoseOf};
+ghost use Rattle.reader.specs.Questions.{noTrace, areaAsked, fileAnswer, traceAnswer, countAnswer, nthAnswer};
+ghost use Rattle.reader.specs.Questions.{findAnswer, keywordAnswer, valueThere, valueAnswer, spanThere};
+ghost use Rattle.reader.specs.Questions.{spanAnswer, numberAnswer, doubleAnswer, locationAnswer, whoseOf};
 ghost use Rattle.reader.specs.Leaves.{openedOf, Within};
 
 // Whom a part number names.

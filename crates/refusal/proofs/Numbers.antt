@@ -1,6 +1,6 @@
--- Every rule's number is above 0, which says that nothing was refused, below 100, and no other rule's. All of it follows
--- from one test: the numbers rise in the order of the enum. Rattle's own module of the enum (`proofs.Rule`) has that
--- order, and a file of specs/ may not name it: so this stands here, and lists no rule.
+-- Every rule's number is above 0, which says that nothing was refused, below 100, and no other rule's. All of it
+-- follows from one test: the numbers rise in the order of the enum. Rattle's own module of the enum (`proofs.Rule`) has
+-- that order, and a file of specs/ may not name it: so this stands here, and lists no rule.
 -- Assumes nothing.
 use mathlib.Core.Path.{_≡_, refl, sym, ap, _∙_}
 use mathlib.Core.Bool.{Bool, true, false}

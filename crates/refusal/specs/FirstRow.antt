@@ -1,11 +1,12 @@
--- The first row that is met answers. A row of the refusal table is what it answers: the refusal where its test holds, and else nothing.
+-- The first row that is met answers. A row of the refusal table is what it answers: the refusal where its test holds,
+-- and else nothing.
 -- Assumes nothing.
 use mathlib.Core.Path.{_≡_, refl, sym, ap, ap₂, _∙_}
 use mathlib.Core.Bool.{Bool, true, false}
 use mathlib.Core.List.{List, [], _∷_, _++_}
 use mathlib.Core.Logic.{_↔_}
 use Prim.Native.Nat.{ℕ}
-use Rattle.refusal.specs.Verdicts.{refused-not, asked, andThen, then-assoc}
+use Rattle.refusal.specs.Verdicts.{refused-not, asked, andThen}
 use Rattle.refusal.specs.declared.Refusal.{Refusal}
 use Rattle.refusal.specs.declared.Rule.{Rule}
 use Rattle.refusal.specs.declared.Part.{Part}
@@ -44,8 +45,8 @@ unfolding firstOf
 first-is-met [] after r n = refl
 first-is-met (v ∷ before) after r n = rw (n .0) (first-is-met before after r (n .1))
 
--- "input that meets rows of the refusal table gets the first of them in its order, with its place". Rules out a check that answers a later row, or another
--- place.
+-- "input that meets rows of the refusal table gets the first of them in its order, with its place". Rules out a check
+-- that answers a later row, or another place.
 pub refused-by-the-first : (vs : List Verdict) (r : Refusal) → (firstOf vs ≡ Refused r) ↔ Met vs r
 refused-by-the-first vs r = (met-is-first vs r, λ m. rw (m .2) (first-is-met (m .0) (m .1) r (m .3)))
 
@@ -77,7 +78,8 @@ unfolding firstOf andThen
 first-next Accepted vs = refl
 first-next (Refused r) vs = refl
 
--- ---- checks one behind the other, each with its own rows: the first check that refuses answers by the first row that is met
+-- ---- checks one behind the other, each with its own rows: the first check that refuses answers by the first row that
+-- is met
 
 abbrev pub flat : List (List Verdict) → List Verdict
 flat [] = []

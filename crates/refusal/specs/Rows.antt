@@ -1,5 +1,6 @@
--- A check is a list of rows, a test and its answer, in the order of the table; the first row whose test holds answers, and where none does the
--- check's own answer stands. "The first of them in its order" is how a check is written, and nothing to prove.
+-- A check is a list of rows, a test and its answer, in the order of the table; the first row whose test holds answers,
+-- and where none does the check's own answer stands. "The first of them in its order" is how a check is written, and
+-- nothing to prove.
 -- Assumes nothing.
 use mathlib.Core.Path.{_≡_, refl, sym, ap, _∙_}
 use mathlib.Core.Bool.{Bool, true, false}
@@ -54,7 +55,8 @@ module _ {A : Type 0} where
       later true v = let n : _≡_ {A = ℕ} 0 1 = cc in absurd (omega arith)
       later false v = v
 
-  -- an answer is the check's own, where no row's test held, or that of a row whose test holds and before which none does
+  -- an answer is the check's own, where no row's test held, or that of a row whose test holds and before which none
+  -- does
   pub first-met : (rs : Rows A) (a y : A) → first rs a ≡ y
       → (Clear rs × (a ≡ y)) ⊎ ((before after : Rows A) × (rs ≡ before ++ ((true, y) ∷ after)) × Clear before)
   first-met [] a y e = inl (tt, e)

@@ -1,5 +1,6 @@
-// The answers that all crates share: a refusal with its rule, part and place, and the verdict of a check.
-// Document 01, "Refusal numbers, in order of checking": Table has the numbers, Rows how the first row met answers. Stands on nothing.
+// The answers that all crates share: a refusal with its rule, part and place, and the verdict of a check. Document 01,
+// "Refusal numbers, in order of checking": Table has the numbers, Rows how the first row met answers. Stands on
+// nothing.
 // The rules in words: docs/FORMAT.md, "Refusal numbers, in order of checking".
 ghost use mathlib.Core.Path.{_≡_};
 ghost use Rattle.refusal.specs.Table.{numberOf, Numbered, partOf, refusal};

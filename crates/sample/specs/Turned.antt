@@ -9,7 +9,8 @@ use lib.ListN.{length, getD, take, drop, length-drop}
 use lib.Seq.{length-take-le}
 use Rattle.word.specs.Bytes.{each-bytes, bytes-take, bytes-drop}
 use Rattle.word.specs.Word.{lowFirst, lowBytes, valueOf, wordAt, bytesOf}
-use Rattle.word.specs.WordLaws.{length-bytesOf, bytesOf-bytes, value-bytesOf, bytesOf-value, value-joined, bytesOf-joined, word-small}
+use Rattle.word.specs.WordLaws.{length-bytesOf, bytesOf-bytes, value-bytesOf, bytesOf-value, value-joined}
+use Rattle.word.specs.WordLaws.{bytesOf-joined, word-small}
 
 -- the number that the w bytes of n in the order are, read low byte first
 unfoldable pub turned : ℕ → Bool → ℕ → ℕ

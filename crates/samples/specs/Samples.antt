@@ -25,7 +25,9 @@ use Rattle.image.specs.Image.{checkOf}
 use Rattle.reader.specs.declared.Whose.{Whose}
 use Rattle.reader.specs.declared.Whose.the-variants.{Whole, One, Nobody}
 use Rattle.block.specs.declared.TraceAnswer.the-variants as trace
-use Rattle.reader.specs.Questions.{noTrace, onTrace, whoseOf, traceAnswer, ofIntegers, ofBits, blockAt, dataIn, integersVerdict, bitsVerdict, integersAnswer, bitsAnswer, samplesIn, patternsIn, classesIn, kept, integersLeft, patternsLeft, classesLeft}
+use Rattle.reader.specs.Questions.{noTrace, onTrace, whoseOf, traceAnswer, ofIntegers, ofBits, blockAt, dataIn}
+use Rattle.reader.specs.Questions.{integersVerdict, bitsVerdict, integersAnswer, bitsAnswer, samplesIn, patternsIn}
+use Rattle.reader.specs.Questions.{classesIn, kept, integersLeft, patternsLeft, classesLeft}
 use Rattle.reader.specs.Leaves.{Fits}
 use Rattle.reader.specs.Reach.{Told}
 

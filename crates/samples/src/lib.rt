@@ -1,5 +1,6 @@
-// The samples of a trace, as integers or as bits and classes (document 01, "Samples", rows 18, 32, 33). The definitions are those of reader/Questions;
-// Samples has a law for each answer. The trace's data is handed to `decode` as a part of the lent file. Stands on `reader`, `decode` and what they stand on.
+// The samples of a trace, as integers or as bits and classes (document 01, "Samples", rows 18, 32, 33). The definitions
+// are those of reader/Questions; Samples has a law for each answer. The trace's data is handed to `decode` as a part of
+// the lent file. Stands on `reader`, `decode` and what they stand on.
 // The rules in words: docs/FORMAT.md, "Samples".
 use block::TraceAnswer;
 use block::TraceBlock;
@@ -10,11 +11,13 @@ ghost use mathlib.Core.Path.{_≡_};
 ghost use Prim.Native.Nat.{_≤_};
 ghost use lib.ListN.{length};
 ghost use Rattle.head.specs.Head.{refused};
-ghost use Rattle.reader.specs.Questions.{ofIntegers, ofBits, integersVerdict, samplesIn, bitsVerdict, patternsIn, classesIn, kept};
+ghost use Rattle.reader.specs.Questions.{ofIntegers, ofBits, integersVerdict, samplesIn, bitsVerdict, patternsIn};
+ghost use Rattle.reader.specs.Questions.{classesIn, kept};
 ghost use Rattle.reader.specs.Questions.{integersAnswer, integersLeft, bitsAnswer, patternsLeft, classesLeft};
 ghost use Rattle.reader.specs.Leaves.{Fits};
 
-// ---- samples: rows 18, 33 and 32 in that order; then the data block alone, out of the middle of the file, is handed to the decoder
+// ---- samples: rows 18, 33 and 32 in that order; then the data block alone, out of the middle of the file, is handed
+// to the decoder
 
 // Codes 1 to 3.
 fn is_integers(code: u8) -> bool
@@ -50,7 +53,8 @@ fn refusing(rule: Rule) -> Verdict
 fn integers_of(f: &[u8], t: TraceBlock, row: &mut [i32]) -> Verdict
     requires { ⌜ (2 ≤ length (now f)) × Fits (length (now f)) t ⌝ }
     ensures answer { λ r. ⌜ r ≡ integersVerdict t (length (now (row .entry))) ⌝ }
-    ensures row { λ _. ⌜ now (row .exit) ≡ kept (integersVerdict t (length (now (row .entry)))) (samplesIn (now (f .entry)) t) (now (row .entry)) ⌝ }
+    ensures row { λ _. ⌜ now (row .exit) ≡ kept (integersVerdict t (length (now (row .entry))))
+        (samplesIn (now (f .entry)) t) (now (row .entry)) ⌝ }
 {
     let code = t.code;
     let s = t.s;
@@ -83,8 +87,11 @@ pub fn integers(buffer: &[u8], n: usize, trace: i32, row: &mut [i32], how: Manne
 fn bits_of(f: &[u8], t: TraceBlock, row: &mut [u64], classes: &mut [u8]) -> Verdict
     requires { ⌜ (2 ≤ length (now f)) × Fits (length (now f)) t ⌝ }
     ensures answer { λ r. ⌜ r ≡ bitsVerdict t (length (now (row .entry))) (length (now (classes .entry))) ⌝ }
-    ensures row { λ _. ⌜ now (row .exit) ≡ kept (bitsVerdict t (length (now (row .entry))) (length (now (classes .entry)))) (patternsIn (now (f .entry)) t) (now (row .entry)) ⌝ }
-    ensures classes { λ _. ⌜ now (classes .exit) ≡ kept (bitsVerdict t (length (now (row .entry))) (length (now (classes .entry)))) (classesIn (now (f .entry)) t) (now (classes .entry)) ⌝ }
+    ensures row { λ _. ⌜ now (row .exit) ≡ kept (bitsVerdict t (length (now (row .entry)))
+        (length (now (classes .entry)))) (patternsIn (now (f .entry)) t) (now (row .entry)) ⌝ }
+    ensures classes { λ _. ⌜ now (classes .exit)
+        ≡ kept (bitsVerdict t (length (now (row .entry))) (length (now (classes .entry))))
+        (classesIn (now (f .entry)) t) (now (classes .entry)) ⌝ }
 {
     let code = t.code;
     let count = t.s;
@@ -113,9 +120,12 @@ pub fn bits(
     classes: &mut [u8],
     how: Manner,
 ) -> Verdict
-    ensures answer { λ r. ⌜ r ≡ bitsAnswer how (now (buffer .entry)) n trace (length (now (row .entry))) (length (now (classes .entry))) ⌝ }
-    ensures row { λ _. ⌜ now (row .exit) ≡ patternsLeft how (now (buffer .entry)) n trace (now (row .entry)) (now (classes .entry)) ⌝ }
-    ensures classes { λ _. ⌜ now (classes .exit) ≡ classesLeft how (now (buffer .entry)) n trace (now (row .entry)) (now (classes .entry)) ⌝ }
+    ensures answer { λ r. ⌜ r ≡ bitsAnswer how (now (buffer .entry)) n trace (length (now (row .entry)))
+        (length (now (classes .entry))) ⌝ }
+    ensures row { λ _. ⌜ now (row .exit) ≡ patternsLeft how (now (buffer .entry)) n trace (now (row .entry))
+        (now (classes .entry)) ⌝ }
+    ensures classes { λ _. ⌜ now (classes .exit)
+        ≡ classesLeft how (now (buffer .entry)) n trace (now (row .entry)) (now (classes .entry)) ⌝ }
 {
     let a = reader::trace_block(buffer, n, trace, how);
     match a {

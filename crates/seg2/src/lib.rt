@@ -1,5 +1,6 @@
-// The face for other languages: thin functions on numbers and byte slices, each with a whole promise and no `requires`. include/seg2.h declares them.
-// The answers are those of `image`, `reader`, `samples`, `start` and `writer`, as `face` hands them over. Strings are read in the strict manner.
+// The face for other languages: thin functions on numbers and byte slices, each with a whole promise and no `requires`.
+// include/seg2.h declares them. The answers are those of `image`, `reader`, `samples`, `start` and `writer`, as `face`
+// hands them over. Strings are read in the strict manner.
 // The rules in words: docs/FORMAT.md, "Refusal numbers, in order of checking".
 use face::Seg2Count;
 use face::Seg2Double;
@@ -19,15 +20,19 @@ ghost use lib.ListN.{length};
 ghost use Rattle.text.specs.declared.Manner.the-variants.{Strict};
 ghost use Rattle.head.specs.declared.Purpose.the-variants.{Read};
 ghost use Rattle.image.specs.Image.{checkOf};
-ghost use Rattle.reader.specs.Questions.{fileAnswer, traceAnswer, countAnswer, nthAnswer, findAnswer, keywordAnswer, numberAnswer, doubleAnswer, locationAnswer, integersAnswer, integersLeft, bitsAnswer, patternsLeft, classesLeft};
+ghost use Rattle.reader.specs.Questions.{fileAnswer, traceAnswer, countAnswer, nthAnswer, findAnswer, keywordAnswer};
+ghost use Rattle.reader.specs.Questions.{numberAnswer, doubleAnswer, locationAnswer, integersAnswer, integersLeft};
+ghost use Rattle.reader.specs.Questions.{bitsAnswer, patternsLeft, classesLeft};
 ghost use Rattle.layout.specs.Layout.{integersTrace, patternsTrace};
 ghost use Rattle.start.specs.Start.{startAnswer, startLeft};
 ghost use Rattle.writer.specs.Answers.{addAnswer, addLeft};
-ghost use Rattle.face.specs.Face.{asVerdict, asFile, asTrace, asCount, asString, asKeyword, asValue, asNumber, asDouble, asLocation, asLength};
+ghost use Rattle.face.specs.Face.{asVerdict, asFile, asTrace, asCount, asString, asKeyword, asValue, asNumber};
+ghost use Rattle.face.specs.Face.{asDouble, asLocation, asLength};
 
 // ---- questions
 
-// Whether the first `n` bytes of the buffer are a file that keeps the rules; if not, the first row of the table that it meets.
+// Whether the first `n` bytes of the buffer are a file that keeps the rules; if not, the first row of the table that it
+// meets.
 #[no_mangle]
 pub extern "C" fn seg2_check(buffer: &[u8], n: usize) -> Seg2Verdict
     ensures { λ r. ⌜ r ≡ asVerdict (checkOf Strict Read (now (buffer .entry)) n) ⌝ }
@@ -110,7 +115,8 @@ pub extern "C" fn seg2_location(buffer: &[u8], n: usize, part: i32, key: &[u8]) 
 // The samples of a trace of code 1 to 3, into a row of as many.
 #[no_mangle]
 pub extern "C" fn seg2_integers(buffer: &[u8], n: usize, trace: i32, row: &mut [i32]) -> Seg2Verdict
-    ensures answer { λ r. ⌜ r ≡ asVerdict (integersAnswer Strict (now (buffer .entry)) n trace (length (now (row .entry)))) ⌝ }
+    ensures answer { λ r. ⌜ r ≡ asVerdict (integersAnswer Strict (now (buffer .entry)) n trace
+        (length (now (row .entry)))) ⌝ }
     ensures row { λ _. ⌜ now (row .exit) ≡ integersLeft Strict (now (buffer .entry)) n trace (now (row .entry)) ⌝ }
 {
     face::told(samples::integers(buffer, n, trace, row, Manner::Strict))
@@ -125,9 +131,12 @@ pub extern "C" fn seg2_bits(
     row: &mut [u64],
     classes: &mut [u8],
 ) -> Seg2Verdict
-    ensures answer { λ r. ⌜ r ≡ asVerdict (bitsAnswer Strict (now (buffer .entry)) n trace (length (now (row .entry))) (length (now (classes .entry)))) ⌝ }
-    ensures row { λ _. ⌜ now (row .exit) ≡ patternsLeft Strict (now (buffer .entry)) n trace (now (row .entry)) (now (classes .entry)) ⌝ }
-    ensures classes { λ _. ⌜ now (classes .exit) ≡ classesLeft Strict (now (buffer .entry)) n trace (now (row .entry)) (now (classes .entry)) ⌝ }
+    ensures answer { λ r. ⌜ r ≡ asVerdict (bitsAnswer Strict (now (buffer .entry)) n trace (length (now (row .entry)))
+        (length (now (classes .entry)))) ⌝ }
+    ensures row { λ _. ⌜ now (row .exit) ≡ patternsLeft Strict (now (buffer .entry)) n trace (now (row .entry))
+        (now (classes .entry)) ⌝ }
+    ensures classes { λ _. ⌜ now (classes .exit)
+        ≡ classesLeft Strict (now (buffer .entry)) n trace (now (row .entry)) (now (classes .entry)) ⌝ }
 {
     face::told(samples::bits(buffer, n, trace, row, classes, Manner::Strict))
 }
@@ -152,8 +161,10 @@ pub extern "C" fn seg2_add_integers(
     code: u32,
     row: &[i32],
 ) -> Seg2Length
-    ensures answer { λ r. ⌜ r ≡ asLength (addAnswer (now (buffer .entry)) n (integersTrace (now (sheet .entry)) code (now (row .entry)))) ⌝ }
-    ensures left { λ _. ⌜ now (buffer .exit) ≡ addLeft (now (buffer .entry)) n (integersTrace (now (sheet .entry)) code (now (row .entry))) ⌝ }
+    ensures answer { λ r. ⌜ r ≡ asLength (addAnswer (now (buffer .entry)) n
+        (integersTrace (now (sheet .entry)) code (now (row .entry)))) ⌝ }
+    ensures left { λ _. ⌜ now (buffer .exit)
+        ≡ addLeft (now (buffer .entry)) n (integersTrace (now (sheet .entry)) code (now (row .entry))) ⌝ }
 {
     face::length_told(writer::add_integers(buffer, n, sheet, code, row))
 }
@@ -167,8 +178,10 @@ pub extern "C" fn seg2_add_bits(
     code: u32,
     row: &[u64],
 ) -> Seg2Length
-    ensures answer { λ r. ⌜ r ≡ asLength (addAnswer (now (buffer .entry)) n (patternsTrace (now (sheet .entry)) code (now (row .entry)))) ⌝ }
-    ensures left { λ _. ⌜ now (buffer .exit) ≡ addLeft (now (buffer .entry)) n (patternsTrace (now (sheet .entry)) code (now (row .entry))) ⌝ }
+    ensures answer { λ r. ⌜ r ≡ asLength (addAnswer (now (buffer .entry)) n
+        (patternsTrace (now (sheet .entry)) code (now (row .entry)))) ⌝ }
+    ensures left { λ _. ⌜ now (buffer .exit)
+        ≡ addLeft (now (buffer .entry)) n (patternsTrace (now (sheet .entry)) code (now (row .entry))) ⌝ }
 {
     face::length_told(writer::add_bits(buffer, n, sheet, code, row))
 }

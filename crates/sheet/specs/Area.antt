@@ -1,6 +1,7 @@
--- What a sheet means and is written as: "Each string is written as keyword, one space, value; NOTE lines are joined by the line terminator; then the
--- end mark 0 (for an empty list too), then zeros to a multiple of 4. An area is at most 65,500 bytes" (document 01, "What we write"; row 27).
--- `high` is the byte order, t the string terminator, u the line terminator.
+-- What a sheet means and is written as: "Each string is written as keyword, one space, value; NOTE lines are joined by
+-- the line terminator; then the end mark 0 (for an empty list too), then zeros to a multiple of 4. An area is at most
+-- 65,500 bytes" (document 01, "What we write"; row 27). `high` is the byte order, t the string terminator, u the line
+-- terminator.
 -- Assumes nothing.
 use mathlib.Core.Bool.{Bool}
 use mathlib.Core.List.{List, [], _∷_}
@@ -36,7 +37,8 @@ values (l ∷ ls) = l .value ∷ values ls
 abbrev pub noteOf : List ℕ → List Line → Str
 noteOf u ls = record { key = note; gap = 32 ∷ []; value = withEnds u (values ls) }
 
--- a string for each line, and one for all from the first NOTE on: in a sheet that is let through nothing but NOTE lines follow it
+-- a string for each line, and one for all from the first NOTE on: in a sheet that is let through nothing but NOTE lines
+-- follow it
 unfoldable pub joined : List ℕ → List Line → List Str
 joined u [] = []
 joined u (l ∷ ls) = pick (same (l .key) note) (noteOf u (l ∷ ls) ∷ []) (strOf l ∷ joined u ls)
@@ -70,7 +72,7 @@ abbrev pub areaMost : ℕ
 areaMost = 65500
 
 abbrev pub sized : ℕ → Measured
-sized n = pick (ltb 65500 n) (measured.the-variants.Refused (refusal AreaSize File 0)) (Size n)
+sized n = pick (ltb areaMost n) (measured.the-variants.Refused (refusal AreaSize File 0)) (Size n)
 
 unfoldable pub measuredOf : List ℕ → List ℕ → List ℕ → Measured
 measuredOf t u s = asked measured.the-variants.Refused (linesVerdict s) (sized (areaSize t u s))

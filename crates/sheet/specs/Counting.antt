@@ -24,8 +24,9 @@ use Rattle.text.specs.Order.{rises, rises-note}
 use Rattle.sheet.specs.declared.Step.the-variants.{Next, Bad}
 use Rattle.sheet.specs.declared.Measured as measured
 use Rattle.sheet.specs.declared.Measured.the-variants.{Size}
-use Rattle.sheet.specs.Lines.{Line, lineLen, lineKeyLen, continues, lineStep, onLineStep, checkFrom, linesVerdict, sheetLinesFrom, sheetLines}
-use Rattle.sheet.specs.Area.{sheetStrings, textSize, areaSize, sized, measuredOf}
+use Rattle.sheet.specs.Lines.{Line, lineLen, lineKeyLen, continues, lineStep, onLineStep, checkFrom, linesVerdict}
+use Rattle.sheet.specs.Lines.{sheetLinesFrom, sheetLines}
+use Rattle.sheet.specs.Area.{areaMost, sheetStrings, textSize, areaSize, sized, measuredOf}
 use Rattle.sheet.specs.Judging.{next-told}
 use Rattle.sheet.specs.Sizes.{lineCost, costs, joined-size, capped}
 
@@ -75,13 +76,14 @@ costs-step t u prev l ls h = go (same prev note) (same (l .key) note) refl refl 
     go false b d e k = ap (λ (x : Bool). lineCost t u false (length (l .key)) (length (l .value)) + costs t u x ls) e
 
 pub capped-again : (n x m : ℕ) → n ≡ capped x → capped (n + m) ≡ capped (x + m)
-capped-again n x m e = go (ltb 65500 x) refl e
+capped-again n x m e = go (ltb areaMost x) refl e
   where
-    go : (b : Bool) → ltb 65500 x ≡ b → n ≡ pick b 65501 x → capped (n + m) ≡ capped (x + m)
-    go true q k = let l = ltb-true 65500 x q in rw (lt-ltb 65500 (n + m) (omega arith), lt-ltb 65500 (x + m) (omega arith))
+    go : (b : Bool) → ltb areaMost x ≡ b → n ≡ pick b (areaMost + 1) x → capped (n + m) ≡ capped (x + m)
+    go true q k = let l = ltb-true areaMost x q in rw (lt-ltb areaMost (n + m) (omega arith), lt-ltb areaMost (x + m) (omega arith))
     go false q k = rw k
 
--- ---- where a line starts: the check from here answers as the whole check, and what was counted with what is to come makes the whole
+-- ---- where a line starts: the check from here answers as the whole check, and what was counted with what is to come
+-- makes the whole
 
 pub record Counted (t u s : List ℕ) (at k g n : ℕ) : Type 0 where
   pub fuel : ℕ
@@ -173,24 +175,24 @@ module _ (t u s : List ℕ) (at k g n : ℕ) (c : Counted t u s at k g n) where
       no-more true = omega arith
       no-more false = omega arith
 
-  pub counted-large : length s ≤ at → 65500 < round4 n → measured.the-variants.Refused (refusal AreaSize File 0) ≡ measuredOf t u s
+  pub counted-large : length s ≤ at → areaMost < round4 n → measured.the-variants.Refused (refusal AreaSize File 0) ≡ measuredOf t u s
   unfolding measuredOf areaSize
   counted-large h l =
       let a = counted-all h in
-      rw (a .0, a .1, lt-ltb 65500 (round4 (c .exact)) (go (ltb 65500 (c .exact)) refl (c .told)))
+      rw (a .0, a .1, lt-ltb areaMost (round4 (c .exact)) (go (ltb areaMost (c .exact)) refl (c .told)))
     where
-      go : (b : Bool) → ltb 65500 (c .exact) ≡ b → n ≡ pick b 65501 (c .exact) → 65500 < round4 (c .exact)
-      go true q e = let m = ltb-true 65500 (c .exact) q in omega arith
+      go : (b : Bool) → ltb areaMost (c .exact) ≡ b → n ≡ pick b (areaMost + 1) (c .exact) → areaMost < round4 (c .exact)
+      go true q e = let m = ltb-true areaMost (c .exact) q in omega arith
       go false q e = omega arith
 
-  pub counted-size : length s ≤ at → round4 n ≤ 65500 → Size (round4 n) ≡ measuredOf t u s
+  pub counted-size : length s ≤ at → round4 n ≤ areaMost → Size (round4 n) ≡ measuredOf t u s
   unfolding measuredOf areaSize
   counted-size h l =
       let a = counted-all h in
-      let e : c .exact ≡ n = go (ltb 65500 (c .exact)) (c .told) in
-      rw (a .0, a .1, e, le-ltb 65500 (round4 n) l)
+      let e : c .exact ≡ n = go (ltb areaMost (c .exact)) (c .told) in
+      rw (a .0, a .1, e, le-ltb areaMost (round4 n) l)
     where
-      go : (b : Bool) → n ≡ pick b 65501 (c .exact) → c .exact ≡ n
+      go : (b : Bool) → n ≡ pick b (areaMost + 1) (c .exact) → c .exact ≡ n
       go true k = absurd (omega arith)
       go false k = sym k
 

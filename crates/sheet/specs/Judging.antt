@@ -1,4 +1,5 @@
--- The rows of one line: a law for each answer, with the tests as the code makes them as premises, and what a line that was let through has shown.
+-- The rows of one line: a law for each answer, with the tests as the code makes them as premises, and what a line that
+-- was let through has shown.
 -- Assumes nothing.
 use mathlib.Core.Path.{_≡_, refl}
 use mathlib.Core.Bool.{Bool, true, false, not, _&&_, _||_}
@@ -20,7 +21,8 @@ use Rattle.chars.specs.Chars.{keyChar}
 use Rattle.chars.specs.Runs.{run, all}
 use Rattle.text.specs.Order.{rises}
 use Rattle.sheet.specs.declared.Step.the-variants.{Next, Bad}
-use Rattle.sheet.specs.Lines.{plain, lineLen, lineKeyLen, spaced, continues, lineRows, lineJudged, onLineJudged, lineStep}
+use Rattle.sheet.specs.Lines.{plain, lineLen, lineKeyLen, spaced, continues, lineRows, lineJudged, onLineJudged}
+use Rattle.sheet.specs.Lines.{lineStep}
 
 -- ---- which answer it is: n is the number of keyword characters at the line's start
 module _ (prev l : List ℕ) (n : ℕ) (e : n ≡ run keyChar l) where

@@ -1,6 +1,6 @@
--- The lines of a sheet, and the check of them: "Strings come as a sheet, lines of text ended by 0Ah: keyword (as above), tab, value" (document 01,
--- "What we write"; rows 25 and 26). A sheet is the list of its bytes; every definition is on the bytes that are left of it, and a place is carried
--- along only for refusals.
+-- The lines of a sheet, and the check of them: "Strings come as a sheet, lines of text ended by 0Ah: keyword (as
+-- above), tab, value" (document 01, "What we write"; rows 25 and 26). A sheet is the list of its bytes; every
+-- definition is on the bytes that are left of it, and a place is carried along only for refusals.
 -- Assumes nothing.
 use mathlib.Core.Bool.{Bool, not, _&&_, _||_}
 use mathlib.Core.List.{List, [], _∷_}
@@ -52,15 +52,16 @@ lineValue l = drop (lineKeyLen l + 1) l
 abbrev pub spaced : List ℕ → Bool
 spaced v = eqb (getD v 0 0) 32
 
--- "Consecutive NOTE lines at the end are lines of one NOTE": the line with the keyword k continues the one before it, whose keyword is prev
+-- "Consecutive NOTE lines at the end are lines of one NOTE": the line with the keyword k continues the one before it,
+-- whose keyword is prev
 unfoldable pub continues : List ℕ → List ℕ → Bool
 continues prev k = same prev note && same k note
 
 -- ---- the rows of the table for one line: a test and the rule that it breaks, and the first whose test holds answers
 
--- 25 "bad sheet line": an empty line or no keyword; no tab behind the keyword (a line that ends there has none); a value's character; a value that
--- starts with a space, where the line does not continue a NOTE. 26 "sheet order": `text`'s own order, but for a NOTE that is continued. prev is the
--- keyword before, the empty one before the first line
+-- 25 "bad sheet line": an empty line or no keyword; no tab behind the keyword (a line that ends there has none); a
+-- value's character; a value that starts with a space, where the line does not continue a NOTE. 26 "sheet order":
+-- `text`'s own order, but for a NOTE that is continued. prev is the keyword before, the empty one before the first line
 abbrev pub lineRows : List ℕ → List ℕ → Rows Rule
 lineRows prev l =
     (eqb (lineKeyLen l) 0, SheetLine)

@@ -1,5 +1,6 @@
--- A sheet without any order of checking: the bytes that a list of lines is, and which lists of lines may be given (document 01, "What we write").
--- Theorems: a sheet passes 25 and 26 exactly where it is such a list's bytes, and that list is the one that is read off it.
+-- A sheet without any order of checking: the bytes that a list of lines is, and which lists of lines may be given
+-- (document 01, "What we write"). Theorems: a sheet passes 25 and 26 exactly where it is such a list's bytes, and that
+-- list is the one that is read off it.
 -- Assumes nothing.
 use mathlib.Core.Path.{_≡_, refl, sym, ap, ap₂, _∙_}
 use mathlib.Core.Bool.{Bool, true, false, not, _&&_, _||_}
@@ -19,7 +20,8 @@ use Rattle.chars.specs.Runs.{run, all, Stops, all-append, all-weaker, run-all, 
 use Rattle.text.specs.Order.{rises}
 use Rattle.sheet.specs.declared.Step.{Step}
 use Rattle.sheet.specs.declared.Step.the-variants.{Next, Bad}
-use Rattle.sheet.specs.Lines.{Line, plain, lineLen, lineKeyLen, spaced, continues, lineJudged, lineStep, onLineStep, checkFrom, linesVerdict, sheetLinesFrom, sheetLines}
+use Rattle.sheet.specs.Lines.{Line, plain, lineLen, lineKeyLen, spaced, continues, lineJudged, lineStep}
+use Rattle.sheet.specs.Lines.{onLineStep, checkFrom, linesVerdict, sheetLinesFrom, sheetLines}
 use Rattle.sheet.specs.Judging.{Told, judged-good, step-good, next-told}
 use Rattle.sheet.specs.Counting.{check-step, check-none, lines-none, lines-step}
 

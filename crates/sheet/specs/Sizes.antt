@@ -17,7 +17,8 @@ use Rattle.chars.specs.Runs.{same, same-eq}
 use Rattle.note.specs.Note.{withEnds}
 use Rattle.strings.specs.Spelled.{Str, textOf, sizeOf, texts, written}
 use Rattle.sheet.specs.Lines.{Line}
-use Rattle.sheet.specs.Area.{strOf, values, noteOf, joined, sheetStrings, textSize, padding, areaOf, areaSize}
+use Rattle.sheet.specs.Area.{areaMost, strOf, values, noteOf, joined, sheetStrings, textSize, padding, areaOf}
+use Rattle.sheet.specs.Area.{areaSize}
 
 -- ---- the area's length
 
@@ -45,7 +46,8 @@ unfolding textSize
 textSize-low t [] = omega arith
 textSize-low t (s ∷ ss) = let i = textSize-low t ss in omega arith
 
--- ---- the size that is still to come, line by line: in a NOTE each line costs a terminator and its value, before it a string of its own
+-- ---- the size that is still to come, line by line: in a NOTE each line costs a terminator and its value, before it a
+-- string of its own
 
 abbrev pub lineCost : List ℕ → List ℕ → Bool → ℕ → ℕ → ℕ
 lineCost t u true w v = length u + v
@@ -90,10 +92,10 @@ joined-size t u (l ∷ ls) = go (same (l .key) note) refl (joined-size t u ls)
 -- ---- counting that stops at the limit: what is over 65,500 counts as 65,501
 
 abbrev pub capped : ℕ → ℕ
-capped x = pick (ltb 65500 x) 65501 x
+capped x = pick (ltb areaMost x) (areaMost + 1) x
 
-pub capped-le : (x : ℕ) → x ≤ 65500 → capped x ≡ x
-capped-le x h = rw (le-ltb 65500 x h)
+pub capped-le : (x : ℕ) → x ≤ areaMost → capped x ≡ x
+capped-le x h = rw (le-ltb areaMost x h)
 
-pub capped-over : (x : ℕ) → 65500 < x → capped x ≡ 65501
-capped-over x h = rw (lt-ltb 65500 x h)
+pub capped-over : (x : ℕ) → areaMost < x → capped x ≡ (areaMost + 1)
+capped-over x h = rw (lt-ltb areaMost x h)

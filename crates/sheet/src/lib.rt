@@ -1,6 +1,7 @@
-// Sheets: strings as lines of text, checked line by line and measured (document 01, "What we write", rows 25 to 27). Lines and Area have the
-// definitions, Paper the second view: a sheet is taken exactly where its lines keep the rules. Stands on `strings`, `text`, `word`, `refusal`.
-// A sheet is the bytes of its lines, each ended by 0Ah; t is the file's string terminator, u its line terminator.
+// Sheets: strings as lines of text, checked line by line and measured (document 01, "What we write", rows 25 to 27).
+// Lines and Area have the definitions, Paper the second view: a sheet is taken exactly where its lines keep the rules.
+// Stands on `strings`, `text`, `word`, `refusal`. A sheet is the bytes of its lines, each ended by 0Ah; t is the file's
+// string terminator, u its line terminator.
 // The rules in words: docs/FORMAT.md, "What we write".
 use chars::Kind;
 use refusal::Refusal;

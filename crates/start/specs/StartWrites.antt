@@ -15,7 +15,7 @@ use Rattle.refusal.specs.declared.Rule.the-variants.{NoRoom, StartValues}
 use Rattle.sample.specs.Needed.{room}
 use Rattle.head.specs.Head.{maximum}
 use Rattle.sheet.specs.declared.Measured.the-variants as measured
-use Rattle.sheet.specs.Area.{areaSize, measuredOf}
+use Rattle.sheet.specs.Area.{areaMost, areaSize, measuredOf}
 use Rattle.area.specs.Spelling.{measured-size}
 use Rattle.start.specs.declared.Written.{Written}
 use Rattle.start.specs.declared.Written.the-variants.{To, Refused}
@@ -54,7 +54,7 @@ unfolding startSize
 start-fits slots sheet size room few m h =
     let b = measured-size nul lineFeed sheet size m in
     let a : areaSize nul lineFeed sheet ≡ size = b .1 in
-    let k : size ≤ 65500 = b .2 in
+    let k : size ≤ areaMost = b .2 in
     rw (a, le-ltb room (32 + 4 * slots + size) h, le-ltb maximum (32 + 4 * slots + size) (omega arith))
 
 pub start-slots : (order slots : ℕ) → badStart order slots ≡ false → slots ≤ slotsMost

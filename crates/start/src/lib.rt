@@ -1,5 +1,6 @@
-// Starting a file (document 01, "What we write" and rows 25 to 27, 30 and 31). Every refusal is found before the first byte is written.
-// Start has the definitions, StartShown the second view: a file is started exactly where no row is met. Stands on `layout`, `head`, `sheet`.
+// Starting a file (document 01, "What we write" and rows 25 to 27, 30 and 31). Every refusal is found before the first
+// byte is written. Start has the definitions, StartShown the second view: a file is started exactly where no row is
+// met. Stands on `layout`, `head`, `sheet`.
 // The rules in words: docs/FORMAT.md, "What we write".
 use refusal::Refusal;
 use refusal::Rule;
@@ -37,7 +38,9 @@ fn is_bad_start(order: usize, slots: usize) -> bool
 fn start_sized(buffer: &mut [u8], high: bool, slots: usize, sheet: &[u8], size: usize) -> Written
     requires { ⌜ (slots ≤ slotsMost) × (measuredOf nul lineFeed (now sheet) ≡ Measured.Size size) ⌝ }
     ensures answer { λ r. ⌜ r ≡ within (length (now (buffer .entry))) (startSize slots (now (sheet .entry))) ⌝ }
-    ensures left { λ r. ⌜ now (buffer .exit) ≡ onWritten r (put (now (buffer .entry)) 0 (startImage high slots (now (sheet .entry)))) (now (buffer .entry)) ⌝ }
+    ensures left { λ r. ⌜ now (buffer .exit)
+        ≡ onWritten r (put (now (buffer .entry)) 0 (startImage high slots (now (sheet .entry)))) (now (buffer .entry))
+        ⌝ }
 {
     let end = 32 + 4 * slots + size;
     if buffer.len() < end {

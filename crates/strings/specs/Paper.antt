@@ -1,6 +1,6 @@
--- The two views agree: an area is accepted exactly where it spells a list of strings, that list is the only one, and the questions answer from it.
--- That the walk over a NOTE's lines and the words of `GoodString` say the same needs a line terminator that starts with no value character (`LineEnd`),
--- which row 6 gives every file.
+-- The two views agree: an area is accepted exactly where it spells a list of strings, that list is the only one, and
+-- the questions answer from it. That the walk over a NOTE's lines and the words of `GoodString` say the same needs a
+-- line terminator that starts with no value character (`LineEnd`), which row 6 gives every file.
 -- Assumes nothing.
 use mathlib.Core.Path.{_≡_, refl, sym, ap, ap₂, _∙_}
 use mathlib.Core.Bool.{Bool, true, false, not}
@@ -18,7 +18,7 @@ use Rattle.word.specs.Part.{part, length-part, part-rest, part-split, part-part
 use Rattle.word.specs.Bytes.{Bytes, bytes-take, bytes-drop}
 use Rattle.word.specs.Word.{wordAt, bytesOf}
 use Rattle.word.specs.WordLaws.{length-bytesOf, word-among, word-small, bytesOf-value}
-use Rattle.refusal.specs.Rows.{pick, Rows, ruled-clear, ruled-through}
+use Rattle.refusal.specs.Rows.{pick, ruled-clear, ruled-through}
 use Rattle.refusal.specs.declared.Part.{Part}
 use Rattle.refusal.specs.Verdicts.{refused-not}
 use Rattle.refusal.specs.Table.{refusal}
@@ -42,10 +42,14 @@ use Rattle.chars.specs.Runs.{run, all, same, same-eq, same-refl, Stops, all-wea
 use Rattle.text.specs.Order.{rises, rises-strict, rises-transitive}
 use Rattle.text.specs.Manner.{openEnd, letter, letter-solid, named, follows}
 use Rattle.note.specs.Note.{LineEnd, value-accept, value-spelled}
-use Rattle.strings.specs.Strings.{offset, body, keyLen, keyOf, afterKey, gapLen, gapOf, valueOf, cut, frameRows, endOrText, frameOf, textRows, judgedOf, onFrame, onJudged, stepOf, onStep, stringsFrom, stringsOf, placeOf, onText, placesFrom, placesOf, keyIn, valueIn, nthOf, findOf, keyFound, valueFound}
+use Rattle.strings.specs.Strings.{offset, body, keyLen, keyOf, afterKey, gapLen, gapOf, valueOf, cut, frameRows}
+use Rattle.strings.specs.Strings.{endOrText, frameOf, textRows, judgedOf, onFrame, onJudged, stepOf, onStep}
+use Rattle.strings.specs.Strings.{stringsFrom, stringsOf, placeOf, onText, placesFrom, placesOf, keyIn, valueIn}
+use Rattle.strings.specs.Strings.{nthOf, findOf, keyFound, valueFound}
 use Rattle.strings.specs.Frames.{cut-two, no-offset, frame-end, Framed, framed}
 use Rattle.strings.specs.Walks.{InFrame, in-frame, next-fits, next-bounds, judged-clear, keyLen-le, length-body}
-use Rattle.strings.specs.Spelled.{Str, GoodString, Rising, textOf, sizeOf, texts, written, Ends, Ends.mark, Ends.none, Spells, Spells.empty, Spells.full, nthStr, valueOfKey, hasKey, strIn, strsIn}
+use Rattle.strings.specs.Spelled.{Str, GoodString, Rising, textOf, sizeOf, texts, Ends, Ends.mark, Ends.none}
+use Rattle.strings.specs.Spelled.{Spells, Spells.empty, Spells.full, nthStr, valueOfKey, hasKey, strIn, strsIn}
 
 -- ---- the text of a good string is taken apart into it
 

@@ -1,4 +1,5 @@
--- The strings of an area without any order of checking: which bytes a list of strings is written as (document 01, "Strings"; paper, III.C).
+-- The strings of an area without any order of checking: which bytes a list of strings is written as (document 01,
+-- "Strings"; paper, III.C).
 -- Assumes nothing.
 use mathlib.Core.Path.{_≡_}
 use mathlib.Core.Bool.{Bool, true, false}
@@ -29,7 +30,8 @@ textOf s = s .key ++ (s .gap ++ s .value)
 abbrev pub sizeOf : List ℕ → Str → ℕ
 sizeOf t s = 2 + length (textOf s) + length t
 
--- a string that may be written, `how` being the manner of reading. Its value "uses 32 to 126 and tab, in NOTE also whole line terminators", in any order
+-- a string that may be written, `how` being the manner of reading. Its value "uses 32 to 126 and tab, in NOTE also
+-- whole line terminators", in any order
 pub record GoodString (how : Manner) (t u : List ℕ) (s : Str) : Type 0 where
   pub some : 0 < length (s .key)
   pub keys : all (letter how) (s .key) ≡ true

@@ -1,6 +1,6 @@
--- The strings of an area as the check reads them (document 01, "Strings" and rows 14 to 17). Every definition is on the bytes that are left of
--- the area; a place is carried along only for refusals and answers. `how` is the manner of reading (text/Manner), `high` the byte order, t the string
--- terminator, u the line terminator.
+-- The strings of an area as the check reads them (document 01, "Strings" and rows 14 to 17). Every definition is on the
+-- bytes that are left of the area; a place is carried along only for refusals and answers. `how` is the manner of
+-- reading (text/Manner), `high` the byte order, t the string terminator, u the line terminator.
 -- Assumes nothing.
 use mathlib.Core.Bool.{Bool, not}
 use mathlib.Core.List.{List, [], _∷_}
@@ -43,7 +43,8 @@ offset high l = wordAt 2 high l 0
 unfoldable pub body : List ℕ → ℕ → List ℕ → List ℕ
 body t o l = part 2 (o - length t) l
 
--- "The keyword runs to the first space or tab or the end", then the separators, and "the value is what follows the separators"
+-- "The keyword runs to the first space or tab or the end", then the separators, and "the value is what follows the
+-- separators"
 unfoldable pub keyLen : List ℕ → ℕ
 keyLen b = run solid b
 
@@ -64,11 +65,13 @@ valueOf b = drop (gapLen (afterKey b)) (afterKey b)
 
 -- ---- the rows of the table for one string: a test and the rule that it breaks, and the first whose test holds answers
 
--- too few bytes are left for an offset: under two. Where a list may end without a mark, no byte is an end, and one byte is too few
+-- too few bytes are left for an offset: under two. Where a list may end without a mark, no byte is an end, and one byte
+-- is too few
 abbrev pub cut : Manner → List ℕ → Bool
 cut how l = pick (openEnd how) (eqb (length l) 1) (ltb (length l) 2)
 
--- 14 "offset not in the area, too small for a keyword, or past it", 15 "terminator not at the string's end"; 0 ends the list and meets neither
+-- 14 "offset not in the area, too small for a keyword, or past it", 15 "terminator not at the string's end"; 0 ends the
+-- list and meets neither
 abbrev pub frameRows : Manner → Bool → List ℕ → List ℕ → Rows Rule
 frameRows how high t l =
     (cut how l, StringOffset)
@@ -117,8 +120,8 @@ onStep (Next o n) next = next o n
 onStep Done next = Accepted
 onStep (Bad r) next = Refused r
 
--- the strings from l on. The number bounds how many there are; the length of l is enough, for each has a byte. Where no byte is left the missing
--- end mark is 14, unless the list may end there
+-- the strings from l on. The number bounds how many there are; the length of l is enough, for each has a byte. Where no
+-- byte is left the missing end mark is 14, unless the list may end there
 unfoldable pub stringsFrom : Manner → ℕ → Bool → List ℕ → List ℕ → Part → List ℕ → List ℕ → ℕ → Verdict
 stringsFrom how zero high t u p prev l at = pick (openEnd how) Accepted (Refused (refusal StringOffset p at))
 stringsFrom how (suc m) high t u p prev l at =

@@ -1,4 +1,5 @@
--- What stands between an offset and its terminator: the keyword, the separators and the value, and the laws of rows 16 and 17.
+-- What stands between an offset and its terminator: the keyword, the separators and the value, and the laws of rows 16
+-- and 17.
 -- Assumes nothing.
 use mathlib.Core.Path.{_≡_, refl, sym, ap, _∙_}
 use mathlib.Core.Bool.{Bool, true, false, not, _&&_}

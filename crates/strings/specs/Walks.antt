@@ -1,4 +1,5 @@
--- The walks over an area, string by string: a law for each turn of the loops that follow them. f is the file, the area its part from a place up to e.
+-- The walks over an area, string by string: a law for each turn of the loops that follow them. f is the file, the area
+-- its part from a place up to e.
 -- Assumes nothing.
 use mathlib.Core.Path.{_≡_, refl, sym, ap, _∙_}
 use mathlib.Core.Bool.{Bool, true, false}
@@ -29,7 +30,9 @@ use Rattle.chars.specs.Chars.{blank, solid}
 use Rattle.text.specs.Manner.{openEnd}
 use Rattle.chars.specs.Runs.{run-le, same-eq}
 use Rattle.strings.specs.Frames.{no-offset}
-use Rattle.strings.specs.Strings.{offset, body, keyLen, afterKey, gapLen, frameRows, frameOf, textRows, judgedOf, onJudged, onFrame, endOrText, stepOf, onStep, stringsFrom, stringsOf, placeOf, onText, entryOf, placesFrom, PlaceIn}
+use Rattle.strings.specs.Strings.{offset, body, keyLen, afterKey, gapLen, frameRows, frameOf, textRows, judgedOf}
+use Rattle.strings.specs.Strings.{onJudged, onFrame, endOrText, stepOf, onStep, stringsFrom, stringsOf, placeOf}
+use Rattle.strings.specs.Strings.{onText, entryOf, placesFrom, PlaceIn}
 
 -- ---- what a frame with a text has shown
 

@@ -1,7 +1,8 @@
-// The strings of an area: one string, a list of strings and the check of both (document 01, "Strings", rows 14 to 17). Strings has the definitions,
-// Spelled and Paper the second view: an area is accepted exactly where it spells a list of strings, and only one. Stands on `text`, `word`, `refusal`.
-// An area is the bytes of a file from place a to place e; t is the string terminator, u the line terminator, `high` the byte order, `how` the manner of
-// reading (text/Manner), which is a parameter of every walk and question here.
+// The strings of an area: one string, a list of strings and the check of both (document 01, "Strings", rows 14 to 17).
+// Strings has the definitions, Spelled and Paper the second view: an area is accepted exactly where it spells a list of
+// strings, and only one. Stands on `text`, `word`, `refusal`. An area is the bytes of a file from place a to place e; t
+// is the string terminator, u the line terminator, `high` the byte order, `how` the manner of reading (text/Manner),
+// which is a parameter of every walk and question here.
 // The rules in words: docs/FORMAT.md, "Strings".
 use chars::Kind;
 use refusal::Part;
@@ -15,7 +16,8 @@ ghost use lib.ListN.{length};
 ghost use Rattle.word.specs.Part.{part};
 ghost use Rattle.strings.specs.Strings.{cut, frameOf, judgedOf, stepOf, stringsOf};
 
-// What an area has at a string's place: the end of the list, a string of so many bytes in all, or a frame that is broken.
+// What an area has at a string's place: the end of the list, a string of so many bytes in all, or a frame that is
+// broken.
 pub enum Frame {
     End,
     Text(usize),
@@ -35,7 +37,8 @@ pub enum Step {
     Bad(Refusal),
 }
 
-// Where a string stands in the file: the keyword from key to gap, the separators from gap to value, the value from value to end.
+// Where a string stands in the file: the keyword from key to gap, the separators from gap to value, the value from
+// value to end.
 pub struct Place {
     pub key: usize,
     pub gap: usize,
@@ -131,7 +134,8 @@ fn step_at(
     how: Manner,
 ) -> Step
     requires { ⌜ 0 < length (now u) ⌝ }
-    ensures { λ r. ⌜ r ≡ stepOf how high (now (t .entry)) (now (u .entry)) whose (now (prev .entry)) (now (l .entry)) at ⌝ }
+    ensures { λ r. ⌜ r ≡ stepOf how high (now (t .entry)) (now (u .entry)) whose (now (prev .entry)) (now (l .entry))
+        at ⌝ }
 {
     let s = framed(l, high, t, how);
     match s {

@@ -1,4 +1,5 @@
--- The manner of reading strings: all that another manner of reading may change, each rule once. `Strict` is document 01's.
+-- The manner of reading strings: all that another manner of reading may change, each rule once. `Strict` is document
+-- 01's.
 -- Assumes nothing.
 use mathlib.Core.Path.{_≡_, refl}
 use mathlib.Core.Bool.{Bool, true, false}

@@ -1,5 +1,5 @@
--- The order of keywords: "Keywords strictly rise in byte order, a prefix first; NOTE comes after all others, once at most" (document 01, "Strings").
--- Everything that asks for the order asks `rises`, by its laws.
+-- The order of keywords: "Keywords strictly rise in byte order, a prefix first; NOTE comes after all others, once at
+-- most" (document 01, "Strings"). Everything that asks for the order asks `rises`, by its laws.
 -- Assumes nothing.
 use mathlib.Core.Path.{_≡_, refl}
 use mathlib.Core.Bool.{Bool, true, false}
@@ -7,7 +7,7 @@ use mathlib.Core.List.{List, [], _∷_}
 use Prim.Native.Nat.{ℕ, _+_, _≤_, _<_}
 use native.Mathlib.Omega.{arith}
 use lib.ListN.{length, getD, drop}
-use lib.Dec.{ltb, eqb}
+use lib.Dec.{ltb}
 use borrow.Author.Tests.{ltb-true, ltb-false, lt-ltb, le-ltb}
 use Rattle.refusal.specs.Rows.{pick}
 use Rattle.chars.specs.Chars.{note}

@@ -8,7 +8,8 @@ use native.Mathlib.Numerals.{add-one}
 use native.Mathlib.Omega.{arith}
 use lib.ListN.{length, getD, take, drop, length-drop}
 use denote.Ref.{RefT}
-use lib.Seq.{length-take-le, take-all, take-nil, take-take, take-add, take-at, drop-at, drop-cons, drop-drop, getD-take, getD-drop}
+use lib.Seq.{length-take-le, take-all, take-nil, take-take, take-add, take-at, drop-at, drop-cons, drop-drop, getD-take}
+use lib.Seq.{getD-drop}
 
 module _ {A : Type 0} where
   -- the elements of f from place a up to place e

@@ -9,7 +9,8 @@ use native.Mathlib.Decide.{decLe}
 use native.Mathlib.Numerals.{add-one}
 use native.Mathlib.Omega.{arith}
 use lib.ListN.{length, getD, take, drop, set, replicate, length-set, length-drop, take-append-drop, drop-of-length-le}
-use lib.Seq.{take-set-le, drop-set-lt, take-all, length-take-le, take-at, drop-cons, set-out, take-nil, drop-nil, drop-drop}
+use lib.Seq.{take-set-le, drop-set-lt, take-all, length-take-le, take-at, drop-cons, set-out, take-nil, drop-nil}
+use lib.Seq.{drop-drop}
 use Rattle.word.specs.Part.{part, drop-take}
 
 module _ {A : Type 0} where

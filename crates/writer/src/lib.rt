@@ -1,5 +1,6 @@
-// Adding a trace (document 01, "What we write" and rows 24 to 30). Every refusal is found before the first byte is written.
-// Answers has the definitions, Shown the second view: a trace is added exactly where no row is met. Stands on `append`, `start`, `image`, `encode`.
+// Adding a trace (document 01, "What we write" and rows 24 to 30). Every refusal is found before the first byte is
+// written. Answers has the definitions, Shown the second view: a trace is added exactly where no row is met. Stands on
+// `append`, `start`, `image`, `encode`.
 // The rules in words: docs/FORMAT.md, "What we write".
 use encode::Fit;
 use head::Purpose;
@@ -17,6 +18,7 @@ ghost use Rattle.decode.specs.Sample.{integersAsked, bitsAsked};
 ghost use Rattle.head.specs.Head.{maximum};
 ghost use Rattle.layout.specs.Layout.{integers, patterns, integersTrace, patternsTrace};
 ghost use Rattle.layout.specs.LayoutLaws.{Kinded};
+ghost use Rattle.sheet.specs.Area.{areaMost};
 ghost use Rattle.start.specs.Start.{within};
 ghost use Rattle.writer.specs.Answers.{areaAnswer, onFit, samplesVerdict, addAnswer, addLeft};
 ghost use Rattle.writer.specs.Writes.{rowsAnswer};
@@ -83,10 +85,10 @@ fn bits_fit(code: u32, row: &[u64]) -> Verdict
 
 // ---- every row in its order; `fit` is what rows 28 and 29 say of the samples
 
-// Rows 28 to 30 where the sheet's area has `size` bytes. A count over the maximum is over it in bytes too, and is asked first: a count in a file has
-// 32 bits.
+// Rows 28 to 30 where the sheet's area has `size` bytes. A count over the maximum is over it in bytes too, and is asked
+// first: a count in a file has 32 bits.
 fn ended(len: usize, n: usize, size: usize, code: u32, count: usize, fit: Verdict) -> Written
-    requires { ⌜ (n ≤ maximum) × (size ≤ 65500) × (fit ≡ Verdict.Accepted → Kinded code count) ⌝ }
+    requires { ⌜ (n ≤ maximum) × (size ≤ areaMost) × (fit ≡ Verdict.Accepted → Kinded code count) ⌝ }
     ensures { λ r. ⌜ r ≡ asked Written.Refused fit (within len (round4 n + (32 + size + room code count))) ⌝ }
 {
     if let Verdict::Refused(r) = fit {
@@ -116,10 +118,13 @@ fn answered(buffer: &[u8], n: usize, sheet: &[u8], code: u32, count: usize, fit:
 
 // ---- adding
 
-// A trace of integers (codes 1 to 3) behind the image that the buffer's first `n` bytes are: a file, or a start's image without traces.
+// A trace of integers (codes 1 to 3) behind the image that the buffer's first `n` bytes are: a file, or a start's image
+// without traces.
 pub fn add_integers(buffer: &mut [u8], n: usize, sheet: &[u8], code: u32, row: &[i32]) -> Written
-    ensures answer { λ r. ⌜ r ≡ addAnswer (now (buffer .entry)) n (integersTrace (now (sheet .entry)) code (now (row .entry))) ⌝ }
-    ensures left { λ _. ⌜ now (buffer .exit) ≡ addLeft (now (buffer .entry)) n (integersTrace (now (sheet .entry)) code (now (row .entry))) ⌝ }
+    ensures answer { λ r. ⌜ r ≡ addAnswer (now (buffer .entry)) n (integersTrace (now (sheet .entry)) code
+        (now (row .entry))) ⌝ }
+    ensures left { λ _. ⌜ now (buffer .exit)
+        ≡ addLeft (now (buffer .entry)) n (integersTrace (now (sheet .entry)) code (now (row .entry))) ⌝ }
 {
     let fit = integers_fit(code, row);
     let w = answered(&buffer[..], n, sheet, code, row.len(), fit);
@@ -134,8 +139,10 @@ pub fn add_integers(buffer: &mut [u8], n: usize, sheet: &[u8], code: u32, row: &
 
 // A trace of bit patterns (codes 4 and 5).
 pub fn add_bits(buffer: &mut [u8], n: usize, sheet: &[u8], code: u32, row: &[u64]) -> Written
-    ensures answer { λ r. ⌜ r ≡ addAnswer (now (buffer .entry)) n (patternsTrace (now (sheet .entry)) code (now (row .entry))) ⌝ }
-    ensures left { λ _. ⌜ now (buffer .exit) ≡ addLeft (now (buffer .entry)) n (patternsTrace (now (sheet .entry)) code (now (row .entry))) ⌝ }
+    ensures answer { λ r. ⌜ r ≡ addAnswer (now (buffer .entry)) n (patternsTrace (now (sheet .entry)) code
+        (now (row .entry))) ⌝ }
+    ensures left { λ _. ⌜ now (buffer .exit)
+        ≡ addLeft (now (buffer .entry)) n (patternsTrace (now (sheet .entry)) code (now (row .entry))) ⌝ }
 {
     let fit = bits_fit(code, row);
     let w = answered(&buffer[..], n, sheet, code, row.len(), fit);

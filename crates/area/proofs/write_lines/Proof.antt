@@ -1,4 +1,5 @@
--- `area::write_lines` meets its contract. The invariant: what is left to store, stored, makes the whole. Assumes nothing.
+-- `area::write_lines` meets its contract. The invariant: what is left to store, stored, makes the whole. Assumes
+-- nothing.
 use mathlib.Core.Path.{_≡_, refl}
 use Prim.Native.Nat.{_≤_, _-_}
 use lib.ListN.{length}

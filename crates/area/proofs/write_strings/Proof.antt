@@ -1,10 +1,12 @@
--- `area::write_strings` meets its contract. The invariant: what is left to store, stored, makes the whole. Assumes nothing.
+-- `area::write_strings` meets its contract. The invariant: what is left to store, stored, makes the whole. Assumes
+-- nothing.
 use mathlib.Core.Path.{_≡_, refl, sym, _∙_}
 use Prim.Native.Nat.{_≤_, _-_}
 use lib.ListN.{length}
 use Rattle.word.specs.Part.{part-rest}
 use Rattle.word.specs.Put.{length-put}
-use Rattle.area.specs.Writing.{Strung, texts-room, strung-start, line-fits, strung-fits, strung-room, strung-turn, strung-headed, strung-note-room, strung-note, strung-over}
+use Rattle.area.specs.Writing.{Strung, texts-room, strung-start, line-fits, strung-fits, strung-room, strung-turn}
+use Rattle.area.specs.Writing.{strung-headed, strung-note-room, strung-note, strung-over}
 use borrow.Author.Needs.{needs}
 use native.Mathlib.Omega.{arith}
 use Rattle.area.proofs.write_strings.Statement.{statement}

@@ -1,4 +1,5 @@
--- `chars::run` meets its contract. The invariant: the run from here and the bytes passed make the run from the start. Assumes nothing.
+-- `chars::run` meets its contract. The invariant: the run from here and the bytes passed make the run from the start.
+-- Assumes nothing.
 use mathlib.Core.Path.{_≡_, sym, _∙_}
 use Prim.Native.Nat.{_≤_, _+_, _-_}
 use lib.ListN.{length, drop}

@@ -1,7 +1,6 @@
 -- `decimal::front` meets its contract. Assumes nothing.
 use mathlib.Core.Path.{refl, sym, _∙_}
 use native.Mathlib.Omega.{arith}
-use borrow.Author.Needs.{needs}
 use lib.Seq.{length-take-le, take-all}
 use Rattle.word.specs.Part.{part-front}
 use Rattle.decimal.proofs.front.Statement.{statement}

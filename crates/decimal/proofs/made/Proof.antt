@@ -1,4 +1,5 @@
--- `decimal::made` meets its contract: at most 18 digits fit 64 bits, and at most 2 stay below a hundred. Assumes nothing.
+-- `decimal::made` meets its contract: at most 18 digits fit 64 bits, and at most 2 stay below a hundred. Assumes
+-- nothing.
 use Prim.Native.Nat.{_<_}
 use native.Mathlib.Omega.{arith}
 use mir.Syntax.{w32}

@@ -32,5 +32,6 @@ classes4-spec =
     (λ c. fill-one (c .before .before .before .loop .inv) (omega arith) (c .class4 .ensures))
     (λ c. c .before .loop .inv .long)
     (λ c.
-    let start = c .before .before .before .before in
-    classes-end 4 (start .args .row .now) (c .before .loop .inv) (omega arith) (start .pre)))
+    let at-loop = c .before in
+    let start = at-loop .before .before .before in
+    classes-end 4 (start .args .row .now) (at-loop .loop .inv) (omega arith) (start .pre)))

@@ -13,8 +13,14 @@ read-bits-spec =
     (λ c κs. search needs)
     (λ c. search needs)
     (λ c. search needs)
-    (λ c. rw (c .before .before .before .before .before .before .before .match .keys1) (c .before .before .before .before .read4 .ensures))
+    (λ c.
+    let at-read4 = c .before .before .before .before in
+    let at-match = at-read4 .before .before .before in
+    rw (at-match .match .keys1) (at-read4 .read4 .ensures))
     (λ c. search needs)
     (λ c. search needs)
-    (λ c. rw (c .before .before .before .before .before .before .before .match .keys2) (c .before .before .before .before .read5 .ensures))
+    (λ c.
+    let at-read5 = c .before .before .before .before in
+    let at-match = at-read5 .before .before .before in
+    rw (at-match .match .keys2) (at-read5 .read5 .ensures))
     (λ c. let r = c .match .rest in no-bits-read _ _ _ _ _ (no-bits _ _ _ _ (r .0 .1) (r .1))))

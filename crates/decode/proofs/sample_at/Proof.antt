@@ -1,6 +1,5 @@
 -- `decode::sample_at` meets its contract. Each arm is the sample of its code. Assumes nothing.
 use mathlib.Core.Path.{sym, _∙_}
-use borrow.Author.Needs.{needs}
 use mir.Syntax.{w32}
 use Rattle.word.specs.Signed.{kept}
 use Rattle.decode.specs.Sample.{sampleEnd}

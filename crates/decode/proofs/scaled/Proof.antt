@@ -11,4 +11,7 @@ scaled-spec =
     (λ c κs. search needs)
     (λ c. search needs)
     (λ c. search needs)
-    (λ c. rw (c .ones .ensures) (mantissa-shifts (c .before .args .mantissa) (c .before .args .exponent) (c .before .pre))))
+    (λ c.
+    let start = c .before in
+    let args = start .args in
+    rw (c .ones .ensures) (mantissa-shifts (args .mantissa) (args .exponent) (start .pre))))

@@ -1,4 +1,5 @@
--- `digits::put_digits` meets its contract. The invariant: what is left, before the digits that are gathered, is the whole. Assumes nothing.
+-- `digits::put_digits` meets its contract. The invariant: what is left, before the digits that are gathered, is the
+-- whole. Assumes nothing.
 use mathlib.Core.Path.{_≡_, refl}
 use Prim.Native.Nat.{_+_, _-_, _≤_}
 use lib.ListN.{length, replicate, length-set}

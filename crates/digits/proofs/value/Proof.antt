@@ -1,4 +1,5 @@
--- `digits::value` meets its contract. The invariant: what was read, with the digits left behind it, is the whole, and there is room for them.
+-- `digits::value` meets its contract. The invariant: what was read, with the digits left behind it, is the whole, and
+-- there is room for them.
 -- Assumes nothing.
 use mathlib.Core.Path.{_≡_, refl, sym, _∙_}
 use Prim.Native.Nat.{_-_}

@@ -16,4 +16,7 @@ double-spec =
     (λ c κs. search needs)
     (λ c. rw (c .refusal-of .ensures, ← c .before .before .before .number .ensures, c .before .enum-told .given .1))
     (λ c κs. search needs)
-    (λ c. c .double-from .ensures ∙ rw (← c .before .before .before .before .number .ensures, c .before .before .answer .given .1)))
+    (λ c.
+    let at-answer = c .before .before in
+    let at-number = at-answer .before .before in
+    c .double-from .ensures ∙ rw (← at-number .number .ensures, at-answer .answer .given .1)))

@@ -31,18 +31,22 @@ double-from-spec =
     (λ c. search needs)
     (λ c κs. search needs)
     (λ c.
+    let at-if2 = c .before in
+    let at-if1 = at-if2 .before .before in
     c .no-double2 .ensures
-    ∙ rw (le-ltb _ _ (c .before .before .before .if1 .left), ← far (c .before .before), lt-ltb _ _ (c .before .if2 .taken)))
+    ∙ rw (le-ltb _ _ (at-if1 .if1 .left), ← far (at-if2 .before), lt-ltb _ _ (at-if2 .if2 .taken)))
     (λ c κs. search needs)
     (λ c κs. search needs)
     (λ c κs. search needs)
     (λ c.
-    let m = c .before .before .before .before in
+    let at-scaled = c .before in
+    let at-if2 = at-scaled .before .before in
+    let at-if1 = at-if2 .before .before in
     rw (
-      le-ltb _ _ (m .before .if1 .left),
-      ← far m,
-      le-ltb _ _ (c .before .before .before .if2 .left),
-      ← down (c .before .before),
-      ← c .before .scaled .ensures,
+      le-ltb _ _ (at-if1 .if1 .left),
+      ← far (at-if2 .before),
+      le-ltb _ _ (at-if2 .if2 .left),
+      ← down (at-scaled .before),
+      ← at-scaled .scaled .ensures,
       c .with-sign .ensures,
     )))

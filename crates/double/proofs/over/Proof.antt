@@ -8,7 +8,8 @@ use Rattle.chars.specs.Chars.{isOf}
 use Rattle.double.proofs.over.Statement.{statement}
 use Rattle.double.proofs.over.Tie as tie
 
-found : (c : tie.After-run) → let s = c .before .before .before in c .run .result ≡ run (isOf (s .args .kind)) (drop (s .args .i) (s .args .text .now))
+found : (c : tie.After-run) → let s = c .before .before .before in c .run .result ≡ run (isOf (s .args .kind))
+    (drop (s .args .i) (s .args .text .now))
 found c = c .run .ensures .0 ∙ ap (run (isOf (c .before .before .before .args .kind))) (c .before .behind .ensures .0)
 
 pub over-spec : {M : Type 1} → statement M

@@ -38,8 +38,15 @@ three-spec =
     let at-first = at-double2 .before .before in
     let at-double = at-first .before .before in
     c .passed3 .ensures
-    ∙ rw
-    (← at-double .double .ensures, at-first .first .given .1, ← at-double2 .double2 .ensures, at-second .second .given .1, ← at-double3 .double3 .ensures, at-enum-told3 .enum-told3 .given .1))
+    ∙ rw (
+      ← at-double .double .ensures,
+      at-first .first .given .1,
+      ← at-double2 .double2 .ensures,
+      at-second .second .given .1,
+      ←
+          at-double3 .double3 .ensures,
+      at-enum-told3 .enum-told3 .given .1,
+    ))
     (λ c.
     let at-third = c .before in
     let at-double3 = at-third .before .before in
@@ -47,5 +54,12 @@ three-spec =
     let at-double2 = at-second .before .before in
     let at-first = at-double2 .before .before in
     let at-double = at-first .before .before in
-    rw
-    (← at-double .double .ensures, at-first .first .given .1, ← at-double2 .double2 .ensures, at-second .second .given .1, ← at-double3 .double3 .ensures, at-third .third .given .1)))
+    rw (
+      ← at-double .double .ensures,
+      at-first .first .given .1,
+      ← at-double2 .double2 .ensures,
+      at-second .second .given .1,
+      ←
+          at-double3 .double3 .ensures,
+      at-third .third .given .1,
+    )))

@@ -33,18 +33,23 @@ any-outside-spec =
     (λ c. search needs)
     (λ c. search needs)
     (λ c.
-    let a = c .before .before .before .args in
-    let t = c .before .before .loop in
+    let at-loop-test = c .before in
+    let at-loop = at-loop-test .before in
+    let start = at-loop .before in
+    let a = start .args in
+    let t = at-loop .loop in
     let low : ℤ = toZ w32 (ofZ w32 (a .low)) in
     let high : ℤ = toZ w32 (ofZ w32 (a .high)) in
     ap (λ (b : Bool). (t .found || b) || any (outside low high) (drop (t .i + 1) (a .row .now)))
     (sym (tested low high (getD (a .row .now) (t .i) (pos 0)) (c .v .given) refl))
-    ∙ any-turn (outside low high) (pos 0) (a .row .now) (t .i) (t .found) (c .before .loop-test .taken)
+    ∙ any-turn (outside low high) (pos 0) (a .row .now) (t .i) (t .found) (at-loop-test .loop-test .taken)
     ∙ t .inv)
     (λ c.
-    let a = c .before .before .args in
-    let t = c .before .loop in
+    let at-loop = c .before in
+    let start = at-loop .before in
+    let a = start .args in
+    let t = at-loop .loop in
     any-through _ (a .row .now) (t .i) (t .found) (c .loop-test .left)
     ∙ t .inv
     ∙ ap₂ (λ (l h : ℤ). any (outside l h) (a .row .now))
-    (kept w32 (a .low) (c .before .before .fits .low .sfits)) (kept w32 (a .high) (c .before .before .fits .high .sfits))))
+    (kept w32 (a .low) (start .fits .low .sfits)) (kept w32 (a .high) (start .fits .high .sfits))))

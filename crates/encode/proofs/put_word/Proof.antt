@@ -13,4 +13,7 @@ put-word-spec =
     (λ c κs. search needs)
     (λ c κs. search needs)
     (λ c. search needs)
-    (λ c. c .before .before .put2 .ensures ∙ rw (c .before .before .before .turned .ensures, turned-bytes)))
+    (λ c.
+    let at-put2 = c .before .before in
+    let at-turned = at-put2 .before in
+    at-put2 .put2 .ensures ∙ rw (at-turned .turned .ensures, turned-bytes)))

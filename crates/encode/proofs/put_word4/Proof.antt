@@ -13,4 +13,7 @@ put-word4-spec =
     (λ c κs. search needs)
     (λ c κs. search needs)
     (λ c. search needs)
-    (λ c. c .before .before .put4 .ensures ∙ rw (c .before .before .before .turned4 .ensures, turned-bytes)))
+    (λ c.
+    let at-put4 = c .before .before in
+    let at-turned4 = at-put4 .before in
+    at-put4 .put4 .ensures ∙ rw (at-turned4 .turned4 .ensures, turned-bytes)))

@@ -13,4 +13,7 @@ put-word8-spec =
     (λ c κs. search needs)
     (λ c κs. search needs)
     (λ c. search needs)
-    (λ c. c .before .before .put8 .ensures ∙ rw (c .before .before .before .turned8 .ensures, turned-bytes)))
+    (λ c.
+    let at-put8 = c .before .before in
+    let at-turned8 = at-put8 .before in
+    at-put8 .put8 .ensures ∙ rw (at-turned8 .turned8 .ensures, turned-bytes)))

@@ -18,4 +18,16 @@ put-words-spec =
     (λ c κs. search needs)
     (λ c κs. search needs)
     (λ c. search needs)
-    (λ c. rw (c .before .before .put-word5 .ensures, c .before .before .before .before .before .before .put-word4 .ensures, c .before .before .before .before .before .before .before .before .before .before .put-word3 .ensures, c .before .before .before .before .before .before .before .before .before .before .before .before .before .before .put-word2 .ensures, c .before .before .before .before .before .before .before .before .before .before .before .before .before .before .before .before .before .before .put-word .ensures) (put-five _ _ _ _ _ _ _ _)))
+    (λ c.
+    let at-put-word5 = c .before .before in
+    let at-put-word4 = at-put-word5 .before .before .before .before in
+    let at-put-word3 = at-put-word4 .before .before .before .before in
+    let at-put-word2 = at-put-word3 .before .before .before .before in
+    let at-put-word = at-put-word2 .before .before .before .before in
+    rw (
+      at-put-word5 .put-word5 .ensures,
+      at-put-word4 .put-word4 .ensures,
+      at-put-word3 .put-word3 .ensures,
+      at-put-word2 .put-word2 .ensures,
+      at-put-word .put-word .ensures,
+    ) (put-five _ _ _ _ _ _ _ _)))

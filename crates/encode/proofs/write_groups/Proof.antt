@@ -9,7 +9,13 @@ write-groups-spec =
     (tie.spec
     (λ c κs. search needs)
     (λ c. search needs)
-    (λ c. rw (c .before .before .before .before .if1 .taken) (c .before .before .write-high .ensures))
+    (λ c.
+    let at-write-high = c .before .before in
+    let at-if1 = at-write-high .before .before in
+    rw (at-if1 .if1 .taken) (at-write-high .write-high .ensures))
     (λ c κs. search needs)
     (λ c. search needs)
-    (λ c. rw (c .before .before .before .before .if1 .left) (c .before .before .write-low .ensures)))
+    (λ c.
+    let at-write-low = c .before .before in
+    let at-if1 = at-write-low .before .before in
+    rw (at-if1 .if1 .left) (at-write-low .write-low .ensures)))

@@ -7,7 +7,8 @@ use lib.ListN.{length, drop}
 use borrow.Author.Needs.{needs}
 use Rattle.sample.specs.Needed.{needed, room}
 use Rattle.encode.specs.Write.{groupOf, groups}
-use Rattle.encode.specs.WriteLaws.{Writing, write-start, write-turn, write-over, groups-turn, groups-over, length-groupOf}
+use Rattle.encode.specs.WriteLaws.{Writing, write-start, write-turn, write-over, groups-turn, groups-over}
+use Rattle.encode.specs.WriteLaws.{length-groupOf}
 use Rattle.encode.proofs.write_low.Statement.{statement}
 use Rattle.encode.proofs.write_low.Tie as tie
 

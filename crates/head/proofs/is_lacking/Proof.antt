@@ -1,4 +1,5 @@
--- `head::is_lacking` meets its contract. The invariant: what is left lacks the byte just where the whole does. Assumes nothing.
+-- `head::is_lacking` meets its contract. The invariant: what is left lacks the byte just where the whole does. Assumes
+-- nothing.
 use mathlib.Core.Path.{_≡_, refl, _∙_}
 use Prim.Native.Nat.{_≤_, _-_}
 use lib.ListN.{length, drop}

@@ -1,4 +1,5 @@
--- `image::block` meets its contract. The strings are asked only where the rows were passed, and stand where the rows' block says. Assumes nothing.
+-- `image::block` meets its contract. The strings are asked only where the rows were passed, and stand where the rows'
+-- block says. Assumes nothing.
 use mathlib.Core.Path.{sym, _∙_}
 use Rattle.image.specs.Image.{areaVerdict}
 use Rattle.image.specs.ImageLaws.{rows-bad, rows-shown, rows-size, rows-data, strings-bad, strings-past}

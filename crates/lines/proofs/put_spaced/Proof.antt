@@ -1,4 +1,5 @@
--- `lines::put_spaced` meets its contract. The invariant: what is left to store, stored, makes the whole. Assumes nothing.
+-- `lines::put_spaced` meets its contract. The invariant: what is left to store, stored, makes the whole. Assumes
+-- nothing.
 use mathlib.Core.Path.{_≡_, refl}
 use Prim.Native.Nat.{_+_, _-_, _≤_}
 use native.Mathlib.Nat.{add-zero}

@@ -1,5 +1,6 @@
 -- `listing::put_file` meets its contract. The first line, the strings, the traces. Assumes nothing.
-use Rattle.listing.specs.Told.{ends-good, line-some, count-told, first-slot, file-area, file-first, file-second, file-third, file-all}
+use Rattle.listing.specs.Told.{ends-good, line-some, count-told, first-slot, file-area, file-first, file-second}
+use Rattle.listing.specs.Told.{file-third, file-all}
 use native.Mathlib.Omega.{arith}
 use borrow.Author.Needs.{needs}
 use Rattle.listing.proofs.put_file.Statement.{statement}
@@ -45,8 +46,7 @@ put-file-spec =
           .line-end .ensures .0) _ _ (at-put-head .put-head .ensures),
     )))
     (λ c.
-    let at-file-block = c .before .before .before .before .before .before .before .before .before .before .before .before .before .before in
-    omega (arith, at-file-block .file-block .ensures .2))
+    omega (arith, c .before .before .before .before .before .before .before .before .before .before .before .before .before .before .file-block .ensures .2))
     (λ c κs.
     let at-put-strings = c .before .before .before .before in
     let at-line-end = at-put-strings .before in

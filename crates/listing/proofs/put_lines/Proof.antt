@@ -1,7 +1,9 @@
--- `listing::put_lines` meets its contract. The invariant: the lines that are left, stored, make the whole. Assumes nothing.
+-- `listing::put_lines` meets its contract. The invariant: the lines that are left, stored, make the whole. Assumes
+-- nothing.
 use Prim.Native.Nat.{_-_}
 use lib.ListN.{length}
-use Rattle.listing.specs.Walks.{Lining, lining-start, lining-fits, lining-room, lining-turn, lining-last-room, lining-last}
+use Rattle.listing.specs.Walks.{Lining, lining-start, lining-fits, lining-room, lining-turn, lining-last-room}
+use Rattle.listing.specs.Walks.{lining-last}
 use borrow.Author.Needs.{needs}
 use native.Mathlib.Omega.{arith}
 use Rattle.listing.proofs.put_lines.Statement.{statement}

@@ -1,7 +1,9 @@
--- `listing::put_strings` meets its contract. The invariant: the strings that are left, stored, make the whole. Assumes nothing.
+-- `listing::put_strings` meets its contract. The invariant: the strings that are left, stored, make the whole. Assumes
+-- nothing.
 use mathlib.Core.Path.{sym, _∙_}
 use Prim.Native.Nat.{_-_}
-use Rattle.listing.specs.Walks.{Stringing, stringing-start, stringing-over, stringing-none, stringing-in, stringing-room, stringing-turn}
+use Rattle.listing.specs.Walks.{Stringing, stringing-start, stringing-over, stringing-none, stringing-in}
+use Rattle.listing.specs.Walks.{stringing-room, stringing-turn}
 use borrow.Author.Needs.{needs}
 use native.Mathlib.Omega.{arith}
 use Rattle.listing.proofs.put_strings.Statement.{statement}
@@ -112,7 +114,8 @@ put-strings-spec =
     let args = start .args in (
       start .pre .2,
       stringing-room (args .out .now) (args .at) (args .part) (args .f .now) (args .a) (args .e) (args .high) (args .t .now)
-          (args .u .now) (at-loop .loop .s) (at-loop .loop .to) (at-loop .loop .out) (at-loop .loop .inv) (at-loop-test .loop-test .taken) (start .pre .1)
+          (args .u .now) (at-loop .loop .s) (at-loop .loop .to) (at-loop .loop .out) (at-loop .loop .inv) (at-loop-test .loop-test .taken)
+          (start .pre .1)
           _ (sym (at-nth .nth .ensures) ∙ at-first .first .given .1) (start .pre .3),
     ))
     (λ c.

@@ -1,5 +1,6 @@
 -- `listing::put_trace` meets its contract. Its line, then its strings. Assumes nothing.
-use Rattle.listing.specs.Told.{ends-good, line-some, trace-slot, trace-area, trace-first, trace-second, trace-both}
+use Rattle.listing.specs.Told.{ends-good, line-some, trace-slot, trace-area, trace-first, trace-second}
+use Rattle.listing.specs.Told.{trace-both}
 use native.Mathlib.Omega.{arith}
 use borrow.Author.Needs.{needs}
 use Rattle.listing.proofs.put_trace.Statement.{statement}

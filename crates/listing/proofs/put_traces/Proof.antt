@@ -1,4 +1,5 @@
--- `listing::put_traces` meets its contract. The invariant: the traces that are left, stored, make the whole. Assumes nothing.
+-- `listing::put_traces` meets its contract. The invariant: the traces that are left, stored, make the whole. Assumes
+-- nothing.
 use Prim.Native.Nat.{_-_}
 use Rattle.listing.specs.Walks.{Tracing, tracing-start, tracing-over, tracing-room, tracing-turn}
 use borrow.Author.Needs.{needs}

@@ -1,4 +1,5 @@
--- `lookup::count` meets its contract. The invariant: the strings passed and those that are left are all. Assumes nothing.
+-- `lookup::count` meets its contract. The invariant: the strings passed and those that are left are all. Assumes
+-- nothing.
 use mathlib.Core.Path.{_≡_, sym, ap, _∙_}
 use Prim.Native.Nat.{ℕ, _≤_, _+_, _-_}
 use native.Mathlib.Nat.{le-of-eq}

@@ -1,4 +1,5 @@
--- `lookup::find` meets its contract. The invariant: what is found among those that are left is found among all. Assumes nothing.
+-- `lookup::find` meets its contract. The invariant: what is found among those that are left is found among all. Assumes
+-- nothing.
 use mathlib.Core.Path.{_≡_, refl, sym, _∙_}
 use Prim.Native.Nat.{ℕ, _≤_, _-_}
 use native.Mathlib.Nat.{le-of-eq}

@@ -1,4 +1,5 @@
--- `note::all_value_or` meets its contract. The invariant: what was found before, and all from here on, is all. Assumes nothing.
+-- `note::all_value_or` meets its contract. The invariant: what was found before, and all from here on, is all. Assumes
+-- nothing.
 use mathlib.Core.Path.{_≡_, refl, _∙_}
 use mathlib.Core.Bool.{_&&_}
 use Prim.Native.Nat.{_≤_, _-_}

@@ -1,4 +1,5 @@
--- `note::all_value_pairs` meets its contract. The invariant: what was found before, and what is left behind the byte passed last, is the answer.
+-- `note::all_value_pairs` meets its contract. The invariant: what was found before, and what is left behind the byte
+-- passed last, is the answer.
 -- Assumes nothing.
 use mathlib.Core.Path.{_≡_, refl, _∙_}
 use mathlib.Core.Bool.{false, _&&_}

@@ -1,4 +1,5 @@
--- `note::line_end` meets its contract. The invariant: the line from here and the bytes passed make the line. Assumes nothing.
+-- `note::line_end` meets its contract. The invariant: the line from here and the bytes passed make the line. Assumes
+-- nothing.
 use mathlib.Core.Path.{_≡_, refl, sym, _∙_}
 use Prim.Native.Nat.{_≤_, _+_, _-_}
 use lib.ListN.{length, drop}

@@ -1,4 +1,5 @@
--- `note::walk_lines` meets its contract. The invariant: the walk from here answers as the walk from the start. Assumes nothing.
+-- `note::walk_lines` meets its contract. The invariant: the walk from here answers as the walk from the start. Assumes
+-- nothing.
 use mathlib.Core.Path.{_≡_, refl, sym, _∙_}
 use Prim.Native.Nat.{_≤_, _-_}
 use native.Mathlib.Omega.{arith}

@@ -1,4 +1,5 @@
--- `refusal::number` meets its contract: every number is below 100, so it is kept as a signed one and fits 32 bits. Assumes nothing.
+-- `refusal::number` meets its contract: every number is below 100, so it is kept as a signed one and fits 32 bits.
+-- Assumes nothing.
 use mathlib.Core.Path.{_≡_, sym, ap, _∙_}
 use native.Mathlib.Omega.{arith}
 use lib.IntN.{ℤ, pos, natAbs}

@@ -1,4 +1,5 @@
--- `refusal::part_number` meets its contract: a trace's number fits 16 bits, so it is kept as a signed one. Assumes nothing.
+-- `refusal::part_number` meets its contract: a trace's number fits 16 bits, so it is kept as a signed one. Assumes
+-- nothing.
 use native.Mathlib.Omega.{arith}
 use borrow.Author.Needs.{needs}
 use mir.Syntax.{w32}

@@ -18,5 +18,6 @@ turned4-spec =
     (λ c κs. search needs)
     (λ c. search needs)
     (λ c. search needs)
-    (λ c. rw (c .before .before .if1 .taken) (turned-halves 2 _ _ _ _ _ (omega arith) (omega arith) (omega arith) (c .before .turned .ensures) (c .turned2 .ensures)))
+    (λ c. rw (c .before .before .if1 .taken) (turned-halves 2 _ _ _ _ _ (omega arith) (omega arith) (omega arith) (c .before .turned .ensures)
+    (c .turned2 .ensures)))
     (λ c. rw (c .if1 .left) (sym (turned-low 4 _ (omega arith)))))

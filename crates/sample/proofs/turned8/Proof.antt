@@ -18,5 +18,6 @@ turned8-spec =
     (λ c κs. search needs)
     (λ c. search needs)
     (λ c. search needs)
-    (λ c. rw (c .before .before .if1 .taken) (turned-halves 4 _ _ _ _ _ (omega arith) (omega arith) (omega arith) (c .before .turned4 .ensures) (c .turned42 .ensures)))
+    (λ c. rw (c .before .before .if1 .taken) (turned-halves 4 _ _ _ _ _ (omega arith) (omega arith) (omega arith) (c .before .turned4 .ensures)
+    (c .turned42 .ensures)))
     (λ c. rw (c .if1 .left) (sym (turned-low 8 _ (omega arith)))))

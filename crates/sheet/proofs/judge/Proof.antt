@@ -3,7 +3,8 @@ use mathlib.Core.Path.{sym, _∙_}
 use lib.Seq.{length-take-le}
 use borrow.Author.Tests.{not-true, not-false}
 use Rattle.word.specs.Part.{part-rest}
-use Rattle.sheet.specs.Judging.{judged-none, judged-short, judged-other, judged-value, judged-space, judged-order, judged-good}
+use Rattle.sheet.specs.Judging.{judged-none, judged-short, judged-other, judged-value, judged-space, judged-order}
+use Rattle.sheet.specs.Judging.{judged-good}
 use borrow.Author.Needs.{needs}
 use native.Mathlib.Omega.{arith}
 use Rattle.sheet.proofs.judge.Statement.{statement}

@@ -1,16 +1,19 @@
--- `sheet::measure` meets its contract. The invariant: the check from here answers as the check of the sheet, and what was counted with what is to come is the whole size. Assumes nothing.
+-- `sheet::measure` meets its contract. The invariant: the check from here answers as the check of the sheet, and what
+-- was counted with what is to come is the whole size. Assumes nothing.
 use mathlib.Core.Path.{sym, _∙_}
-use Prim.Native.Nat.{_≤_, _-_}
+use Prim.Native.Nat.{_+_, _≤_, _-_}
 use lib.ListN.{length}
 use Rattle.word.specs.Part.{part-rest}
-use Rattle.sheet.specs.Counting.{Counted, counted-start, turn-fits, counted-turn, counted-bad, counted-large, counted-size}
+use Rattle.sheet.specs.Counting.{Counted, counted-start, turn-fits, counted-turn, counted-bad, counted-large}
+use Rattle.sheet.specs.Counting.{counted-size}
 use borrow.Author.Needs.{needs}
 use native.Mathlib.Omega.{arith}
 use Rattle.sheet.proofs.measure.Statement.{statement}
 use Rattle.sheet.proofs.measure.Tie as tie
+use Rattle.sheet.specs.Area.{areaMost}
 
 abbrev Inv-loop : tie.InvT-loop
-Inv-loop sheet t u at₀ k₀ g₀ n₀ at k g n = (at ≤ length sheet) × (k ≤ g) × (g ≤ length sheet) × (n ≤ 65501) × Counted t u sheet at k g n
+Inv-loop sheet t u at₀ k₀ g₀ n₀ at k g n = (at ≤ length sheet) × (k ≤ g) × (g ≤ length sheet) × (n ≤ (areaMost + 1)) × Counted t u sheet at k g n
 
 abbrev μ-loop : tie.MeasureT-loop
 μ-loop sheet t u at₀ k₀ g₀ n₀ at k g n = length sheet - at

@@ -1,4 +1,5 @@
--- `strings::check` meets its contract. The invariant: the check from here answers as the check of the whole area. Assumes nothing.
+-- `strings::check` meets its contract. The invariant: the check from here answers as the check of the whole area.
+-- Assumes nothing.
 use mathlib.Core.Path.{_≡_, sym, _∙_}
 use Prim.Native.Nat.{ℕ, _≤_, _-_}
 use native.Mathlib.Nat.{le-of-eq}

@@ -1,7 +1,8 @@
 -- `strings::framed` meets its contract. Each answer has its law. Assumes nothing.
 use mathlib.Core.Path.{sym, _∙_}
 use borrow.Author.Tests.{not-true, not-false}
-use Rattle.strings.specs.Frames.{frame-short, frame-none, frame-end, frame-small, frame-past, frame-open, frame-text}
+use Rattle.strings.specs.Frames.{frame-short, frame-none, frame-end, frame-small, frame-past, frame-open}
+use Rattle.strings.specs.Frames.{frame-text}
 use borrow.Author.Needs.{needs}
 use native.Mathlib.Omega.{arith}
 use Rattle.strings.proofs.framed.Statement.{statement}

@@ -32,5 +32,7 @@ copy-spec =
     (simp length-set (omega arith), copy-turn 0 _ (l .buf) _ (l .i) (c .before .loop-test .taken) ∙ l .inv .1))
     (λ c. omega arith)
     (λ c.
-    let d : drop (c .before .loop .i) (c .before .before .args .src .now) ≡ [] = drop-of-length-le _ (c .loop-test .left) in
-    (rw (d, put-none) at (c .before .loop .inv .1))))
+    let at-loop = c .before in
+    let start = at-loop .before in
+    let d : drop (at-loop .loop .i) (start .args .src .now) ≡ [] = drop-of-length-le _ (c .loop-test .left) in
+    (rw (d, put-none) at (at-loop .loop .inv .1))))

@@ -20,9 +20,15 @@ put4-spec =
     (λ c κs. search needs)
     (λ c. search needs)
     (λ c.
-    let o = c .before .before .before .before .before .before .before .before .if1 .taken in
-    c .before .before .put22 .ensures ∙ rw (c .before .before .before .before .before .before .put2 .ensures, o) (put-joined 2 _ _ _ _ _ _ (omega arith) (omega arith) (omega arith)))
+    let at-put22 = c .before .before in
+    let at-put2 = at-put22 .before .before .before .before in
+    let at-if1 = at-put2 .before .before in
+    let o = at-if1 .if1 .taken in
+    at-put22 .put22 .ensures ∙ rw (at-put2 .put2 .ensures, o) (put-joined 2 _ _ _ _ _ _ (omega arith) (omega arith) (omega arith)))
     (λ c. search needs)
     (λ c.
-    let o = c .before .before .before .before .before .before .before .before .if1 .left in
-    c .before .before .put24 .ensures ∙ rw (c .before .before .before .before .before .before .put23 .ensures, o) (put-joined 2 _ _ _ _ _ _ (omega arith) (omega arith) (omega arith))))
+    let at-put24 = c .before .before in
+    let at-put23 = at-put24 .before .before .before .before in
+    let at-if1 = at-put23 .before .before in
+    let o = at-if1 .if1 .left in
+    at-put24 .put24 .ensures ∙ rw (at-put23 .put23 .ensures, o) (put-joined 2 _ _ _ _ _ _ (omega arith) (omega arith) (omega arith))))

@@ -20,9 +20,15 @@ put8-spec =
     (λ c κs. search needs)
     (λ c. search needs)
     (λ c.
-    let o = c .before .before .before .before .before .before .before .before .if1 .taken in
-    c .before .before .put42 .ensures ∙ rw (c .before .before .before .before .before .before .put4 .ensures, o) (put-joined 4 _ _ _ _ _ _ (omega arith) (omega arith) (omega arith)))
+    let at-put42 = c .before .before in
+    let at-put4 = at-put42 .before .before .before .before in
+    let at-if1 = at-put4 .before .before in
+    let o = at-if1 .if1 .taken in
+    at-put42 .put42 .ensures ∙ rw (at-put4 .put4 .ensures, o) (put-joined 4 _ _ _ _ _ _ (omega arith) (omega arith) (omega arith)))
     (λ c. search needs)
     (λ c.
-    let o = c .before .before .before .before .before .before .before .before .if1 .left in
-    c .before .before .put44 .ensures ∙ rw (c .before .before .before .before .before .before .put43 .ensures, o) (put-joined 4 _ _ _ _ _ _ (omega arith) (omega arith) (omega arith))))
+    let at-put44 = c .before .before in
+    let at-put43 = at-put44 .before .before .before .before in
+    let at-if1 = at-put43 .before .before in
+    let o = at-if1 .if1 .left in
+    at-put44 .put44 .ensures ∙ rw (at-put43 .put43 .ensures, o) (put-joined 4 _ _ _ _ _ _ (omega arith) (omega arith) (omega arith))))

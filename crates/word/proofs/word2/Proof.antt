@@ -20,29 +20,35 @@ word2-spec =
     (λ c. search needs)
     (λ c. search needs)
     (λ c.
-    let s = c .before .before .before .before .before .before in
-    let f = s .args .f .now in
-    let at = s .args .at in (
+    let at-wide2 = c .before in
+    let at-wide = at-wide2 .before .before in
+    let start = at-wide .before .before .before in
+    let args = start .args in
+    let f = args .f .now in
+    let at = args .at in (
       rw (
-        word-joined 1 _ f at (s .pre),
+        word-joined 1 _ f at (start .pre),
         word-byte _ f at (omega arith),
         word-byte _ f (at + 1) (omega arith),
-        ← c .before .before .before .wide .ensures .0,
-        ← c .before .wide2 .ensures .0,
+        ← at-wide .wide .ensures .0,
+        ← at-wide2 .wide2 .ensures .0,
         c .if1 .taken,
       ),
       omega arith,
     ))
     (λ c.
-    let s = c .before .before .before .before .before .before in
-    let f = s .args .f .now in
-    let at = s .args .at in (
+    let at-wide2 = c .before in
+    let at-wide = at-wide2 .before .before in
+    let start = at-wide .before .before .before in
+    let args = start .args in
+    let f = args .f .now in
+    let at = args .at in (
       rw (
-        word-joined 1 _ f at (s .pre),
+        word-joined 1 _ f at (start .pre),
         word-byte _ f at (omega arith),
         word-byte _ f (at + 1) (omega arith),
-        ← c .before .before .before .wide .ensures .0,
-        ← c .before .wide2 .ensures .0,
+        ← at-wide .wide .ensures .0,
+        ← at-wide2 .wide2 .ensures .0,
         c .if1 .left,
       ),
       omega arith,

@@ -17,8 +17,12 @@ word4-spec =
     (λ c. search needs)
     (λ c. search needs)
     (λ c.
-    let s = c .before .before .before .before in
-    (rw (word-joined 2 _ _ _ (s .pre), ← c .before .before .word2 .ensures .0, ← c .before .word22 .ensures .0, c .if1 .taken), omega arith))
+    let at-word22 = c .before in
+    let at-word2 = at-word22 .before in
+    let start = at-word2 .before .before in
+    (rw (word-joined 2 _ _ _ (start .pre), ← at-word2 .word2 .ensures .0, ← at-word22 .word22 .ensures .0, c .if1 .taken), omega arith))
     (λ c.
-    let s = c .before .before .before .before in
-    (rw (word-joined 2 _ _ _ (s .pre), ← c .before .before .word2 .ensures .0, ← c .before .word22 .ensures .0, c .if1 .left), omega arith)))
+    let at-word22 = c .before in
+    let at-word2 = at-word22 .before in
+    let start = at-word2 .before .before in
+    (rw (word-joined 2 _ _ _ (start .pre), ← at-word2 .word2 .ensures .0, ← at-word22 .word22 .ensures .0, c .if1 .left), omega arith)))

@@ -17,8 +17,12 @@ word8-spec =
     (λ c. search needs)
     (λ c. search needs)
     (λ c.
-    let s = c .before .before .before .before in
-    (rw (word-joined 4 _ _ _ (s .pre), ← c .before .before .word4 .ensures .0, ← c .before .word42 .ensures .0, c .if1 .taken), omega arith))
+    let at-word42 = c .before in
+    let at-word4 = at-word42 .before in
+    let start = at-word4 .before .before in
+    (rw (word-joined 4 _ _ _ (start .pre), ← at-word4 .word4 .ensures .0, ← at-word42 .word42 .ensures .0, c .if1 .taken), omega arith))
     (λ c.
-    let s = c .before .before .before .before in
-    (rw (word-joined 4 _ _ _ (s .pre), ← c .before .before .word4 .ensures .0, ← c .before .word42 .ensures .0, c .if1 .left), omega arith)))
+    let at-word42 = c .before in
+    let at-word4 = at-word42 .before in
+    let start = at-word4 .before .before in
+    (rw (word-joined 4 _ _ _ (start .pre), ← at-word4 .word4 .ensures .0, ← at-word42 .word42 .ensures .0, c .if1 .left), omega arith)))

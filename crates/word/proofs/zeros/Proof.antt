@@ -24,11 +24,15 @@ zeros-spec =
     (λ c. omega arith)
     (λ c. omega arith)
     (λ c.
-    let e = c .before .before .args .e in
-    let i = c .before .loop .i in
+    let at-loop = c .before in
+    let start = at-loop .before in
+    let e = start .args .e in
+    let i = at-loop .loop .i in
     let n : e - i ≡ e - (i + 1) + 1 = omega arith in
-    (simp length-set (omega arith), fill-turn 0 _ i (e - (i + 1)) ∙ (rw n at (c .before .loop .inv .1))))
+    (simp length-set (omega arith), fill-turn 0 _ i (e - (i + 1)) ∙ (rw n at (at-loop .loop .inv .1))))
     (λ c. omega arith)
     (λ c.
-    let n : c .before .before .args .e - c .before .loop .i ≡ 0 = omega arith in
-    (rw (n, put-none) at (c .before .loop .inv .1))))
+    let at-loop = c .before in
+    let start = at-loop .before in
+    let n : start .args .e - at-loop .loop .i ≡ 0 = omega arith in
+    (rw (n, put-none) at (at-loop .loop .inv .1))))
