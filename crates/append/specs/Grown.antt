@@ -1,4 +1,5 @@
--- The buffer of a file to which a trace was added (document 01, "What we write"): xs is the buffer, n the old length, f the image.
+-- The buffer of a file to which a trace was added (document 01, "What we write"): xs is the buffer, n the old length, f
+-- the image.
 -- Assumes nothing.
 use mathlib.Core.List.{List, _++_}
 use Prim.Native.Nat.{ℕ, _+_, _-_, _*_}

@@ -1,5 +1,7 @@
-// The stores of an addition (document 01, "What we write"): the gap, the new trace at the old end rounded up, its pointer and N, in this order.
-// Grown has the definition. What differs by the kind of the samples is their encoding alone. Stands on `layout`, `head`.
+// The stores of an addition (document 01, "What we write"): the gap, the new trace at the old end rounded up, its
+// pointer and N, in this order.
+// Grown has the definition. What differs by the kind of the samples is their encoding alone. Stands on `layout`,
+// `head`.
 // The rules in words: docs/FORMAT.md, "What we write".
 ghost use mathlib.Core.Path.{_≡_};
 ghost use Prim.Native.Nat.{_-_};
@@ -18,8 +20,8 @@ pub struct Begun {
     pub high: bool,
 }
 
-// All before the samples: the gap, and the block and the strings into the free end of the buffer, which is lent from the new trace on. The terminators
-// are taken out of the file first: they stand at the buffer's start.
+// All before the samples: the gap, and the block and the strings into the free end of the buffer, which is lent from
+// the new trace on. The terminators are taken out of the file first: they stand at the buffer's start.
 fn begin(buffer: &mut [u8], n: usize, sheet: &[u8], end: usize, code: u32, count: usize) -> Begun
     requires { ⌜ Begins (now buffer) n (now sheet) end code count ⌝ }
     ensures place { λ r. ⌜ (r .at ≡ end - room code count) × (r .high ≡ highFirst (take n (now (buffer .entry)))) ⌝ }

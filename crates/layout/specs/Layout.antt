@@ -1,5 +1,5 @@
--- The bytes that are written (document 01, "What we write"): a file block, a trace with its strings and data, each whole number in the file's order.
--- `high` is the byte order, t the string terminator, u the line terminator.
+-- The bytes that are written (document 01, "What we write"): a file block, a trace with its strings and data, each
+-- whole number in the file's order. `high` is the byte order, t the string terminator, u the line terminator.
 -- Assumes nothing.
 use mathlib.Core.Bool.{Bool}
 use mathlib.Core.List.{List, [], _∷_, _++_}

@@ -1,4 +1,5 @@
--- The written bytes by their places: how many they are, and what stands where (document 01, "The file block", "The trace block", "What we write").
+-- The written bytes by their places: how many they are, and what stands where (document 01, "The file block", "The
+-- trace block", "What we write").
 -- Assumes nothing.
 use mathlib.Core.Path.{_≡_, refl, sym, ap, _∙_}
 use mathlib.Core.Bool.{Bool, true, false}
@@ -101,7 +102,7 @@ module _ (m n : ℕ) (r : List ℕ) (small : m < 65536) (few : n < 65536) where
         ones = (refl, refl);
       }
 
--- ---- what row 28 has shown: the code is one of the five, and under code 3 the samples are whole groups; each needs a byte at least
+-- ---- what row 28 has shown: the code is one of the five, under code 3 the samples are whole groups; each needs a byte
 
 pub record Kinded (code s : ℕ) : Type 0 where
   pub least : 1 ≤ code
@@ -246,9 +247,10 @@ trace-data high t u x h =
     ap (λ (r : List ℕ). part (blockBytes t u x) (traceSize t u x) r) w
     ∙ part-among (b ++ a) d [] (blockBytes t u x) (traceSize t u x) l (omega (arith, length-samplesData (x .code) high (x .samples) h))
 
--- ---- what is read in a file f where the bytes of a trace stand at p: "At pointer p: 4422h, block size B (2 bytes), data size D (4), sample count S (4),
--- format code (1), reserved to byte 31, strings from byte 32 to B. Data occupies D bytes from p+B"
+-- ---- what is read in a file f where the bytes of a trace stand at p
 
+-- "At pointer p: 4422h, block size B (2 bytes), data size D (4), sample count S (4), format code (1), reserved to byte
+-- 31, strings from byte 32 to B. Data occupies D bytes from p+B"
 pub record Stands (high : Bool) (t u f : List ℕ) (p : ℕ) (x : Trace) : Type 0 where
   pub mark : markAt high f p ≡ traceMark
   pub block : blockSize high f p ≡ blockBytes t u x

@@ -1,5 +1,6 @@
-// The bytes that are written (document 01, "What we write"): a file block with its slots and strings, and a trace with its strings and data, each
-// stored where the caller lends it. Layout has the definitions, LayoutLaws what stands where, Stores that the stores make them.
+// The bytes that are written (document 01, "What we write"): a file block with its slots and strings, and a trace with
+// its strings and data, each stored where the caller lends it. Layout has the definitions, LayoutLaws what stands
+// where, Stores that the stores make them.
 // Stands on `area`, `encode`, `block`, `head` and what they stand on.
 // The rules in words: docs/FORMAT.md, "What we write".
 use sheet::Measured;
@@ -16,7 +17,8 @@ ghost use Rattle.layout.specs.Stores.{headBytes, Held};
 // "31 slots outside 1 to 16,383": `slotsMost` of the definitions.
 pub const SLOTS: usize = 16383;
 
-// The file block of a start, N=0: the order's mark, which is one word in either order, revision 1, M, N, and the terminators 00 and 0A.
+// The file block of a start, N=0: the order's mark, which is one word in either order, revision 1, M, N, and the
+// terminators 00 and 0A.
 fn put_file_block(buf: &mut [u8], high: bool, m: u16)
     requires { ⌜ 32 ≤ length (now buf) ⌝ }
     ensures { λ _. ⌜ now (buf .exit) ≡ put (now (buf .entry)) 0 (fileBlock high m 0) ⌝ }
@@ -66,7 +68,8 @@ fn put_block(part: &mut [u8], high: bool, b: u16, d: u32, s: u32, code: u8)
     word::zeros(part, 13, 32);
 }
 
-// All of a trace before its samples, the block and the strings, into the free end of a buffer, which is lent from the trace's first byte on.
+// All of a trace before its samples, the block and the strings, into the free end of a buffer, which is lent from the
+// trace's first byte on.
 pub fn put_head(
     part: &mut [u8],
     high: bool,

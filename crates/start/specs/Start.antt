@@ -1,4 +1,5 @@
--- What starting a file answers, and what is left in the lent buffer xs (document 01, "What we write" and rows 25 to 27, 30 and 31).
+-- What starting a file answers, and what is left in the lent buffer xs (document 01, "What we write" and rows 25 to 27,
+-- 30 and 31).
 -- Assumes nothing.
 use mathlib.Core.Bool.{Bool, _||_}
 use mathlib.Core.List.{List}

@@ -1,5 +1,5 @@
--- When a file is started: exactly where none of the rows of document 01 ("Starting: 31, 25, 26, 27, 30") is met. So no start is refused that could be
--- made, and the length that is answered is the layout's.
+-- When a file is started: exactly where none of the rows of document 01 ("Starting: 31, 25, 26, 27, 30") is met. So no
+-- start is refused that could be made, and the length that is answered is the layout's.
 -- Assumes nothing.
 use mathlib.Core.Path.{_≡_, refl, sym, ap, _∙_}
 use mathlib.Core.Bool.{Bool, true, false, _||_}

@@ -1,5 +1,7 @@
-// Starting a file (document 01, "What we write" and rows 25 to 27, 30 and 31). Every refusal is found before the first byte is written.
-// Start has the definitions, StartShown the second view: a file is started exactly where no row is met. Stands on `layout`, `head`, `sheet`.
+// Starting a file (document 01, "What we write" and rows 25 to 27, 30 and 31). Every refusal is found before the first
+// byte is written.
+// Start has the definitions, StartShown the second view: a file is started exactly where no row is met. Stands on
+// `layout`, `head`, `sheet`.
 // The rules in words: docs/FORMAT.md, "What we write".
 use refusal::Refusal;
 use refusal::Rule;

@@ -1,6 +1,7 @@
-// The worked values of document 01 and the examples of the paper (document 001), run against the proved functions. Each group writes one line, and
-// the stored output is what they have to write. Stands on the leaves (`image`, `strings`, `lookup`, `decode`, `encode`, `decimal`, `double`) and, for
-// what is written and read back, on `start`, `writer` and `samples`.
+// The worked values of document 01 and the examples of the paper (document 001), run against the proved functions. Each
+// group writes one line, and the stored output is what they have to write. Stands on the leaves (`image`, `strings`,
+// `lookup`, `decode`, `encode`, `decimal`, `double`) and, for what is written and read back, on `start`, `writer` and
+// `samples`.
 // The rules in words: docs/FORMAT.md, "Worked values".
 use decimal::NumberAnswer;
 use double::DoubleAnswer;
@@ -343,8 +344,8 @@ fn refused_with(file: &mut [u8], at: usize, n: u16) -> u32 {
     refused_by(file)
 }
 
-// The worked file, which `written` has made; M=0 is refused by 4, and M=65532 only by 7, for the file is short; B=28 is refused by 10, and B=32
-// passes. B stands in byte 58.
+// The worked file, which `written` has made; M=0 is refused by 4, and M=65532 only by 7, for the file is short; B=28 is
+// refused by 10, and B=32 passes. B stands in byte 58.
 fn files(file: &mut [u8]) -> bool {
     let whole = refused_by(file) == 0;
     let rooms = (refused_with(file, 4, 0) == 4) & (refused_with(file, 4, 65532) == 7);
@@ -360,7 +361,8 @@ fn file_lines() {
     line(b"a file written", ok);
 }
 
-// Code 3 written: 100000 has exponent 2 and mantissa 25000, -32769 reads back -32768 and 1073741823 reads back 1073709056; 1073741824 is refused by 29.
+// Code 3 written: 100000 has exponent 2 and mantissa 25000, -32769 reads back -32768 and 1073741823 reads back
+// 1073709056; 1073741824 is refused by 29.
 fn groups_written() -> bool {
     let mut file = [255u8; 112];
     let row = [100000i32, -32769, 1073741823, 0];

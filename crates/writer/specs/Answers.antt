@@ -1,5 +1,5 @@
--- What adding a trace answers, and what is left in the lent buffer (document 01, "What we write" and rows 24 to 30). xs is the buffer, n the length
--- given beside it, f the image: the first n bytes.
+-- What adding a trace answers, and what is left in the lent buffer (document 01, "What we write" and rows 24 to 30). xs
+-- is the buffer, n the length given beside it, f the image: the first n bytes.
 -- Assumes nothing.
 use mathlib.Core.Bool.{Bool, not}
 use mathlib.Core.List.{List}
@@ -40,8 +40,8 @@ areaAnswer xs n sheet =
     asked measured.Refused (checkOf Strict Grow xs n)
     (pick (noSlot (roomOf f) (countOf f)) (measured.Refused (refusal NoSlot File 0)) (measuredOf (stringEnd f) (lineEnd f) sheet))
 
--- "28 code not of this entry's kind, or count not a multiple of 4 under code 3 (0), 29 sample outside code 1's range, of magnitude 2^30 or more under
--- code 3, or a pattern over 32 bits under code 4 (first index)"
+-- "28 code not of this entry's kind, or count not a multiple of 4 under code 3 (0), 29 sample outside code 1's range,
+-- of magnitude 2^30 or more under code 3, or a pattern over 32 bits under code 4 (first index)"
 abbrev pub onFit : Fit → Verdict
 onFit All = verdict.Accepted
 onFit (At i) = verdict.Refused (refusal SampleRange File i)

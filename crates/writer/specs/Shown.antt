@@ -1,5 +1,5 @@
--- When a trace is added: exactly where none of the rows of document 01 ("Adding: 1 to 17, then 24 .. 30") is met. So no addition is refused that could
--- be made, and the length that is answered is the layout's.
+-- When a trace is added: exactly where none of the rows of document 01 ("Adding: 1 to 17, then 24 .. 30") is met. So no
+-- addition is refused that could be made, and the length that is answered is the layout's.
 -- Assumes nothing.
 use mathlib.Core.Path.{_≡_, refl}
 use mathlib.Core.Bool.{Bool, true, false, not}

@@ -1,5 +1,7 @@
-// Adding a trace (document 01, "What we write" and rows 24 to 30). Every refusal is found before the first byte is written.
-// Answers has the definitions, Shown the second view: a trace is added exactly where no row is met. Stands on `append`, `start`, `image`, `encode`.
+// Adding a trace (document 01, "What we write" and rows 24 to 30). Every refusal is found before the first byte is
+// written.
+// Answers has the definitions, Shown the second view: a trace is added exactly where no row is met. Stands on `append`,
+// `start`, `image`, `encode`.
 // The rules in words: docs/FORMAT.md, "What we write".
 use encode::Fit;
 use head::Purpose;
@@ -83,8 +85,8 @@ fn bits_fit(code: u32, row: &[u64]) -> Verdict
 
 // ---- every row in its order; `fit` is what rows 28 and 29 say of the samples
 
-// Rows 28 to 30 where the sheet's area has `size` bytes. A count over the maximum is over it in bytes too, and is asked first: a count in a file has
-// 32 bits.
+// Rows 28 to 30 where the sheet's area has `size` bytes. A count over the maximum is over it in bytes too, and is asked
+// first: a count in a file has 32 bits.
 fn ended(len: usize, n: usize, size: usize, code: u32, count: usize, fit: Verdict) -> Written
     requires { ⌜ (n ≤ maximum) × (size ≤ 65500) × (fit ≡ Verdict.Accepted → Kinded code count) ⌝ }
     ensures { λ r. ⌜ r ≡ asked Written.Refused fit (within len (round4 n + (32 + size + room code count))) ⌝ }
@@ -116,7 +118,8 @@ fn answered(buffer: &[u8], n: usize, sheet: &[u8], code: u32, count: usize, fit:
 
 // ---- adding
 
-// A trace of integers (codes 1 to 3) behind the image that the buffer's first `n` bytes are: a file, or a start's image without traces.
+// A trace of integers (codes 1 to 3) behind the image that the buffer's first `n` bytes are: a file, or a start's image
+// without traces. The samples are judged beforehand, in one walk; which row is told is `answered`'s.
 pub fn add_integers(buffer: &mut [u8], n: usize, sheet: &[u8], code: u32, row: &[i32]) -> Written
     ensures answer { λ r. ⌜ r ≡ addAnswer (now (buffer .entry)) n (integersTrace (now (sheet .entry)) code (now (row .entry))) ⌝ }
     ensures left { λ _. ⌜ now (buffer .exit) ≡ addLeft (now (buffer .entry)) n (integersTrace (now (sheet .entry)) code (now (row .entry))) ⌝ }

@@ -1,4 +1,5 @@
--- `append::begin` meets its contract. The gap, the block and the strings are all that stands before the samples. Assumes nothing.
+-- `append::begin` meets its contract. The gap, the block and the strings are all that stands before the samples.
+-- Assumes nothing.
 use mathlib.Core.Path.{sym}
 use lib.Seq.{length-take-le}
 use native.Mathlib.Omega.{arith}

@@ -1,4 +1,5 @@
--- `append::grow_bits` meets its contract. What is begun, the samples and the registered trace are the grown buffer. Assumes nothing.
+-- `append::grow_bits` meets its contract. What is begun, the samples and the registered trace are the grown buffer.
+-- Assumes nothing.
 use mathlib.Core.Path.{_∙_}
 use Rattle.layout.specs.Layout.{patterns, count}
 use Rattle.append.specs.GrownLaws.{samples-room, still-slotted, grown-put}

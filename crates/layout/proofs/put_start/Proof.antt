@@ -1,4 +1,5 @@
--- `layout::put_start` meets its contract. The file block, the empty slots and the area are the start image. Assumes nothing.
+-- `layout::put_start` meets its contract. The file block, the empty slots and the area are the start image. Assumes
+-- nothing.
 use Rattle.word.specs.Put.{length-put}
 use Rattle.layout.specs.Stores.{start-put}
 use borrow.Author.Needs.{needs}

@@ -17,7 +17,29 @@ start-spec =
     (λ c κs. search needs)
     (λ c. search needs)
     (λ c. search needs)
-    (λ c κs. (start-slots (c .before .before .before .before .before .before .before .before .before .before .before .args .order) (c .before .before .before .before .before .before .before .before .before .before .before .args .slots) (sym (c .before .before .before .before .before .before .before .before .is-bad-start .ensures) ∙ c .before .before .before .before .before .before .before .if1 .left), sym (c .before .before .before .before .measure .ensures) ∙ c .before .before .m2 .given .1))
-    (λ c. start-sheet _ _ _ _ (sym (c .before .before .before .before .before .before .before .is-bad-start .ensures) ∙ c .before .before .before .before .before .before .if1 .left) _ (sym (c .before .before .before .measure .ensures) ∙ c .before .m .given .1))
+    (λ c κs.
+    let at-m2 = c .before .before in
+    let at-measure = at-m2 .before .before in
+    let at-if1 = at-measure .before .before .before in
+    let at-is-bad-start = at-if1 .before in
+    let start = at-is-bad-start .before .before .before in
+    let args = start .args in (
+      start-slots (args .order) (args .slots) (sym (at-is-bad-start .is-bad-start .ensures) ∙ at-if1 .if1 .left),
+      sym (at-measure .measure .ensures) ∙
+          at-m2 .m2 .given .1,
+    ))
+    (λ c.
+    let at-m = c .before in
+    let at-measure = at-m .before .before in
+    let at-if1 = at-measure .before .before .before in
+    let at-is-bad-start = at-if1 .before in
+    start-sheet _ _ _ _ (sym (at-is-bad-start .is-bad-start .ensures) ∙ at-if1 .if1 .left) _ (sym (at-measure .measure .ensures) ∙ at-m .m .given .1))
     (λ c. search needs)
-    (λ c. start-sized _ _ _ _ (sym (c .before .before .before .before .before .before .before .before .before .before .before .is-bad-start .ensures) ∙ c .before .before .before .before .before .before .before .before .before .before .if1 .left) _ _ _ (sym (c .before .before .before .before .before .before .before .measure .ensures) ∙ c .before .before .before .before .before .m2 .given .1) (c .before .before .start-sized .ensures .0) (c .before .before .start-sized .ensures .1)))
+    (λ c.
+    let at-start-sized = c .before .before in
+    let at-m2 = at-start-sized .before .before .before in
+    let at-measure = at-m2 .before .before in
+    let at-if1 = at-measure .before .before .before in
+    let at-is-bad-start = at-if1 .before in
+    start-sized _ _ _ _ (sym (at-is-bad-start .is-bad-start .ensures) ∙ at-if1 .if1 .left) _ _ _
+    (sym (at-measure .measure .ensures) ∙ at-m2 .m2 .given .1) (at-start-sized .start-sized .ensures .0) (at-start-sized .start-sized .ensures .1)))

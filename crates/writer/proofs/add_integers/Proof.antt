@@ -1,4 +1,5 @@
--- `writer::add_integers` meets its contract. A refusal leaves all as it was, and else the buffer is grown. Assumes nothing.
+-- `writer::add_integers` meets its contract. A refusal leaves all as it was, and else the buffer is grown. Assumes
+-- nothing.
 use Rattle.word.specs.Bytes.{each-bytes}
 use Rattle.layout.specs.Layout.{integers, integersTrace, count}
 use Rattle.writer.specs.Writes.{judged, begins, kept-left, grown-left}
