@@ -254,6 +254,8 @@ trace-data high t u x h =
 -- data size D (4), sample count S (4),
 -- format code (1), reserved to byte 31, strings from byte 32 to B. Data occupies D bytes from p+B"
 
+-- "At pointer p: 4422h, block size B (2 bytes), data size D (4), sample count S (4), format code (1), reserved to byte
+-- 31, strings from byte 32 to B. Data occupies D bytes from p+B"
 pub record Stands (high : Bool) (t u f : List ℕ) (p : ℕ) (x : Trace) : Type 0 where
   pub mark : markAt high f p ≡ traceMark
   pub block : blockSize high f p ≡ blockBytes t u x
