@@ -94,8 +94,8 @@ pub bits-accepted-where-none : (xs : List ℕ) (n : ℕ) (z : ℤ) (s c : ℕ) �
 bits-accepted-where-none xs n z s c = rw (bits-answer-first Strict xs n z s c) (accepted-where-none-is-met (bitsAskedRows Strict xs n z s c))
 
 -- ---- "after a refusal no byte or sample of the caller's buffers has changed". Check and questions on blocks, strings
--- and numbers are lent no memory that
--- they may change. Rules out a writer that stores before its last row, and a reader that fills a row in part.
+-- and numbers are lent no memory that they may change. Rules out a writer that stores before its last row, and a reader
+-- that fills a row in part.
 
 pub refused-start-changes-nothing : (xs : List ℕ) (order slots : ℕ) (sheet : List ℕ) (r : Refusal) → startAnswer xs order slots sheet ≡ written.Refused r
     → startLeft xs order slots sheet ≡ xs

@@ -145,8 +145,7 @@ traces-first how high t u f (suc left) k prev =
     ∙ sym (first-more (flat (oneTraceRows how high t u f k prev)) (tracesRows how high t u f left (k + 1) e))
 
 -- ---- an image: 2 to 7 (`headRows` of `head`), "then the first pointer, then the file's strings, then each trace";
--- "With N=0 the file's strings run to the
--- image's end", which only an addition takes
+-- "With N=0 the file's strings run to the image's end", which only an addition takes
 abbrev pub filledRows : Manner → Bool → List ℕ → List ℕ → List ℕ → ℕ → ℕ → List (List Verdict)
 filledRows how high t u f m n =
     (pointerTest (length f) 0 (32 + m) (pointerOf high f 0) ∷ [])

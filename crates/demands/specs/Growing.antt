@@ -53,10 +53,9 @@ use Rattle.afresh.specs.Afresh.{lengths, none-refused, image-afresh, accepted-w
 use Rattle.demands.specs.GoodLists.{GoodList, writable-is-good, good-is-writable}
 
 -- ---- "after each accepted addition the file is, byte for byte, the one that the whole list of accepted traces defines
--- when written afresh": `after` are the
--- buffer and the length that the calls leave, `acceptedOf` the traces whose call answered a length. For every list of
--- calls, so after each. Rules out an addition that writes the first trace and later only raises N, and one that a
--- refused call in between disturbs.
+-- when written afresh": `after` are the buffer and the length that the calls leave, `acceptedOf` the traces whose call
+-- answered a length. For every list of calls, so after each. Rules out an addition that writes the first trace and
+-- later only raises N, and one that a refused call in between disturbs.
 
 pub byte-for-byte : (xs : List ℕ) (order slots : ℕ) (sheet : List ℕ) (e : ℕ) → startAnswer xs order slots sheet ≡ To e → (calls : List Trace)
     → (take (after (startLeft xs order slots sheet) e calls .1) (after (startLeft xs order slots sheet) e calls .0)
@@ -127,9 +126,8 @@ pub refused-calls-leave-no-trace : (calls : List Trace) (xs : List ℕ) (n : ℕ
 refused-calls-leave-no-trace = after-accepted
 
 -- ---- "on any accepted file, ours or another maker's, and on any image with N=0, an accepted addition changes only the
--- trace count, one free pointer and the
--- bytes from the old end to the new end": of the lent buffer, byte by byte. Rules out an addition that moves the file's
--- blocks, or writes past its end.
+-- trace count, one free pointer and the bytes from the old end to the new end": of the lent buffer, byte by byte. Rules
+-- out an addition that moves the file's blocks, or writes past its end.
 
 module _ (xs : List ℕ) (n : ℕ) (x : Trace) (end : ℕ) (to : addAnswer xs n x ≡ To end) where
   pub only-these-bytes-change : (i : ℕ) → (i < 6) ⊎ (8 ≤ i) → (i < 32 + 4 * countOf (take n xs)) ⊎ (36 + 4 * countOf (take n xs) ≤ i) → (i < n) ⊎ (end ≤ i)
@@ -154,8 +152,7 @@ module _ (xs : List ℕ) (n : ℕ) (x : Trace) (end : ℕ) (to : addAnswer xs n 
   pointer-was-free = let s = added xs n x end to .slot in omega arith
 
   -- ---- "the file's strings and every earlier trace read as before": the reader accepts the file, and what it answered
-  -- on a part it answers still. Rules out
-  -- an addition that spoils what stood there.
+  -- on a part it answers still. Rules out an addition that spoils what stood there.
 
   module _ (by : Bytes xs) where
     pub grown-file-is-accepted : (purpose : Purpose) → checkOf Strict purpose (addLeft xs n x) end ≡ Accepted
@@ -275,8 +272,7 @@ pub file-strings-read-as-before : (xs : List ℕ) (n : ℕ) (x : Trace) (end : �
 file-strings-read-as-before xs n x end ss to by s = rw (add-left xs n x end to) (still.strings-answers-kept by (added xs n x end to) s)
 
 -- ---- "and the new one reads last": there is one trace more, and the last, trace N, reads as given (Reading
--- `new-trace-reads-back`). Rules out an
--- addition that puts it elsewhere in the order.
+-- `new-trace-reads-back`). Rules out an addition that puts it elsewhere in the order.
 
 pub one-trace-more : (xs : List ℕ) (n : ℕ) (x : Trace) (end : ℕ) → addAnswer xs n x ≡ To end → Bytes xs
     → fileAnswer Strict (addLeft xs n x) end

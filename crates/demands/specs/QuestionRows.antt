@@ -208,9 +208,8 @@ unfolding locationAnswer
 location-answers-first how = made-first how location.Refused locationOf
 
 -- ---- "20 no number, 21 too many digits, 22 not within the double case, 23 neither one nor three values: 23 first,
--- then value by value; place is the
--- value's start in the text". Rules out a double of what is no number, and a location whose values are judged before
--- they are counted.
+-- then value by value; place is the value's start in the text". Rules out a double of what is no number, and a location
+-- whose values are judged before they are counted.
 
 first-append : {A : Type 0} (rs qs : Rows A) (a : A) → first (rs ++ qs) a ≡ first rs (first qs a)
 first-append [] qs a = refl

@@ -67,8 +67,7 @@ use Rattle.afresh.specs.Afresh.{accepted-writable}
 use Rattle.demands.specs.ListReads.{list-reads, list-file-block, list-file-strings}
 
 -- ---- "a file is accepted exactly when it keeps those rules": for every buffer of bytes and every length. Rules out a
--- reader that refuses all files, and one
--- that takes a broken one.
+-- reader that refuses all files, and one that takes a broken one.
 
 pub accepted-exactly-when-kept : (xs : List ℕ) (n : ℕ) → Bytes xs → (checkOf Strict Read xs n ≡ Accepted) ↔ ((n ≤ length xs) × Keeps Strict Read (take n xs))
 accepted-exactly-when-kept xs n by = (accepted-keeps Strict Read xs n by, λ k. keeps-accepted Strict Read xs n (k .0) (k .1))
@@ -78,8 +77,8 @@ pub taken-exactly-when-kept : (xs : List ℕ) (n : ℕ) → Bytes xs → (checkO
 taken-exactly-when-kept xs n by = (accepted-keeps Strict Grow xs n by, λ k. keeps-accepted Strict Grow xs n (k .0) (k .1))
 
 -- ---- "its strings .. are the paper's": each part of an accepted file has one list of strings, which its bytes spell
--- (`Spells`), and every question on it is
--- answered by that list. Rules out a reader that skips, doubles, reorders or invents a string.
+-- (`Spells`), and every question on it is answered by that list. Rules out a reader that skips, doubles, reorders or
+-- invents a string.
 
 pub strings-of-the-file : (xs : List ℕ) (n : ℕ) → Bytes xs → checkOf Strict Read xs n ≡ Accepted
     → (ss : List Str) × Lists Strict (take n xs) (negsuc 0) ss × AnswersBy xs n (negsuc 0) ss

@@ -39,8 +39,7 @@ use Rattle.refusal.specs.FirstRow.{asked-row, asked-none}
 use Rattle.demands.specs.FileRows.{pick-first, checkRows, check-answers-first}
 
 -- ---- the lines of a sheet, from one at the place `at` on: 25 "An empty or unfinished line is bad", the line's own 25
--- and 26 (`lineRows` of `sheet`), and
--- then the next line's
+-- and 26 (`lineRows` of `sheet`), and then the next line's
 unfoldable pub linesRows : ℕ → List ℕ → List ℕ → ℕ → List Verdict
 linesRows zero prev s at = []
 linesRows (suc m) prev s at =

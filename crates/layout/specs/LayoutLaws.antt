@@ -250,9 +250,7 @@ trace-data high t u x h =
     ap (λ (r : List ℕ). part (blockBytes t u x) (traceSize t u x) r) w
     ∙ part-among (b ++ a) d [] (blockBytes t u x) (traceSize t u x) l (omega (arith, length-samplesData (x .code) high (x .samples) h))
 
--- ---- what is read in a file f where the bytes of a trace stand at p: "At pointer p: 4422h, block size B (2 bytes),
--- data size D (4), sample count S (4),
--- format code (1), reserved to byte 31, strings from byte 32 to B. Data occupies D bytes from p+B"
+-- ---- what is read in a file f where the bytes of a trace stand at p
 
 -- "At pointer p: 4422h, block size B (2 bytes), data size D (4), sample count S (4), format code (1), reserved to byte
 -- 31, strings from byte 32 to B. Data occupies D bytes from p+B"

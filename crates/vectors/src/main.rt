@@ -3,6 +3,7 @@
 // `lookup`, `decode`, `encode`, `decimal`, `double`) and, for what is written and read back, on `start`, `writer` and
 // `samples`.
 // The rules in words: docs/FORMAT.md, "Worked values".
+use chars::Kind;
 use decimal::NumberAnswer;
 use double::DoubleAnswer;
 use double::LocationAnswer;
@@ -142,10 +143,20 @@ fn place_is(area: &[u8], found: Found, key: &[u8], value: &[u8]) -> bool {
     }
 }
 
-fn string_is(area: &[u8], i: usize, key: &[u8], value: &[u8]) -> bool {
+// Whether the i-th string of the area, which is also the one that its keyword finds, is this text: keyword, space,
+// value.
+fn string_is(area: &[u8], i: usize, text: &[u8]) -> bool {
+    let n = chars::run(Kind::Solid, text);
+    if text.len() <= n {
+        return false;
+    }
+    let first = 0;
+    let from = n + 1;
+    let key = &text[first..n];
+    let value = &text[from..];
     let nth = lookup::nth(area, 0, area.len(), false, b"\x00", i, Manner::Strict);
-    let first = lookup::find(area, 0, area.len(), false, b"\x00", key, Manner::Strict);
-    place_is(area, nth, key, value) & place_is(area, first, key, value)
+    let found = lookup::find(area, 0, area.len(), false, b"\x00", key, Manner::Strict);
+    place_is(area, nth, key, value) & place_is(area, found, key, value)
 }
 
 fn strings_are(area: &[u8], count: usize) -> bool {
@@ -274,20 +285,19 @@ fn locations() -> bool {
 // Figure C-1: what stands at each offset as printed.
 fn figure_c_1(area: &[u8]) -> bool {
     let mut ok = strings_are(area, 9);
-    ok = ok & string_is(area, 0, b"ACQUISITION_DATE", b"16/08/1989");
-    ok = ok & string_is(area, 1, b"ACQUISITION_TIME", b"14:23:06");
-    ok = ok & string_is(area, 2, b"COMPANY", b"XYZ Geophysical Inc.");
-    ok = ok & string_is(area, 3, b"INSTRUMENT", b"Acme Instruments ES-12 #0001");
-    ok = ok & string_is(area, 4, b"JOB_ID", b"Casselman, Ontario 1989");
-    ok = ok & string_is(area, 5, b"OBSERVER", b"Joe Blow");
-    ok = ok & string_is(area, 6, b"TRACE_SORT", b"AS_ACQUIRED");
-    ok = ok & string_is(area, 7, b"UNITS", b"METERS");
+    ok = ok & string_is(area, 0, b"ACQUISITION_DATE 16/08/1989");
+    ok = ok & string_is(area, 1, b"ACQUISITION_TIME 14:23:06");
+    ok = ok & string_is(area, 2, b"COMPANY XYZ Geophysical Inc.");
+    ok = ok & string_is(area, 3, b"INSTRUMENT Acme Instruments ES-12 #0001");
+    ok = ok & string_is(area, 4, b"JOB_ID Casselman, Ontario 1989");
+    ok = ok & string_is(area, 5, b"OBSERVER Joe Blow");
+    ok = ok & string_is(area, 6, b"TRACE_SORT AS_ACQUIRED");
+    ok = ok & string_is(area, 7, b"UNITS METERS");
     ok = ok
         & string_is(
             area,
             8,
-            b"NOTE",
-            b"This example is for illustrative purposes only",
+            b"NOTE This example is for illustrative purposes only",
         );
     ok
 }
@@ -295,28 +305,27 @@ fn figure_c_1(area: &[u8]) -> bool {
 // Figure C-2, with the decimal points that the scan lost; of its NOTE the second line and the terminator before it.
 fn figure_c_2(area: &[u8]) -> bool {
     let mut ok = strings_are(area, 17);
-    ok = ok & string_is(area, 0, b"AMPLITUDE_RECOVERY", b"NONE");
-    ok = ok & string_is(area, 1, b"DELAY", b"0.020");
-    ok = ok & string_is(area, 2, b"FIXED_GAIN", b"84");
-    ok = ok & string_is(area, 3, b"HIGH_CUT_FILTER", b"1000 -12");
-    ok = ok & string_is(area, 4, b"LINE_ID", b"100");
-    ok = ok & string_is(area, 5, b"LOW_CUT_FILTER", b"250 12");
-    ok = ok & string_is(area, 6, b"NOTCH_FREQUENCY", b"60");
-    ok = ok & string_is(area, 7, b"POLARITY", b"1");
-    ok = ok & string_is(area, 8, b"RECEIVER", b"VERTICAL_GEOPHONE");
-    ok = ok & string_is(area, 9, b"RECEIVER_LOCATION", b"120.5 0 0.25");
-    ok = ok & string_is(area, 10, b"RECEIVER_SPECS", b"Mark Products L28E 40 Hz");
-    ok = ok & string_is(area, 11, b"SAMPLE_INTERVAL", b"0.0002");
-    ok = ok & string_is(area, 12, b"SOURCE", b"12-gauge WIN VW12BL black powder");
-    ok = ok & string_is(area, 13, b"SOURCE_LOCATION", b"100.0");
-    ok = ok & string_is(area, 14, b"STACK", b"1");
-    ok = ok & string_is(area, 15, b"TRACE_TYPE", b"SEISMIC_DATA");
+    ok = ok & string_is(area, 0, b"AMPLITUDE_RECOVERY NONE");
+    ok = ok & string_is(area, 1, b"DELAY 0.020");
+    ok = ok & string_is(area, 2, b"FIXED_GAIN 84");
+    ok = ok & string_is(area, 3, b"HIGH_CUT_FILTER 1000 -12");
+    ok = ok & string_is(area, 4, b"LINE_ID 100");
+    ok = ok & string_is(area, 5, b"LOW_CUT_FILTER 250 12");
+    ok = ok & string_is(area, 6, b"NOTCH_FREQUENCY 60");
+    ok = ok & string_is(area, 7, b"POLARITY 1");
+    ok = ok & string_is(area, 8, b"RECEIVER VERTICAL_GEOPHONE");
+    ok = ok & string_is(area, 9, b"RECEIVER_LOCATION 120.5 0 0.25");
+    ok = ok & string_is(area, 10, b"RECEIVER_SPECS Mark Products L28E 40 Hz");
+    ok = ok & string_is(area, 11, b"SAMPLE_INTERVAL 0.0002");
+    ok = ok & string_is(area, 12, b"SOURCE 12-gauge WIN VW12BL black powder");
+    ok = ok & string_is(area, 13, b"SOURCE_LOCATION 100.0");
+    ok = ok & string_is(area, 14, b"STACK 1");
+    ok = ok & string_is(area, 15, b"TRACE_TYPE SEISMIC_DATA");
     ok = ok
         & string_is(
             area,
             16,
-            b"NOTE",
-            b"The sample interval\x0a\x0dwas 2 microseconds.",
+            b"NOTE The sample interval\x0a\x0dwas 2 microseconds.",
         );
     ok
 }

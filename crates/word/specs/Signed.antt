@@ -1,6 +1,5 @@
 -- A signed number as the machine has it, of any width: a number that fits is kept when it is stored, loaded or handed
--- on; its sign, its size, `!z`,
--- `-n` and `z << e`.
+-- on; its sign, its size, `!z`, `-n` and `z << e`.
 -- Assumes nothing.
 use mathlib.Core.Path.{_≡_, refl, sym, ap, _∙_}
 use mathlib.Core.Bool.{Bool, true, false}
