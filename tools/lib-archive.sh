@@ -45,7 +45,7 @@ prove_below() {
     # shellcheck disable=SC2086
     {
         ended=0
-        RT_JOBS=${RT_JOBS:-4} rt check $names 2>&1 || ended=$?
+        TMPDIR=$(scratch) RT_JOBS=${RT_JOBS:-4} rt check $names 2>&1 || ended=$?
         echo "$ended" >"$2/ended"
     } | tee "$2/below.out" | {
         # no awk: Debian's waits for more lines than one
@@ -98,7 +98,7 @@ done
 exec '$clang' "\$@"
 WRAPPER
     chmod +x "$shadow/on/$machine/toolchain/bin/clang"
-    RATTLE_HOME=$shadow rt staticlib "$1" >"$2/rt.out" 2>&1 || {
+    TMPDIR=$(scratch) RATTLE_HOME=$shadow rt staticlib "$1" >"$2/rt.out" 2>&1 || {
         cat "$2/rt.out" >&2
         die "$1 is not proved, so nothing is built"
     }

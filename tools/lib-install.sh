@@ -28,6 +28,20 @@ apt_install() (
     return 1
 )
 
+# scratch: where the prover is to put the some thousand small files that it makes and removes for each crate. In memory a check takes a sixth to a
+# third less time than on a disk (docs/CHECKTIME.md), so it is /dev/shm where that has 2 GB free and programs may be run from it. A TMPDIR that is set
+# stays.
+scratch() (
+    [ -z "${TMPDIR:-}" ] || { echo "$TMPDIR"; return; }
+    free=$(df -Pk /dev/shm 2>/dev/null | awk 'NR == 2 { print $4 }')
+    if [ "${free:-0}" -ge 2097152 ] && try=$(mktemp /dev/shm/scratch.XXXXXX 2>/dev/null); then
+        printf '#!/bin/sh\n' >"$try" && chmod +x "$try" && "$try" 2>/dev/null && runs=yes
+        rm -f "$try"
+        [ "${runs:-}" != yes ] || { echo /dev/shm; return; }
+    fi
+    echo /tmp
+)
+
 # need COMMAND PACKAGE..: installs the Debian packages where the command is missing. Fails, and says so, where the command is missing still.
 need() (
     command -v "$1" >/dev/null && return 0
