@@ -72,7 +72,8 @@ module _ (high : Bool) (slots : ℕ) (sheet : List ℕ) (some : 1 ≤ slots) (me
       let to = add-accepted ts xs n x is (good-front (ts ++ (x ∷ [])) calls all) (omega arith) (omega arith) (omega arith) in
       let l = length-more ts x in
       let p = add-past high slots sheet ts xs n x is end to .1 in
-      let i = goes-on calls (ts ++ (x ∷ [])) (addLeft xs n x) end (add-afresh high slots sheet ts xs n x is end to) all (omega arith) (omega arith) (omega arith) in
+      let i = goes-on calls (ts ++ (x ∷ [])) (addLeft xs n x) end (add-afresh high slots sheet ts xs n x is end to) all (omega arith) (omega arith)
+      (omega arith) in
       (answers-to xs n x calls end to ∙ ap (λ (r : List Written). To end ∷ r) (i .0), accepted-to xs n x calls end to ∙ ap (λ (r : List Trace). x ∷ r) (i .1))
 
 -- ---- from the start
@@ -144,7 +145,8 @@ module _ (xs : List ℕ) (order slots : ℕ) (sheet : List ℕ) (ts : List Trace
   afresh-accepted purpose none =
       let size = written-afresh .holds .size in
       let most = w .most in
-      file-accepted purpose (eqb order 1) slots sheet ts (after begun (startSize slots sheet) ts .0) (after begun (startSize slots sheet) ts .1) (written-afresh .holds)
+      file-accepted purpose (eqb order 1) slots sheet ts (after begun (startSize slots sheet) ts .0) (after begun (startSize slots sheet) ts .1)
+      (written-afresh .holds)
       (w .some) (w .measures) (omega arith) none
 
 -- ---- and no other list is written: what calls have left, some of them refused, could have been written afresh from

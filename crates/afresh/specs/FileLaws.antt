@@ -41,7 +41,8 @@ file-none high slots sheet = let e : slots - 0 ≡ slots = omega arith in rw (e,
 pub length-pointers : (high : Bool) (at : ℕ) (ts : List Trace) → length (pointers high at ts) ≡ 4 * length ts
 unfolding pointers
 length-pointers high at [] = refl
-length-pointers high at (x ∷ ts) = length-append (bytesOf 4 high at) _ ∙ ap₂ (λ (i j : ℕ). i + j) (length-bytesOf 4 high at) (length-pointers high _ ts) ∙ omega arith
+length-pointers high at (x ∷ ts) = length-append (bytesOf 4 high at) _
+    ∙ ap₂ (λ (i j : ℕ). i + j) (length-bytesOf 4 high at) (length-pointers high _ ts) ∙ omega arith
 
 pub length-blocks : (high : Bool) (ts : List Trace) → EachGood ts → length (blocks high ts) ≡ sizes ts
 unfolding blocks sizes
@@ -58,7 +59,8 @@ unfolding fileOf fileSize startSize
 length-file high slots sheet ts h g =
     let size : ℕ = startSize slots sheet in
     let free : ℕ = 4 * (slots - length ts) in
-    let a = length-append (fileBlock high (4 * slots) (length ts)) (pointers high size ts ++ (replicate free 0 ++ (areaOf high nul lineFeed sheet ++ blocks high ts))) in
+    let a = length-append (fileBlock high (4 * slots) (length ts))
+    (pointers high size ts ++ (replicate free 0 ++ (areaOf high nul lineFeed sheet ++ blocks high ts))) in
     let b = length-append (pointers high size ts) (replicate free 0 ++ (areaOf high nul lineFeed sheet ++ blocks high ts)) in
     let c = length-append (replicate free 0) (areaOf high nul lineFeed sheet ++ blocks high ts) in
     let d = length-append (areaOf high nul lineFeed sheet) (blocks high ts) in
@@ -91,7 +93,8 @@ pointers-append high at (x ∷ ts) rest =
     let e : at + traceSize nul lineFeed x + sizes ts ≡ at + (traceSize nul lineFeed x + sizes ts) = omega arith in
     ap (λ (r : List ℕ). bytesOf 4 high at ++ r) (pointers-append high (at + traceSize nul lineFeed x) ts rest)
     ∙ ap (λ (k : ℕ). bytesOf 4 high at ++ (pointers high (at + traceSize nul lineFeed x) ts ++ pointers high k rest)) e
-    ∙ sym (append-assoc (bytesOf 4 high at) (pointers high (at + traceSize nul lineFeed x) ts) (pointers high (at + (traceSize nul lineFeed x + sizes ts)) rest))
+    ∙ sym (append-assoc (bytesOf 4 high at) (pointers high (at + traceSize nul lineFeed x) ts)
+    (pointers high (at + (traceSize nul lineFeed x + sizes ts)) rest))
 
 pub blocks-append : (high : Bool) (ts rest : List Trace) → blocks high (ts ++ rest) ≡ blocks high ts ++ blocks high rest
 unfolding blocks
@@ -100,7 +103,8 @@ blocks-append high (x ∷ ts) rest =
     ap (λ (r : List ℕ). traceBytes high nul lineFeed x ++ r) (blocks-append high ts rest)
     ∙ sym (append-assoc (traceBytes high nul lineFeed x) (blocks high ts) (blocks high rest))
 
-pub pointers-more : (high : Bool) (at : ℕ) (ts : List Trace) (x : Trace) → pointers high at (ts ++ (x ∷ [])) ≡ pointers high at ts ++ bytesOf 4 high (at + sizes ts)
+pub pointers-more : (high : Bool) (at : ℕ) (ts : List Trace) (x : Trace)
+    → pointers high at (ts ++ (x ∷ [])) ≡ pointers high at ts ++ bytesOf 4 high (at + sizes ts)
 unfolding pointers
 pointers-more high at ts x =
     pointers-append high at ts (x ∷ []) ∙ ap (λ (r : List ℕ). pointers high at ts ++ r) (append-nil (bytesOf 4 high (at + sizes ts)))
@@ -116,7 +120,8 @@ pub size-append : (slots : ℕ) (sheet : List ℕ) (ts rest : List Trace) → fi
 unfolding fileSize
 size-append slots sheet ts rest = let a = sizes-append ts rest in omega arith
 
-pub size-more : (slots : ℕ) (sheet : List ℕ) (ts : List Trace) (x : Trace) → fileSize slots sheet (ts ++ (x ∷ [])) ≡ fileSize slots sheet ts + traceSize nul lineFeed x
+pub size-more : (slots : ℕ) (sheet : List ℕ) (ts : List Trace) (x : Trace)
+    → fileSize slots sheet (ts ++ (x ∷ [])) ≡ fileSize slots sheet ts + traceSize nul lineFeed x
 unfolding sizes
 size-more slots sheet ts x = size-append slots sheet ts (x ∷ []) ∙ omega arith
 

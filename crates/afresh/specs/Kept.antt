@@ -153,12 +153,14 @@ module _ (high : Bool) (slots : ℕ) (sheet : List ℕ) (ts : List Trace) (some 
         traces = λ k h.
             (let l : k < length ts = rw (front .count) at h in
             let t = here k l in
-            keeps-trace high file k (fileSize slots sheet (take k ts)) (getD ts k emptyTrace) (front .order) (front .strings) (front .lines) (t .pointer) (t .here) (t .good)
+            keeps-trace high file k (fileSize slots sheet (take k ts)) (getD ts k emptyTrace) (front .order) (front .strings) (front .lines)
+            (t .pointer) (t .here) (t .good)
             (file-whole slots sheet (take k ts)) (before k (omega arith)));
       }
 
 -- and the check accepts it, in any buffer that holds it
-pub file-accepted : (purpose : Purpose) (high : Bool) (slots : ℕ) (sheet : List ℕ) (ts : List Trace) (xs : List ℕ) (n : ℕ) → Holds high slots sheet ts xs n → 1 ≤ slots
+pub file-accepted : (purpose : Purpose) (high : Bool) (slots : ℕ) (sheet : List ℕ) (ts : List Trace) (xs : List ℕ) (n : ℕ)
+    → Holds high slots sheet ts xs n → 1 ≤ slots
     → Measures sheet → n ≤ maximum → (length ts ≡ 0 → purpose ≡ Grow) → checkOf Strict purpose xs n ≡ Accepted
 file-accepted purpose high slots sheet ts xs n is some measures most none =
     let s = is .size in

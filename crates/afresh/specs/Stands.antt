@@ -68,7 +68,8 @@ module _ (high : Bool) (slots : ℕ) (sheet : List ℕ) (before : List Trace) (x
   unfolding fileOf blocks
   file-split =
       rw (blocks-append high before (x ∷ behind-it))
-      (sym (behind (fileBlock high (4 * slots) (length whole)) (pointers high (startSize slots sheet) whole) free strings (blocks high before) (blocks high (x ∷ behind-it))))
+      (sym (behind (fileBlock high (4 * slots) (length whole)) (pointers high (startSize slots sheet) whole) free strings (blocks high before)
+      (blocks high (x ∷ behind-it))))
 
   -- "the blocks and data one behind the other"
   pub file-here : length whole ≤ slots → EachGood before
@@ -122,7 +123,8 @@ pub record Traced (high : Bool) (slots : ℕ) (sheet : List ℕ) (ts : List Trac
 
 split-stands : (high : Bool) (slots : ℕ) (sheet : List ℕ) (ts before : List Trace) (x : Trace) (behind-it : List Trace) (k : ℕ)
     → ts ≡ before ++ (x ∷ behind-it) → length before ≡ k → length ts ≤ slots → EachGood ts → fileSize slots sheet ts ≤ maximum
-    → (pointerOf high (fileOf high slots sheet ts) k ≡ fileSize slots sheet before) × Stands high nul lineFeed (fileOf high slots sheet ts) (fileSize slots sheet before) x × Good x
+    → (pointerOf high (fileOf high slots sheet ts) k ≡ fileSize slots sheet before)
+    × Stands high nul lineFeed (fileOf high slots sheet ts) (fileSize slots sheet before) x × Good x
 split-stands high slots sheet ts before x behind-it k e l h g most =
     let all = rw e at g in
     let s = good-split before (x ∷ behind-it) all in

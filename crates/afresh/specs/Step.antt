@@ -94,7 +94,8 @@ free-slot slots n h =
 
 -- the key of it: the trace behind the file, its place in slot N, and N one more
 pub file-more : (high : Bool) (slots : ℕ) (sheet : List ℕ) (ts : List Trace) (x : Trace) → length ts < slots
-    → put (put (fileOf high slots sheet ts ++ traceBytes high nul lineFeed x) (32 + 4 * length ts) (bytesOf 4 high (fileSize slots sheet ts))) 6 (bytesOf 2 high (length ts + 1))
+    → put (put (fileOf high slots sheet ts ++ traceBytes high nul lineFeed x) (32 + 4 * length ts) (bytesOf 4 high (fileSize slots sheet ts))) 6
+    (bytesOf 2 high (length ts + 1))
     ≡ fileOf high slots sheet (ts ++ (x ∷ []))
 unfolding fileOf fileSize
 file-more high slots sheet ts x h =
@@ -113,7 +114,8 @@ file-more high slots sheet ts x h =
     ∙ ap (λ (z : List ℕ). z ++ (p ++ (replicate (4 * (slots - n)) 0 ++ (area ++ (b ++ t))))) (around-count high (4 * slots) n)
     ∙ ap (λ (z : List ℕ). (front ++ (bytesOf 2 high n ++ plainEnds)) ++ (p ++ (z ++ (area ++ (b ++ t))))) (free-slot slots n h)
     ∙ ap (λ (z : List ℕ). (front ++ (bytesOf 2 high n ++ plainEnds)) ++ (p ++ z)) (append-assoc (replicate 4 0) free (area ++ (b ++ t))) in
-    let head : length (front ++ (bytesOf 2 high n ++ plainEnds)) ≡ 32 = sym (ap length (around-count high (4 * slots) n)) ∙ length-fileBlock high (4 * slots) n in
+    let head : length (front ++ (bytesOf 2 high n ++ plainEnds)) ≡ 32 = sym (ap length (around-count high (4 * slots) n))
+    ∙ length-fileBlock high (4 * slots) n in
     let slotted = length-pointers high (startSize slots sheet) ts in
     let puts = two-puts front (bytesOf 2 high n) (bytesOf 2 high (n + 1)) plainEnds p (replicate 4 0) (bytesOf 4 high size) r (32 + 4 * n)
     (length-front high (4 * slots)) (length-bytesOf 2 high n ∙ sym (length-bytesOf 2 high (n + 1))) (omega arith) (sym (length-bytesOf 4 high size)) in
@@ -191,7 +193,8 @@ module _ (high : Bool) (slots : ℕ) (sheet : List ℕ) (ts : List Trace) (xs : 
         let j = length-bytesOf 4 high n in
         let k = length-bytesOf 2 high (length ts + 1) in
         rw left-as (
-          drop-put-after end two (put (put xs n t) at one) 6 (omega arith) ∙ drop-put-after end one (put xs n t) at (omega arith) ∙ drop-put-after end t xs n (omega arith),
+          drop-put-after end two (put (put xs n t) at one) 6 (omega arith) ∙ drop-put-after end one (put xs n t) at (omega arith)
+              ∙ drop-put-after end t xs n (omega arith),
           length-put (put (put xs n t) at one) 6 two ∙ length-put (put xs n t) at one ∙ length-put xs n t,
         )
 
@@ -211,7 +214,8 @@ module _ (high : Bool) (slots : ℕ) (sheet : List ℕ) (ts : List Trace) (xs : 
               ap (take end) left-as
               ∙ take-put end two (put (put xs n t) at one) 6
               ∙ ap (λ (z : List ℕ). put z 6 two) (take-put end one (put xs n t) at)
-              ∙ ap (λ (z : List ℕ). put (put z at one) 6 two) (ap (λ (k : ℕ). take k (put xs n t)) e ∙ take-put-end t xs n (omega arith) ∙ ap (λ (z : List ℕ). z ++ t) (is .image))
+              ∙ ap (λ (z : List ℕ). put (put z at one) 6 two)
+              (ap (λ (k : ℕ). take k (put xs n t)) e ∙ take-put-end t xs n (omega arith) ∙ ap (λ (z : List ℕ). z ++ t) (is .image))
               ∙ ap (λ (k : ℕ). put (put (fileOf high slots sheet ts ++ t) at (bytesOf 4 high k)) 6 two) (is .size)
               ∙ file-more high slots sheet ts x slot-free;
           size = add-end ∙ ap (λ (k : ℕ). k + traceSize nul lineFeed x) (is .size) ∙ sym (size-more slots sheet ts x);

@@ -47,12 +47,14 @@ pub worked-bytes : fileOf false 1 units (shot ∷ [])
     ++ ((15 ∷ 0 ∷ 85 ∷ 78 ∷ 73 ∷ 84 ∷ 83 ∷ 32 ∷ 77 ∷ 69 ∷ 84 ∷ 69 ∷ 82 ∷ 83 ∷ 0 ∷ 0 ∷ 0 ∷ 0 ∷ 0 ∷ 0 ∷ [])
     ++ ((34 ∷ 68 ∷ 44 ∷ 0 ∷ 8 ∷ 0 ∷ 0 ∷ 0 ∷ 3 ∷ 0 ∷ 0 ∷ 0 ∷ 1 ∷ replicate 19 0)
     ++ ((10 ∷ 0 ∷ 83 ∷ 84 ∷ 65 ∷ 67 ∷ 75 ∷ 32 ∷ 49 ∷ 0 ∷ 0 ∷ 0 ∷ []) ++ (1 ∷ 0 ∷ 255 ∷ 255 ∷ 0 ∷ 1 ∷ 0 ∷ 0 ∷ [])))))
-unfolding fileOf fileBlock pointers blocks traceBytes traceBlock samplesData integersData filledUp flat fixedBytes residue bytesOf lowBytes areaOf texts startSize areaSize sheetStrings sheetLines sheetLinesFrom lineLen lineKeyLen run joined same textSize room needed count
+unfolding fileOf fileBlock pointers blocks traceBytes traceBlock samplesData integersData filledUp flat fixedBytes residue bytesOf lowBytes areaOf
+    texts startSize areaSize sheetStrings sheetLines sheetLinesFrom lineLen lineKeyLen run joined same textSize room needed count
 worked-bytes = refl
 
 -- its sheets and its samples are let through
 pub worked-good : Measures units × AllGood (shot ∷ [])
-unfolding measuredOf linesVerdict checkFrom lineStep lineJudged continues all areaSize sheetStrings sheetLines sheetLinesFrom lineLen lineKeyLen run joined same textSize fitting unfit unfitIntegers firstFrom unfitInteger outside
+unfolding measuredOf linesVerdict checkFrom lineStep lineJudged continues all areaSize sheetStrings sheetLines sheetLinesFrom lineLen lineKeyLen run
+    joined same textSize fitting unfit unfitIntegers firstFrom unfitInteger outside
 worked-good =
     let u = rises-first (85 ∷ 78 ∷ 73 ∷ 84 ∷ 83 ∷ []) (omega arith) in
     let s = rises-first (83 ∷ 84 ∷ 65 ∷ 67 ∷ 75 ∷ []) (omega arith) in

@@ -196,7 +196,14 @@ module _ (samples : Samples) {xs : List ℕ} {n : ℕ} {sheet : List ℕ} {end c
     still-slotted =
         let s = b .slotted in
         let l : length zs ≡ length xs = rw all-stored (length-put xs n _) in
-        record { low = s .low; most = s .most; within = rw l (s .within); size = rw same-file (s .size); slot = rw (same-file, l) (s .slot); few = rw same-file (s .few) }
+        record {
+          low = s .low;
+          most = s .most;
+          within = rw l (s .within);
+          size = rw same-file (s .size);
+          slot = rw (same-file, l) (s .slot);
+          few = rw same-file (s .few);
+        }
 
     pub grown-put : registered zs n ≡ grown xs n (record { sheet = sheet; code = code; samples = samples })
     unfolding registered grown

@@ -115,7 +115,8 @@ value-open (b ∷ v) h s = plain-blank b (both (plain b) (all plain v) h .0) s
 one-space : (v : List ℕ) → _≡_ {A = List ℕ} (32 ∷ []) [] → v ≡ []
 one-space v e = let z : _≡_ {A = ℕ} 0 1 = cc in absurd (omega arith)
 
-str-good : (t u prev : List ℕ) (l : Line) → GoodLine prev l → same (l .key) note ≡ false → spaced (l .value) ≡ false → sizeOf t (strOf l) < 65536 → GoodString Strict t u (strOf l)
+str-good : (t u prev : List ℕ) (l : Line) → GoodLine prev l → same (l .key) note ≡ false → spaced (l .value) ≡ false → sizeOf t (strOf l) < 65536
+    → GoodString Strict t u (strOf l)
 unfolding all
 str-good t u prev l g n s small =
     record {
@@ -177,7 +178,8 @@ measured-size t u s n e = go (linesVerdict s) refl e
         let l = ltb-false areaMost (areaSize t u s) q in
         (a, omega arith)
 
-    go : (v : Verdict) → linesVerdict s ≡ v → asked measured.the-variants.Refused v (sized (areaSize t u s)) ≡ Size n → (linesVerdict s ≡ Accepted) × (areaSize t u s ≡ n) × (n ≤ areaMost)
+    go : (v : Verdict) → linesVerdict s ≡ v → asked measured.the-variants.Refused v (sized (areaSize t u s)) ≡ Size n → (linesVerdict s ≡ Accepted)
+        × (areaSize t u s ≡ n) × (n ≤ areaMost)
     go Accepted q k = let b = sizes (ltb areaMost (areaSize t u s)) refl k in (q, b .0, b .1)
     go (Refused r) q k = let z : _≡_ {A = ℕ} 0 1 = cc in absurd (omega arith)
 

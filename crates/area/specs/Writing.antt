@@ -233,7 +233,8 @@ more-cons : (u : List ℕ) (l : Line) (ls : List Line) → moreOf u (l ∷ ls) �
 unfolding moreOf
 more-cons u l ls = refl
 
-module _ (u s buf₀ : List ℕ) (to₀ at to : ℕ) (buf : List ℕ) (c : Noting u s buf₀ to₀ at to buf) (low : at < length s) (n : ℕ) (e : n ≡ lineLen (drop at s)) where
+module _ (u s buf₀ : List ℕ) (to₀ at to : ℕ) (buf : List ℕ) (c : Noting u s buf₀ to₀ at to buf) (low : at < length s) (n : ℕ)
+    (e : n ≡ lineLen (drop at s)) where
   line-ahead : Ahead (c .left .prev) (drop at s) n
   line-ahead = ahead (c .left .prev) (drop at s) n (c .left .lined) (simp length-drop (omega arith)) e
 
@@ -332,7 +333,8 @@ note-at u s n h e =
 
 -- the offset is stored last, when the lines have shown how long the NOTE is
 module _ (buf b1 b2 b3 b4 b5 : List ℕ) (high : Bool) (t u s : List ℕ) (n to : ℕ) (h : NoteAt u s n) where
-  pub note-written : (a b c e z : ℕ) → a ≡ to + 2 → b ≡ a + 5 → c ≡ a + n → e ≡ c + length (moreOf u (sheetLines (drop (n + 1) s))) → z ≡ sizeOf t (noteOf u (sheetLines s))
+  pub note-written : (a b c e z : ℕ) → a ≡ to + 2 → b ≡ a + 5 → c ≡ a + n → e ≡ c + length (moreOf u (sheetLines (drop (n + 1) s)))
+      → z ≡ sizeOf t (noteOf u (sheetLines s))
       → b1 ≡ put buf a noteHead → b2 ≡ put b1 b (part 5 n s) → b3 ≡ put b2 c (moreOf u (sheetLines (drop (n + 1) s))) → b4 ≡ put b3 e t
       → b5 ≡ put b4 to (bytesOf 2 high z)
       → b5 ≡ put buf to (stringBytes high t (noteOf u (sheetLines s)))
@@ -508,7 +510,8 @@ strung-over high t u s buf₀ at to buf c h =
 
 -- ---- the whole area: the strings, the end mark, the zeros
 
-pub area-written : (buf b1 b2 b3 : List ℕ) (high : Bool) (t u s : List ℕ) (to a e : ℕ) → to ≡ length (textsOf high t (sheetStrings u s)) → a ≡ to + 2 → e ≡ round4 a
+pub area-written : (buf b1 b2 b3 : List ℕ) (high : Bool) (t u s : List ℕ) (to a e : ℕ) → to ≡ length (textsOf high t (sheetStrings u s)) → a ≡ to + 2
+    → e ≡ round4 a
     → b1 ≡ put buf 0 (textsOf high t (sheetStrings u s)) → b2 ≡ put b1 to (bytesOf 2 high 0) → b3 ≡ put b2 a (replicate (e - a) 0)
     → b3 ≡ put buf 0 (areaOf high t u s)
 unfolding areaOf

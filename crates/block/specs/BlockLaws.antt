@@ -96,7 +96,8 @@ blocked high f k p e =
     let g = neither (not (eqb (blockSize high f p % 4) 0)) (ltb (length f) (p + blockSize high f p)) (b .1) in
     let d = neither (not (eqb (dataSize high f p % 4) 0)) (ltb (length f) (dataAt high f p + dataSize high f p)) (c .1 .1 .0) in
     let q = neither (ltb (formatCode f p) 1) (ltb 5 (formatCode f p)) (c .1 .1 .1 .0) in
-    let s = neither (eqb (formatCode f p) 3 && not (eqb (sampleCount high f p % 4) 0)) (ltb (dataSize high f p) (needed (formatCode f p) (sampleCount high f p))) (c .1 .1 .1 .1 .0) in
+    let s = neither (eqb (formatCode f p) 3 && not (eqb (sampleCount high f p % 4) 0))
+    (ltb (dataSize high f p) (needed (formatCode f p) (sampleCount high f p))) (c .1 .1 .1 .1 .0) in
     record {
       mark = eqb-true _ _ (not-false _ (c .0));
       least = ltb-false _ _ (b .0);

@@ -37,7 +37,8 @@ pub written-marks : (p : Parts) (t : List ℕ) → Writes p t → All mark t
 written-marks p t h =
     rw (h .text)
     (all-append mark (h .s) (p .whole ++ (h .f ++ h .e)) (sign-marks (h .sign))
-    (all-append mark (p .whole) (h .f ++ h .e) (digit-marks (p .whole) (h .whole .each)) (all-append mark (h .f) (h .e) (fraction-marks (h .fraction)) (power-marks (h .power)))))
+    (all-append mark (p .whole) (h .f ++ h .e) (digit-marks (p .whole) (h .whole .each))
+    (all-append mark (h .f) (h .e) (fraction-marks (h .fraction)) (power-marks (h .power)))))
 
 -- any other byte, anywhere in the text
 pub other-byte : (b : ℕ) → mark b ≡ false → (before after : List ℕ) → numberIn (before ++ b ∷ after) ≡ noNumber

@@ -125,7 +125,8 @@ means p t h =
     record {
       coefficient = c ∙ sym (placed-append (p .whole) (p .decimals));
       value = rw (c, e)
-          (balanced (placed (p .whole) * 10 ^ length (p .decimals) + placed (p .decimals)) (raise (powerOf (p .down) (placed (p .exponent)) (length (p .decimals))))
+          (balanced (placed (p .whole) * 10 ^ length (p .decimals) + placed (p .decimals))
+          (raise (powerOf (p .down) (placed (p .exponent)) (length (p .decimals))))
           (length (p .decimals)) (pick (p .down) (placed (p .exponent)) 0) (pick (p .down) 0 (placed (p .exponent)))
           (lower (powerOf (p .down) (placed (p .exponent)) (length (p .decimals)))) (tens (p .down) (placed (p .exponent)) (length (p .decimals))));
       sign = refl;

@@ -67,7 +67,8 @@ finite-class f nan a h = absurd h
 finite-class f (inf s) a h = absurd h
 finite-class f (fin s m e) a h =
     let z = same-zero m (up e) (2 ^ low f) a (down e) (up-pos e) (pow-pos (low f)) (down-pos e) h in
-    let w : m * up e * 2 ^ (emax f - 1) * hid f ≡ a * down e = mul-assoc (m * up e) (2 ^ (emax f - 1)) (hid f) ∙ ap (λ (p : ℕ). m * up e * p) (sym (low-split f)) ∙ h in
+    let w : m * up e * 2 ^ (emax f - 1) * hid f ≡ a * down e = mul-assoc (m * up e) (2 ^ (emax f - 1)) (hid f)
+    ∙ ap (λ (p : ℕ). m * up e * p) (sym (low-split f)) ∙ h in
     rw (z, same-order (m * up e * 2 ^ (emax f - 1)) (hid f) a (down e) (pow-pos (prec f - 1)) (down-pos e) w)
 
 -- ---- a pattern's fields
@@ -92,6 +93,8 @@ fields-class f s (suc x) t h = rw (ne-eqb (suc x) 0 (λ q. (omega arith))) (go (
 pub class-ieee : (f : Format) (n : ℕ) → classOf (codeOf f) n ≡ valueClass f (ofBits f n)
 unfolding ofBits classOf codeOf
 class-ieee binary32 n =
-    sym (fields-class binary32 (leb (top binary32) n) (n % top binary32 / hid binary32) (n % hid binary32) (mod-lt n (pow-pos 23)) ∙ ap (λ (x : ℕ). classBy 255 x (n % 2 ^ 23)) (field n 8 23))
+    sym (fields-class binary32 (leb (top binary32) n) (n % top binary32 / hid binary32) (n % hid binary32) (mod-lt n (pow-pos 23))
+    ∙ ap (λ (x : ℕ). classBy 255 x (n % 2 ^ 23)) (field n 8 23))
 class-ieee binary64 n =
-    sym (fields-class binary64 (leb (top binary64) n) (n % top binary64 / hid binary64) (n % hid binary64) (mod-lt n (pow-pos 52)) ∙ ap (λ (x : ℕ). classBy 2047 x (n % 2 ^ 52)) (field n 11 52))
+    sym (fields-class binary64 (leb (top binary64) n) (n % top binary64 / hid binary64) (n % hid binary64) (mod-lt n (pow-pos 52))
+    ∙ ap (λ (x : ℕ). classBy 2047 x (n % 2 ^ 52)) (field n 11 52))

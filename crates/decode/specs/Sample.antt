@@ -48,7 +48,8 @@ groupSample high block g k = scaled (exponentIn (wordAt 2 high block g) k) (word
 -- sample i under codes 1 to 3
 unfoldable pub sampleOf : ℕ → Bool → List ℕ → ℕ → ℤ
 sampleOf code high block i =
-    byCode (twos 32768 (patternOf 1 high block i)) (twos 2147483648 (patternOf 2 high block i)) (groupSample high block (i / 4 * 10) (i % 4)) (pos 0) (pos 0) (pos 0) code
+    byCode (twos 32768 (patternOf 1 high block i)) (twos 2147483648 (patternOf 2 high block i)) (groupSample high block (i / 4 * 10) (i % 4)) (pos 0)
+    (pos 0) (pos 0) code
 
 -- where the bytes end that sample i is made of; under code 3 they are its group's
 unfoldable pub sampleEnd : ℕ → ℕ → ℕ

@@ -145,7 +145,8 @@ there-needed code s block n h = rw (length-take n block, leb-cut (needed code s)
 pub read-needed : (code : ℕ) (high : Bool) (block : List ℕ) (n : ℕ) (row : List ℤ) → needed code (length row) ≤ n
     → integersRead code high (take n block) row ≡ integersRead code high block row
 unfolding integersRead integersThere
-read-needed code high block n row h = rw (length-take n block, leb-cut (needed code (length row)) n (length block) h) (go (integersAsked code (length row)) refl)
+read-needed code high block n row h = rw (length-take n block, leb-cut (needed code (length row)) n (length block) h)
+    (go (integersAsked code (length row)) refl)
   where
     go : (t : Bool) → integersAsked code (length row) ≡ t
         → cond (t && leb (needed code (length row)) (length block)) (valuesFrom (sampleOf code high (take n block)) 0 (length row)) row

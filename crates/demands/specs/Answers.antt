@@ -34,7 +34,8 @@ use Rattle.demands.specs.WriterRows.{startRows, addRows, start-answers-f
 -- is refused"
 
 -- Rules out a check that refuses what keeps the rules, or that accepts what breaks one.
-pub check-refuses-by-the-first : (purpose : Purpose) (xs : List ℕ) (n : ℕ) (r : Refusal) → (checkOf Strict purpose xs n ≡ Refused r) ↔ Met (checkRows Strict purpose xs n) r
+pub check-refuses-by-the-first : (purpose : Purpose) (xs : List ℕ) (n : ℕ) (r : Refusal)
+    → (checkOf Strict purpose xs n ≡ Refused r) ↔ Met (checkRows Strict purpose xs n) r
 check-refuses-by-the-first purpose xs n r = rw (check-answers-first Strict purpose xs n) (refused-by-the-first (checkRows Strict purpose xs n) r)
 
 pub check-accepts-where-none : (purpose : Purpose) (xs : List ℕ) (n : ℕ) → (checkOf Strict purpose xs n ≡ Accepted) ↔ NoneMet (checkRows Strict purpose xs n)
@@ -81,13 +82,16 @@ pub addition-accepts-where-none : (xs : List ℕ) (n : ℕ) (x : Trace) → (add
 addition-accepts-where-none xs n x = writes (addRows xs n x) (newLength (take n xs) n x) (addAnswer xs n x) (addition-answers-first xs n x) .1
 
 -- Rules out a row of samples that is refused for another reason, or filled where it must not be.
-pub integers-refused-by-the-first : (xs : List ℕ) (n : ℕ) (z : ℤ) (s : ℕ) (r : Refusal) → (integersAnswer Strict xs n z s ≡ Refused r) ↔ Met (integersAskedRows Strict xs n z s) r
+pub integers-refused-by-the-first : (xs : List ℕ) (n : ℕ) (z : ℤ) (s : ℕ) (r : Refusal)
+    → (integersAnswer Strict xs n z s ≡ Refused r) ↔ Met (integersAskedRows Strict xs n z s) r
 integers-refused-by-the-first xs n z s r = rw (integers-answer-first Strict xs n z s) (refused-by-the-first (integersAskedRows Strict xs n z s) r)
 
-pub integers-accepted-where-none : (xs : List ℕ) (n : ℕ) (z : ℤ) (s : ℕ) → (integersAnswer Strict xs n z s ≡ Accepted) ↔ NoneMet (integersAskedRows Strict xs n z s)
+pub integers-accepted-where-none : (xs : List ℕ) (n : ℕ) (z : ℤ) (s : ℕ)
+    → (integersAnswer Strict xs n z s ≡ Accepted) ↔ NoneMet (integersAskedRows Strict xs n z s)
 integers-accepted-where-none xs n z s = rw (integers-answer-first Strict xs n z s) (accepted-where-none-is-met (integersAskedRows Strict xs n z s))
 
-pub bits-refused-by-the-first : (xs : List ℕ) (n : ℕ) (z : ℤ) (s c : ℕ) (r : Refusal) → (bitsAnswer Strict xs n z s c ≡ Refused r) ↔ Met (bitsAskedRows Strict xs n z s c) r
+pub bits-refused-by-the-first : (xs : List ℕ) (n : ℕ) (z : ℤ) (s c : ℕ) (r : Refusal)
+    → (bitsAnswer Strict xs n z s c ≡ Refused r) ↔ Met (bitsAskedRows Strict xs n z s c) r
 bits-refused-by-the-first xs n z s c r = rw (bits-answer-first Strict xs n z s c) (refused-by-the-first (bitsAskedRows Strict xs n z s c) r)
 
 pub bits-accepted-where-none : (xs : List ℕ) (n : ℕ) (z : ℤ) (s c : ℕ) → (bitsAnswer Strict xs n z s c ≡ Accepted) ↔ NoneMet (bitsAskedRows Strict xs n z s c)
@@ -109,5 +113,6 @@ pub refused-integers-change-nothing : (xs : List ℕ) (n : ℕ) (z : ℤ) (row :
 refused-integers-change-nothing = integers-kept Strict
 
 pub refused-bits-change-nothing : (xs : List ℕ) (n : ℕ) (z : ℤ) (row classes : List ℕ) (r : Refusal)
-    → bitsAnswer Strict xs n z (length row) (length classes) ≡ Refused r → (patternsLeft Strict xs n z row classes ≡ row) × (classesLeft Strict xs n z row classes ≡ classes)
+    → bitsAnswer Strict xs n z (length row) (length classes) ≡ Refused r → (patternsLeft Strict xs n z row classes ≡ row)
+    × (classesLeft Strict xs n z row classes ≡ classes)
 refused-bits-change-nothing = bits-kept Strict

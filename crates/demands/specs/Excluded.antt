@@ -108,7 +108,8 @@ not-the-same-for-all xs h e =
 pub no-good-list-refused : (xs : List ℕ) (order slots : ℕ) (sheet : List ℕ) (ts : List Trace) → GoodList xs order slots sheet ts
     → (startAnswer xs order slots sheet ≡ To (startSize slots sheet))
     × (answersOf (startLeft xs order slots sheet) (startSize slots sheet) ts ≡ lengths (startSize slots sheet) ts)
-no-good-list-refused xs order slots sheet ts g = let w = good-is-writable g in (start-accepted xs order slots sheet ts w, none-refused xs order slots sheet ts w)
+no-good-list-refused xs order slots sheet ts g = let w = good-is-writable g in
+    (start-accepted xs order slots sheet ts w, none-refused xs order slots sheet ts w)
 
 -- such a list is document 01's: the start answers 56, the addition 108, in every buffer that has room
 pub a-list-is-written : (xs : List ℕ) → 108 ≤ length xs
@@ -132,7 +133,8 @@ an-addition-writes xs n x end by to =
     let same : wordAt 2 (highFirst f) f 6 ≡ wordAt 2 (highFirst f) xs 6 = word-take 2 (highFirst f) n xs 6 (omega (arith, lies h .some)) in (
       rw (add-left xs n x end to) (count-grown (grown-grows by h)),
       λ e.
-          (let g : wordAt 2 (highFirst f) xs 6 ≡ wordAt 2 (highFirst f) f 6 + 1 = ap (λ (l : List ℕ). wordAt 2 (highFirst f) l 6) (sym e ∙ add-left xs n x end to) ∙ grown-count h by in
+          (let g : wordAt 2 (highFirst f) xs 6 ≡ wordAt 2 (highFirst f) f 6 + 1 =
+          ap (λ (l : List ℕ). wordAt 2 (highFirst f) l 6) (sym e ∙ add-left xs n x end to) ∙ grown-count h by in
           omega arith),
     )
 

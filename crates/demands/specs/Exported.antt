@@ -50,7 +50,8 @@ yes-or-no (string.Refused r) false e = absurd (let z : _≡_ {A = ℕ} 0 1 = cc 
 pub exported-value-is-the-lists : (xs : List ℕ) (n : ℕ) (z : ℤ) (ss : List Str) → AnswersBy xs n z ss → (key : List ℕ)
     → (bytesFrom (asValue (findAnswer Strict xs n z key) .«value_start») (asValue (findAnswer Strict xs n z key) .«value_length») xs ≡ valueOfKey Strict ss key)
     × (asValue (findAnswer Strict xs n z key) .number ≡ 0)
-    × (hasKey Strict ss key ≡ false → (asValue (findAnswer Strict xs n z key) .«value_start» ≡ 0) × (asValue (findAnswer Strict xs n z key) .«value_length» ≡ 0))
+    × (hasKey Strict ss key ≡ false → (asValue (findAnswer Strict xs n z key) .«value_start» ≡ 0)
+    × (asValue (findAnswer Strict xs n z key) .«value_length» ≡ 0))
 unfolding valueAnswer keywordAnswer
 exported-value-is-the-lists xs n z ss a key =
     let s = findAnswer Strict xs n z key in

@@ -174,7 +174,8 @@ head-first purpose b end = first-each (headRows purpose b end) (head-refuses pur
 rest-first : (how : Manner) (high : Bool) (t u f : List ℕ) (m n : ℕ) → restOf how high t u f m n ≡ firstOf (restRows how high t u f m n)
 unfolding restOf pointerRow
 rest-first how high t u f m n =
-    either (eqb n 0) (areaRows how high t u f File (32 + m) (length f)) (flat (filledRows how high t u f m n)) (area-first how high t u f File (32 + m) (length f))
+    either (eqb n 0) (areaRows how high t u f File (32 + m) (length f)) (flat (filledRows how high t u f m n))
+    (area-first how high t u f File (32 + m) (length f))
     (first-flat (filledChecks how high t u f m n) (filledRows how high t u f m n) (
       first-one (pointerTest (length f) 0 (32 + m) (pointerOf high f 0)),
       (area-first how high t u f File (32 + m) (pointerOf high f 0), (traces-first how high t u f n 0 (32 + m), tt)),

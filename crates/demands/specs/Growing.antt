@@ -65,7 +65,8 @@ byte-for-byte = calls-afresh
 
 -- past the image the buffer is as it was: "This and every other writer leave the bytes past what they write"
 pub past-the-image-nothing-changes : (xs : List ℕ) (order slots : ℕ) (sheet : List ℕ) (e : ℕ) → startAnswer xs order slots sheet ≡ To e → (calls : List Trace)
-    → drop (after (startLeft xs order slots sheet) e calls .1) (after (startLeft xs order slots sheet) e calls .0) ≡ drop (after (startLeft xs order slots sheet) e calls .1) xs
+    → drop (after (startLeft xs order slots sheet) e calls .1) (after (startLeft xs order slots sheet) e calls .0)
+    ≡ drop (after (startLeft xs order slots sheet) e calls .1) xs
 past-the-image-nothing-changes xs order slots sheet e to calls = start-grows xs order slots sheet e to calls .past
 
 -- the image may also be copied into another buffer between two calls: `Made` has the images that calls hand on, each
@@ -73,7 +74,8 @@ past-the-image-nothing-changes xs order slots sheet e to calls = start-grows xs 
 -- its buffer as it was, so it hands on the image that it got.)
 pub data Made (order slots : ℕ) (sheet : List ℕ) : List Trace → List ℕ → Type 0 where
   a-start : (xs : List ℕ) (e : ℕ) → startAnswer xs order slots sheet ≡ To e → Made order slots sheet [] (take e (startLeft xs order slots sheet))
-  an-addition : {ts : List Trace} {f : List ℕ} → Made order slots sheet ts f → (xs : List ℕ) → length f ≤ length xs → take (length f) xs ≡ f → (x : Trace) (end : ℕ)
+  an-addition : {ts : List Trace} {f : List ℕ} → Made order slots sheet ts f → (xs : List ℕ) → length f ≤ length xs → take (length f) xs ≡ f
+      → (x : Trace) (end : ℕ)
       → addAnswer xs (length f) x ≡ To end → Made order slots sheet (ts ++ (x ∷ [])) (take end (addLeft xs (length f) x))
 
 record ImageOf (order slots : ℕ) (sheet : List ℕ) (ts : List Trace) (f : List ℕ) : Type 0 where
@@ -256,7 +258,8 @@ earlier-read-as-before-always (x ∷ calls) xs n by ok z old = go (addAnswer xs 
         → AnsweredAlike (after ys m calls .0) (after ys m calls .1) ys m y)
         → AnsweredAlike (after xs n (x ∷ calls) .0) (after xs n (x ∷ calls) .1) xs n z
     go (To end) h more =
-        let c : countOf (take end (addLeft xs n x)) ≡ countOf (take n xs) + 1 = rw (add-left xs n x end h) (count-grown (grown-grows by (added xs n x end h))) in
+        let c : countOf (take end (addLeft xs n x)) ≡ countOf (take n xs) + 1 =
+        rw (add-left xs n x end h) (count-grown (grown-grows by (added xs n x end h))) in
         rw (after-to xs n x calls end h)
         (alike-again
         (more (addLeft xs n x) end (grown-buffer-is-of-bytes xs n x end h by) (grown-file-is-accepted xs n x end h by Read) z
@@ -267,7 +270,8 @@ earlier-read-as-before-always (x ∷ calls) xs n by ok z old = go (addAnswer xs 
 -- the file's strings also where there was no trace, so that no reader took the image: they are those that its bytes
 -- spelled to its end
 pub file-strings-read-as-before : (xs : List ℕ) (n : ℕ) (x : Trace) (end : ℕ) (ss : List Str) → addAnswer xs n x ≡ To end → Bytes xs
-    → Spells Strict (highFirst (take n xs)) (stringEnd (take n xs)) (lineEnd (take n xs)) ss (part (32 + roomOf (take n xs)) (stringsEnd (take n xs)) (take n xs))
+    → Spells Strict (highFirst (take n xs)) (stringEnd (take n xs)) (lineEnd (take n xs)) ss
+    (part (32 + roomOf (take n xs)) (stringsEnd (take n xs)) (take n xs))
     → AnswersBy (addLeft xs n x) end (negsuc 0) ss
 file-strings-read-as-before xs n x end ss to by s = rw (add-left xs n x end to) (still.strings-answers-kept by (added xs n x end to) s)
 
@@ -277,7 +281,13 @@ file-strings-read-as-before xs n x end ss to by s = rw (add-left xs n x end to) 
 pub one-trace-more : (xs : List ℕ) (n : ℕ) (x : Trace) (end : ℕ) → addAnswer xs n x ≡ To end → Bytes xs
     → fileAnswer Strict (addLeft xs n x) end
     ≡ file.Is
-    (record { high = highFirst (take n xs); m = roomOf (take n xs); n = countOf (take n xs) + 1; strings = getD (take n xs) 8 0; lines = getD (take n xs) 11 0 })
+    (record {
+      high = highFirst (take n xs);
+      m = roomOf (take n xs);
+      n = countOf (take n xs) + 1;
+      strings = getD (take n xs) 8 0;
+      lines = getD (take n xs) 11 0;
+    })
 one-trace-more xs n x end to by = rw (add-left xs n x end to) (still.file-answer-grown by (added xs n x end to))
 
 -- a started buffer is one of bytes too, so that all this holds from the start on

@@ -64,7 +64,8 @@ module _ {high : Bool} {slots : ℕ} {sheet : List ℕ} {ts : List Trace} {xs : 
       rw (list-accepted l, is .image, f .order, f .room, f .count, f .ones .0, f .ones .1)
 
   file-spelled : 0 < length ts
-      → Spells Strict (highFirst (take n xs)) (stringEnd (take n xs)) (lineEnd (take n xs)) (sheetStrings lineFeed sheet) (part (32 + roomOf (take n xs)) (traceAt (take n xs) 0) (take n xs))
+      → Spells Strict (highFirst (take n xs)) (stringEnd (take n xs)) (lineEnd (take n xs)) (sheetStrings lineFeed sheet)
+      (part (32 + roomOf (take n xs)) (traceAt (take n xs) 0) (take n xs))
   file-spelled l =
       let f = file-fronted high slots sheet ts (is .few) (is .slotted) in
       let s = is .size in

@@ -10,7 +10,7 @@ use Prim.Native.Nat.{ℕ, zero, suc, _+_, _-_, _*_, _/_, _^_, _≤_, _<_}
 use native.Mathlib.Nat.{le-antisymm, mul-le-mul-right, suc-mul}
 use native.Mathlib.Omega.{arith, by-contra}
 use lib.IntN.{ℤ, pos, negsuc, negℤ, natAbs, _-ℤ_, _*ℤ_, pos-*ℤ-pos, negsuc-*ℤ-pos}
-use Rattle.encode.specs.Write.{smallest, exponentOf, mantissaOf}
+use Rattle.encode.specs.Write.{mantissaMost, smallest, exponentOf, mantissaOf}
 use Rattle.encode.specs.WriteLaws.{no-less, exponent-smallest}
 use Rattle.encode.specs.Cut.{cut, size-neg, size-mantissa, cut-near, cut-between, cut-exact}
 use Rattle.growth.specs.TraceReads.{readBack}
@@ -21,10 +21,10 @@ pub record LowBitsCut (z y : ℤ) : Type 0 where
   pub mantissa : ℤ
   -- "Value: mantissa times 2 to the exponent", the mantissa one of 16 bits
   pub value : y ≡ mantissa *ℤ pos (2 ^ exponent)
-  pub fits : natAbs mantissa ≤ 32767
+  pub fits : natAbs mantissa ≤ mantissaMost
   -- "the smallest .. that brings it to at most 32,767"
-  pub brings : natAbs z / 2 ^ exponent ≤ 32767
-  pub smallest : (e : ℕ) → e < exponent → 32767 < natAbs z / 2 ^ e
+  pub brings : natAbs z / 2 ^ exponent ≤ mantissaMost
+  pub smallest : (e : ℕ) → e < exponent → mantissaMost < natAbs z / 2 ^ e
   -- "cut toward zero": y lies between 0 and z
   pub toward-zero : natAbs y + natAbs (z -ℤ y) ≡ natAbs z
   -- "differs by less than 2 to the exponent"
@@ -102,7 +102,7 @@ low-bits-cut z h =
 pub only-low-bits-are-lost : (row : List ℤ)
     → (readBack 1 row ≡ row) × (readBack 2 row ≡ row) × (readBack 3 row ≡ map cut row)
     × ((z : ℤ) → natAbs z < 1073741824 → LowBitsCut z (cut z))
-    × ((z : ℤ) → natAbs z ≤ 32767 → cut z ≡ z)
+    × ((z : ℤ) → natAbs z ≤ mantissaMost → cut z ≡ z)
 unfolding readBack
 only-low-bits-are-lost row = (refl, refl, refl, low-bits-cut, cut-exact)
 

@@ -41,8 +41,10 @@ pub one-row-of-integers : (xs : List ℕ) (n : ℕ) (z : ℤ) (row : List ℤ) (
 one-row-of-integers xs n z row r s ys zs h k = (one-outcome _ r s (h .0) (k .0), one-outcome _ ys zs (h .1) (k .1))
 
 pub one-row-of-bits : (xs : List ℕ) (n : ℕ) (z : ℤ) (row classes : List ℕ) (r s : Verdict) (ys zs cs ds : List ℕ)
-    → (r ≡ bitsAnswer Strict xs n z (length row) (length classes)) × (ys ≡ patternsLeft Strict xs n z row classes) × (cs ≡ classesLeft Strict xs n z row classes)
-    → (s ≡ bitsAnswer Strict xs n z (length row) (length classes)) × (zs ≡ patternsLeft Strict xs n z row classes) × (ds ≡ classesLeft Strict xs n z row classes)
+    → (r ≡ bitsAnswer Strict xs n z (length row) (length classes)) × (ys ≡ patternsLeft Strict xs n z row classes)
+    × (cs ≡ classesLeft Strict xs n z row classes)
+    → (s ≡ bitsAnswer Strict xs n z (length row) (length classes)) × (zs ≡ patternsLeft Strict xs n z row classes)
+    × (ds ≡ classesLeft Strict xs n z row classes)
     → (r ≡ s) × (ys ≡ zs) × (cs ≡ ds)
 one-row-of-bits xs n z row classes r s ys zs cs ds h k =
     (one-outcome _ r s (h .0) (k .0), one-outcome _ ys zs (h .1) (k .1), one-outcome _ cs ds (h .2) (k .2))

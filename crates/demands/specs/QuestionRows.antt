@@ -84,7 +84,8 @@ one-more bad vs w a =
 -- ---- blocks
 
 -- Rules out an answer on a file that the check refuses, and a refusal of one that it accepts.
-pub file-answers-first : (how : Manner) (xs : List ℕ) (n : ℕ) → fileAnswer how xs n ≡ asked file.Refused (firstOf (checkRows how Read xs n)) (file.Is (fileBlockOf (take n xs)))
+pub file-answers-first : (how : Manner) (xs : List ℕ) (n : ℕ)
+    → fileAnswer how xs n ≡ asked file.Refused (firstOf (checkRows how Read xs n)) (file.Is (fileBlockOf (take n xs)))
 unfolding fileAnswer
 file-answers-first how xs n = rw (check-answers-first how Read xs n)
 
@@ -100,13 +101,15 @@ on-trace none some (negsuc (suc k)) n = refl
 
 -- Rules out a trace that is not there.
 pub trace-answers-first : (how : Manner) (xs : List ℕ) (n : ℕ) (z : ℤ)
-    → traceAnswer how xs n z ≡ asked trace.Refused (firstOf (traceAskedRows how xs n z)) (trace.Is (traceBlockOf (highFirst (take n xs)) (take n xs) (traceNumber z)))
+    → traceAnswer how xs n z ≡ asked trace.Refused (firstOf (traceAskedRows how xs n z))
+    (trace.Is (traceBlockOf (highFirst (take n xs)) (take n xs) (traceNumber z)))
 unfolding traceAnswer
 trace-answers-first how xs n z =
     let f : List ℕ = take n xs in
     ap (λ (v : Verdict). asked trace.Refused v (onTrace (whoseOf z (countOf f)) (trace.Refused noTrace) (λ k. trace.Is (traceBlockOf (highFirst f) f k))))
     (check-answers-first how Read xs n)
-    ∙ ap (asked trace.Refused (firstOf (checkRows how Read xs n))) (on-trace (trace.Refused noTrace) (λ k. trace.Is (traceBlockOf (highFirst f) f k)) z (countOf f))
+    ∙ ap (asked trace.Refused (firstOf (checkRows how Read xs n)))
+    (on-trace (trace.Refused noTrace) (λ k. trace.Is (traceBlockOf (highFirst f) f k)) z (countOf f))
     ∙ sym (one-more trace.Refused (checkRows how Read xs n) (not (isTrace z (countOf f))) (trace.Is (traceBlockOf (highFirst f) f (traceNumber z))))
 
 -- ---- strings
@@ -163,7 +166,8 @@ pub keyword-answers-first : (how : Manner) (xs : List ℕ) (n : ℕ) (z : ℤ) (
 unfolding keywordAnswer
 keyword-answers-first how xs n z key = ap yesOrNo (find-answers-first how xs n z key) ∙ go (firstOf (partAskedRows how xs n z))
   where
-    go : (v : Verdict) → yesOrNo (asked string.Refused v (there (foundAsked how (take n xs) z key))) ≡ asked keyword.Refused v (yesOrNo (there (foundAsked how (take n xs) z key)))
+    go : (v : Verdict) → yesOrNo (asked string.Refused v (there (foundAsked how (take n xs) z key))) ≡ asked keyword.Refused v
+        (yesOrNo (there (foundAsked how (take n xs) z key)))
     go Accepted = refl
     go (Refused r) = refl
 
@@ -193,17 +197,20 @@ made-first how bad g xs n z key =
     go Accepted (Is s) = refl
 
 pub number-answers-first : (how : Manner) (xs : List ℕ) (n : ℕ) (z : ℤ) (key : List ℕ)
-    → numberAnswer how xs n z key ≡ asked number.Refused (firstOf (partAskedRows how xs n z)) (numberIn (valueFound (take n xs) (foundAsked how (take n xs) z key)))
+    → numberAnswer how xs n z key ≡ asked number.Refused (firstOf (partAskedRows how xs n z))
+    (numberIn (valueFound (take n xs) (foundAsked how (take n xs) z key)))
 unfolding numberAnswer
 number-answers-first how = made-first how number.Refused numberIn
 
 pub double-answers-first : (how : Manner) (xs : List ℕ) (n : ℕ) (z : ℤ) (key : List ℕ)
-    → doubleAnswer how xs n z key ≡ asked double.Refused (firstOf (partAskedRows how xs n z)) (doubleOf (valueFound (take n xs) (foundAsked how (take n xs) z key)))
+    → doubleAnswer how xs n z key ≡ asked double.Refused (firstOf (partAskedRows how xs n z))
+    (doubleOf (valueFound (take n xs) (foundAsked how (take n xs) z key)))
 unfolding doubleAnswer
 double-answers-first how = made-first how double.Refused doubleOf
 
 pub location-answers-first : (how : Manner) (xs : List ℕ) (n : ℕ) (z : ℤ) (key : List ℕ)
-    → locationAnswer how xs n z key ≡ asked location.Refused (firstOf (partAskedRows how xs n z)) (locationOf (valueFound (take n xs) (foundAsked how (take n xs) z key)))
+    → locationAnswer how xs n z key ≡ asked location.Refused (firstOf (partAskedRows how xs n z))
+    (locationOf (valueFound (take n xs) (foundAsked how (take n xs) z key)))
 unfolding locationAnswer
 location-answers-first how = made-first how location.Refused locationOf
 

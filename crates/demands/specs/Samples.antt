@@ -86,8 +86,11 @@ pub samples-by-format : (high : Bool) (block : List ℕ) (i : ℕ) → Bytes blo
 unfolding sampleOf patternOf width groupSample exponentIn
 samples-by-format high block i by = (
   λ n q. rw (← q) (twos-plus 32768 n, λ l. (let s = word-small 2 high block (2 * i) by in twos-minus 32768 n l (omega arith) ∙ minus-is 65536 n (omega arith))),
-  λ n q. rw (← q)
-      (twos-plus 2147483648 n, λ l. (let s = word-small 4 high block (4 * i) by in twos-minus 2147483648 n l (omega arith) ∙ minus-is 4294967296 n (omega arith))),
+  λ n q. rw (← q) (
+    twos-plus 2147483648 n,
+    λ l. (let s = word-small 4 high block (4 * i) by in twos-minus 2147483648 n l (omega arith)
+        ∙ minus-is 4294967296 n (omega arith)),
+  ),
   λ e m q r.
       (let g : i / 4 * 10 ≡ 10 * (i / 4) = omega arith in
       let w : 10 * (i / 4) + 2 * (i % 4 + 1) ≡ 10 * (i / 4) + 2 + 2 * (i % 4) = omega arith in

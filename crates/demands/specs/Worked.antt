@@ -102,6 +102,34 @@ table =
 
 -- Rules out a library that is right in its laws and wrong in a constant.
 pub worked-values : AllHold table
-unfolding AllHold CaseHolds table row-of lowFirst valueOf wordAt lowBytes bytesOf needed width samples.valuesFrom patternOf twos exponentIn ones scaled groupSample sampleOf integersThere integersRead firstFrom unfitInteger unfitIntegers smallest exponentOf mantissaOf onesBits exponentsOf wordsOf groupBytes groups filledUp integersData samplesVerdict fitting unfit numberIn partsOf judged decimalOf powerOf value worth past has run
-worked-values =
-    (refl, (refl, (refl, (refl, (refl, ((refl, refl), (refl, (refl, ((refl, refl), ((refl, refl), (refl, (refl, (refl, (refl, (refl, (refl, (refl, (refl, (refl, tt)))))))))))))))))))
+unfolding AllHold CaseHolds table row-of lowFirst valueOf wordAt lowBytes bytesOf needed width samples.valuesFrom patternOf twos exponentIn ones
+    scaled groupSample sampleOf integersThere integersRead firstFrom unfitInteger unfitIntegers smallest exponentOf mantissaOf onesBits exponentsOf
+    wordsOf groupBytes groups filledUp integersData samplesVerdict fitting unfit numberIn partsOf judged decimalOf powerOf value worth past has run
+worked-values = (
+  refl,
+  (
+    refl,
+    (
+      refl,
+      (
+        refl,
+        (
+          refl,
+          (
+            (refl, refl),
+            (
+              refl,
+              (
+                refl,
+                (
+                  (refl, refl),
+                  ((refl, refl), (refl, (refl, (refl, (refl, (refl, (refl, (refl, (refl, (refl, tt)))))))))),
+                ),
+              ),
+            ),
+          ),
+        ),
+      ),
+    ),
+  ),
+)

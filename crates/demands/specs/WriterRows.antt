@@ -71,7 +71,8 @@ lines-first (suc m) prev s at =
     let next : ℕ → ℕ → Verdict = λ i w. checkFrom m (take w s) (drop (i + 1) s) (at + i + 1) in
     let more : List Verdict = linesRows m (take (lineKeyLen l) s) (drop (lineLen s + 1) s) (at + lineLen s + 1) in
     pick-first (eqb (length s) 0) _ _
-    (line-first (leb (length s) (lineLen s)) prev l at (lineLen s) next more (lines-first m (take (lineKeyLen l) s) (drop (lineLen s + 1) s) (at + lineLen s + 1)))
+    (line-first (leb (length s) (lineLen s)) prev l at (lineLen s) next more
+    (lines-first m (take (lineKeyLen l) s) (drop (lineLen s + 1) s) (at + lineLen s + 1)))
 
 -- a sheet's rows, and else what comes behind them
 sheet-first : (t u s : List ℕ) (more : Written) → onMeasured (measuredOf t u s) more ≡ asked written.Refused (firstOf (sheetRows t u s)) more
@@ -96,9 +97,11 @@ startRows xs order slots sheet =
     ∷ (sheetRows nul lineFeed sheet ++ (row (ltb (length xs) (startSize slots sheet) || ltb maximum (startSize slots sheet)) NoRoom File 0 ∷ []))
 
 -- the last row, and else the length
-room-first : (w : Bool) (end : ℕ) → pick w (written.Refused (refusal NoRoom File 0)) (written.To end) ≡ asked written.Refused (firstOf (row w NoRoom File 0 ∷ [])) (written.To end)
+room-first : (w : Bool) (end : ℕ) → pick w (written.Refused (refusal NoRoom File 0)) (written.To end) ≡ asked written.Refused
+    (firstOf (row w NoRoom File 0 ∷ [])) (written.To end)
 room-first w end =
-    sym (asked-row written.Refused w NoRoom File 0 [] (written.To end) ∙ ap (λ (v : Written). pick w (written.Refused (refusal NoRoom File 0)) v) (asked-none written.Refused (written.To end)))
+    sym (asked-row written.Refused w NoRoom File 0 [] (written.To end)
+    ∙ ap (λ (v : Written). pick w (written.Refused (refusal NoRoom File 0)) v) (asked-none written.Refused (written.To end)))
 
 -- Rules out a start that refuses a list it could take, or takes one that it must refuse, or answers another length.
 pub start-answers-first : (xs : List ℕ) (order slots : ℕ) (sheet : List ℕ)
@@ -131,7 +134,8 @@ samples-first bad i [] = sym first-nothing
 samples-first bad i (z ∷ zs) = go (bad z) (samples-first bad (i + 1) zs)
   where
     go : (w : Bool) → onFit (firstFrom bad (i + 1) zs) ≡ firstOf (sampleRows bad (i + 1) zs)
-        → onFit (cond w (Rattle.encode.specs.declared.Fit.the-variants.At i) (firstFrom bad (i + 1) zs)) ≡ firstOf (row w SampleRange File i ∷ sampleRows bad (i + 1) zs)
+        → onFit (cond w (Rattle.encode.specs.declared.Fit.the-variants.At i) (firstFrom bad (i + 1) zs))
+        ≡ firstOf (row w SampleRange File i ∷ sampleRows bad (i + 1) zs)
     go true h = sym (first-row true SampleRange File i (sampleRows bad (i + 1) zs))
     go false h = h ∙ sym (first-row false SampleRange File i (sampleRows bad (i + 1) zs))
 
@@ -153,7 +157,8 @@ addRows xs n x =
 -- the steps of the definition, one behind the other
 steps : (c : Verdict) (s : Bool) (m : Rattle.sheet.specs.declared.Measured.Measured) (k : Bool) (f : Verdict) (w more : Written)
     → onMeasured m (pick k (written.Refused (refusal EntryCode File 0)) (asked written.Refused f w)) ≡ more
-    → onMeasured (asked measured.Refused c (pick s (measured.Refused (refusal NoSlot File 0)) m)) (asked written.Refused (pick k (Refused (refusal EntryCode File 0)) f) w)
+    → onMeasured (asked measured.Refused c (pick s (measured.Refused (refusal NoSlot File 0)) m))
+    (asked written.Refused (pick k (Refused (refusal EntryCode File 0)) f) w)
     ≡ asked written.Refused c (pick s (written.Refused (refusal NoSlot File 0)) more)
 steps (Refused r) s m k f w more h = refl
 steps Accepted true m k f w more h = refl
@@ -179,15 +184,18 @@ addition-answers-first xs n x =
     let slot : Bool = noSlot (roomOf f) (countOf f) in
     let within : Written = pick full (written.Refused (refusal NoRoom File 0)) new in
     let tail : asked written.Refused (firstOf (ss ++ (row kind EntryCode File 0 ∷ (us ++ last)))) new
-    ≡ onMeasured (measuredOf (stringEnd f) (lineEnd f) (x .sheet)) (pick kind (written.Refused (refusal EntryCode File 0)) (asked written.Refused (firstOf us) within)) =
+    ≡ onMeasured (measuredOf (stringEnd f) (lineEnd f) (x .sheet))
+    (pick kind (written.Refused (refusal EntryCode File 0)) (asked written.Refused (firstOf us) within)) =
     asked-more written.Refused ss (row kind EntryCode File 0 ∷ (us ++ last)) new
     ∙ ap (asked written.Refused (firstOf ss))
     (asked-row written.Refused kind EntryCode File 0 (us ++ last) new
     ∙ ap (λ (v : Written). pick kind (written.Refused (refusal EntryCode File 0)) v)
     (asked-more written.Refused us last new ∙ ap (asked written.Refused (firstOf us)) (sym (room-first full end))))
-    ∙ sym (sheet-first (stringEnd f) (lineEnd f) (x .sheet) (pick kind (written.Refused (refusal EntryCode File 0)) (asked written.Refused (firstOf us) within))) in
+    ∙ sym (sheet-first (stringEnd f) (lineEnd f) (x .sheet) (pick kind (written.Refused (refusal EntryCode File 0))
+    (asked written.Refused (firstOf us) within))) in
     rw (check-answers-first Strict Grow xs n, unfit-first (x .code) (x .samples))
     (steps (firstOf (checkRows Strict Grow xs n)) slot (measuredOf (stringEnd f) (lineEnd f) (x .sheet)) kind (firstOf us) within _ (sym tail)
     ∙ sym
     (asked-more written.Refused (checkRows Strict Grow xs n) (row slot NoSlot File 0 ∷ (ss ++ (row kind EntryCode File 0 ∷ (us ++ last)))) new
-    ∙ ap (asked written.Refused (firstOf (checkRows Strict Grow xs n))) (asked-row written.Refused slot NoSlot File 0 (ss ++ (row kind EntryCode File 0 ∷ (us ++ last))) new)))
+    ∙ ap (asked written.Refused (firstOf (checkRows Strict Grow xs n)))
+    (asked-row written.Refused slot NoSlot File 0 (ss ++ (row kind EntryCode File 0 ∷ (us ++ last))) new)))

@@ -113,7 +113,8 @@ scaled-once true c (suc k) h l =
     ∙ ap₂ (round binary64 false) (mul-one c) (one-mul (10 ^ suc k)))
 scaled-once false c (suc k) h l =
     rw (eqb·suc-zero k)
-    (mul-once binary64 (exact c) (exact (10 ^ suc k)) false false c (10 ^ suc k) 1 1 (omega arith) (omega arith) (whole-exact (pos c) (omega arith)) (ten-exact (suc k) l))
+    (mul-once binary64 (exact c) (exact (10 ^ suc k)) false false c (10 ^ suc k) 1 1 (omega arith) (omega arith) (whole-exact (pos c) (omega arith))
+    (ten-exact (suc k) l))
 
 numerator-is : (z : ℤ) (c : ℕ) → pick (ltZ z (pos 0)) c (c * 10 ^ natAbs z) ≡ c * 10 ^ raise z
 numerator-is (pos k) c = rw (le-ltb k 0 (omega arith))

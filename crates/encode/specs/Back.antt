@@ -29,7 +29,8 @@ use Rattle.encode.specs.declared.Fit.the-variants.{All}
 -- ---- how long the data block is
 
 -- the data block of a row is as long as the room that its code and count ask for
-pub length-integersData : (code : ℕ) (high : Bool) (row : List ℤ) → integersAsked code (length row) ≡ true → length (integersData code high row) ≡ room code (length row)
+pub length-integersData : (code : ℕ) (high : Bool) (row : List ℤ) → integersAsked code (length row) ≡ true
+    → length (integersData code high row) ≡ room code (length row)
 unfolding integersData room needed fixedBytes
 length-integersData zero high row a = never a
 length-integersData (suc zero) high row a =
@@ -67,7 +68,8 @@ pub bits-written-there : (code : ℕ) (high : Bool) (row old classes : List ℕ)
     → bitsThere code (length old) (length classes) (bitsData code high row) ≡ true
 unfolding room
 bits-written-there code high row old classes a l m =
-    rw (l, m) (bits-there code (length row) (length row) (bitsData code high row) a refl (rw (length-bitsData code high row a) (round4-up (needed code (length row)))))
+    rw (l, m) (bits-there code (length row) (length row) (bitsData code high row) a refl
+    (rw (length-bitsData code high row a) (round4-up (needed code (length row)))))
 
 -- ---- a word among words of the same width
 
@@ -188,7 +190,8 @@ bits-back (suc (suc (suc (suc (suc (suc code)))))) high row a h = never a
 pub bits-read-back : (code : ℕ) (high : Bool) (row old classes : List ℕ) → bitsAsked code ≡ true
     → ((k : ℕ) → k < length row → getD row k 0 < 256 ^ width code) → length old ≡ length row → length classes ≡ length row
     → (bitsThere code (length old) (length classes) (bitsData code high row) ≡ true)
-    × ((patternsRead code high (bitsData code high row) old classes ≡ row) × (classesRead code high (bitsData code high row) old classes ≡ map (classOf code) row))
+    × ((patternsRead code high (bitsData code high row) old classes ≡ row)
+    × (classesRead code high (bitsData code high row) old classes ≡ map (classOf code) row))
 bits-read-back code high row old classes a h l m =
     let t = bits-written-there code high row old classes a l m in
     let b : row ≡ valuesFrom (patternOf code high (bitsData code high row)) 0 (length old) = sym (ap (valuesFrom _ 0) l ∙ bits-back code high row a h) in

@@ -114,7 +114,8 @@ cut-exact (pos n) h = kept-pos n (small-whole n h)
 cut-exact (negsuc n) h = kept-neg (suc n) (small-whole (suc n) h)
 
 -- every value that code 3 can say, it can write: an exponent and a mantissa say a number that fits and is kept
-said-whole : (t e : ℕ) → t ≤ mantissaMost → e < 16 → (t * 2 ^ e / 2 ^ smallest 15 0 (t * 2 ^ e) * 2 ^ smallest 15 0 (t * 2 ^ e) ≡ t * 2 ^ e) × (t * 2 ^ e < 1073741824)
+said-whole : (t e : ℕ) → t ≤ mantissaMost → e < 16 → (t * 2 ^ e / 2 ^ smallest 15 0 (t * 2 ^ e) * 2 ^ smallest 15 0 (t * 2 ^ e) ≡ t * 2 ^ e)
+    × (t * 2 ^ e < 1073741824)
 said-whole t e h k =
     let n = t * 2 ^ e in
     let small : n < 1073741824 = lt-of-lt-of-le (shl-lt {a = t} 15 e (omega arith)) (pow-mono {i = 15 + e} {j = 30} (omega arith)) in
@@ -123,7 +124,8 @@ said-whole t e h k =
     let d : n / 2 ^ e ≡ t = shl-shr t e in
     let l : x ≤ e = no-less n e x (omega arith) (r .0 .least) in
     let s : e - x + x ≡ e = omega arith in
-    let w : n ≡ t * 2 ^ (e - x) * 2 ^ x = ap (λ (j : ℕ). t * 2 ^ j) (sym s) ∙ ap (λ (p : ℕ). t * p) (pow-add 2 (e - x) x) ∙ sym (mul-assoc t (2 ^ (e - x)) (2 ^ x)) in
+    let w : n ≡ t * 2 ^ (e - x) * 2 ^ x = ap (λ (j : ℕ). t * 2 ^ j) (sym s) ∙ ap (λ (p : ℕ). t * p) (pow-add 2 (e - x) x)
+    ∙ sym (mul-assoc t (2 ^ (e - x)) (2 ^ x)) in
     (ap (λ (m : ℕ). m / 2 ^ x * 2 ^ x) w ∙ ap (λ (m : ℕ). m * 2 ^ x) (shl-shr (t * 2 ^ (e - x)) x) ∙ sym w, small)
 
 pub said-kept : (e m : ℕ) → e < 16 → m < 65536 → (cut (scaled e m) ≡ scaled e m) × (natAbs (scaled e m) < 1073741824)
@@ -258,7 +260,8 @@ exponent-out a b c d ha hb hc hd =
 
 -- four samples, their words, and what is kept of them
 words-back : (a b c d : ℤ) (k : ℕ) → natAbs a < 1073741824 → natAbs b < 1073741824 → natAbs c < 1073741824 → natAbs d < 1073741824 → k < 4
-    → scaled (exponentIn (exponentsOf a b c d) k) (getD (onesBits (mantissaOf a) ∷ onesBits (mantissaOf b) ∷ onesBits (mantissaOf c) ∷ onesBits (mantissaOf d) ∷ []) k 0)
+    → scaled (exponentIn (exponentsOf a b c d) k) (getD (onesBits (mantissaOf a) ∷ onesBits (mantissaOf b) ∷ onesBits (mantissaOf c) ∷ onesBits
+    (mantissaOf d) ∷ []) k 0)
     ≡ cut (getD (a ∷ b ∷ c ∷ d ∷ []) k (pos 0))
 words-back a b c d zero ha hb hc hd l = rw (exponent-out a b c d ha hb hc hd .0 .0) (coded-back a ha)
 words-back a b c d (suc zero) ha hb hc hd l = rw (exponent-out a b c d ha hb hc hd .0 .1) (coded-back b hb)
@@ -268,7 +271,8 @@ words-back a b c d (suc (suc (suc (suc k)))) ha hb hc hd l = absurd (omega arith
 
 -- sample k of group g of a row
 of-group : (row : List ℤ) (g k : ℕ) → k < 4
-    → getD (getD row (4 * g) (pos 0) ∷ getD row (4 * g + 1) (pos 0) ∷ getD row (4 * g + 2) (pos 0) ∷ getD row (4 * g + 3) (pos 0) ∷ []) k (pos 0) ≡ getD row (4 * g + k) (pos 0)
+    → getD (getD row (4 * g) (pos 0) ∷ getD row (4 * g + 1) (pos 0) ∷ getD row (4 * g + 2) (pos 0) ∷ getD row (4 * g + 3) (pos 0) ∷ []) k (pos 0)
+    ≡ getD row (4 * g + k) (pos 0)
 of-group row g zero l = let e : 4 * g + 0 ≡ 4 * g = omega arith in rw e
 of-group row g (suc zero) l = refl
 of-group row g (suc (suc zero)) l = refl
@@ -311,5 +315,6 @@ floats-read-back high row old w h l =
     whole = run-of (sampleOf 3 high (integersData 3 high row)) cut (pos 0) row (λ i k. floats-back high row i w h k)
 
 -- so a row that was read under code 3 is written and read back as it was
-pub floats-kept : (high : Bool) (block : List ℕ) (n : ℕ) → Bytes block → map cut (valuesFrom (sampleOf 3 high block) 0 n) ≡ valuesFrom (sampleOf 3 high block) 0 n
+pub floats-kept : (high : Bool) (block : List ℕ) (n : ℕ) → Bytes block
+    → map cut (valuesFrom (sampleOf 3 high block) 0 n) ≡ valuesFrom (sampleOf 3 high block) 0 n
 floats-kept high block n b = sym (run-map cut (sampleOf 3 high block) 0 n) ∙ run-same _ _ 0 n (λ k p q. sample-kept high block k b .0)

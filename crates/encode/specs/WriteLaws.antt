@@ -249,7 +249,8 @@ pub write-turn : {left : ℕ → List ℕ} {w : ℕ} {old : List ℕ} {i : ℕ} 
     → Writing left w old i part → left i ≡ bs ++ left (i + 1) → length bs ≡ w → new ≡ put part (w * i) bs → Writing left w old (i + 1) new
 write-turn {left} {w} {old} {i} {part} {new} bs r e l q =
     let m : w * (i + 1) ≡ w * i + length bs = mul-add w i 1 ∙ ap₂ _+_ refl (mul-one w ∙ sym l) in
-    let s : put (put part (w * i) bs) (w * i + length bs) (left (i + 1)) ≡ put part (w * i) (left i) = sym (ap (put part (w * i)) e ∙ put-append bs (left (i + 1)) part (w * i)) in
+    let s : put (put part (w * i) bs) (w * i + length bs) (left (i + 1)) ≡ put part (w * i) (left i) =
+    sym (ap (put part (w * i)) e ∙ put-append bs (left (i + 1)) part (w * i)) in
     record {
       long = ap length q ∙ length-put part (w * i) bs ∙ r .long;
       rest = ap₂ (λ (p : List ℕ) (k : ℕ). put p k (left (i + 1))) q m ∙ s ∙ r .rest;

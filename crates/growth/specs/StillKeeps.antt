@@ -54,7 +54,8 @@ texts-more high t (s ∷ ss) end zs =
     ∙ ap (λ (r : List ℕ). textOf s ++ r)
     (append-assoc t (texts high t ss end) zs ∙ ap (λ (r : List ℕ). t ++ r) (texts-more high t ss end zs)))
 
-pub spells-more : {high : Bool} {t u : List ℕ} {ss : List Str} {l : List ℕ} (zs : List ℕ) → Spells Strict high t u ss l → 0 < length l → Spells Strict high t u ss (l ++ zs)
+pub spells-more : {high : Bool} {t u : List ℕ} {ss : List Str} {l : List ℕ} (zs : List ℕ) → Spells Strict high t u ss l → 0 < length l
+    → Spells Strict high t u ss (l ++ zs)
 spells-more zs empty h = absurd (omega arith)
 spells-more {high} {t} zs (full {ss} (mark rest) r) h =
     rw (texts-more high t ss (markedEnd high rest) zs, append-assoc (bytesOf 2 high 0) rest zs) (full (mark (rest ++ zs)) r)
@@ -203,8 +204,14 @@ module _ {f g : List ℕ} {x : Trace} (w : Grows f g x) where
           some = λ (e : countOf g ≡ 0). absurd (omega arith);
           count = rw (c, room-kept w) (omega (arith, w .slot));
           string-end =
-              record { size = rw (size-kept w 8 (omega arith) (omega arith)) (o .string-end .size); characters = rw (string-end-kept w) (o .string-end .characters) };
-          line-end = record { size = rw (size-kept w 11 (omega arith) (omega arith)) (o .line-end .size); characters = rw (line-end-kept w) (o .line-end .characters) };
+              record {
+                size = rw (size-kept w 8 (omega arith) (omega arith)) (o .string-end .size);
+                characters = rw (string-end-kept w) (o .string-end .characters);
+              };
+          line-end = record {
+            size = rw (size-kept w 11 (omega arith) (omega arith)) (o .line-end .size);
+            characters = rw (line-end-kept w) (o .line-end .characters);
+          };
           ends-apart = rw (string-end-kept w, line-end-kept w) (o .ends-apart);
           strings = (s .0, file-spelled-kept (s .1));
         };
@@ -235,6 +242,7 @@ pub grown-kept : {xs : List ℕ} {n : ℕ} {x : Trace} {end : ℕ} → Bytes xs 
 grown-kept by h = grows-keeps (grown-grows by h)
 
 -- so the reader accepts it, and the next addition
-pub grown-accepted : (purpose : Purpose) {xs : List ℕ} {n : ℕ} {x : Trace} {end : ℕ} → Bytes xs → Added xs n x end → checkOf Strict purpose (grown xs n x) end ≡ Accepted
+pub grown-accepted : (purpose : Purpose) {xs : List ℕ} {n : ℕ} {x : Trace} {end : ℕ} → Bytes xs → Added xs n x end
+    → checkOf Strict purpose (grown xs n x) end ≡ Accepted
 grown-accepted purpose {xs} {n} {x} {end} by h =
     keeps-accepted Strict purpose (grown xs n x) end (rw (length-grown h) (h .in-buffer)) (keeps-any purpose (grown-kept by h))

@@ -214,7 +214,8 @@ module _ {xs : List ℕ} {n : ℕ} {x : Trace} {end : ℕ} (by : Bytes xs) (h : 
       let w = grown-grows by h in
       rw (still, taken) (on-area w (file-some xs n taken) _ _ _ (λ a e r. ap there (find-kept w r key)) z o)
 
-  pub keyword-answer-kept : (z : ℤ) (key : List ℕ) → Old z (countOf (take n xs)) → keywordAnswer Strict (grown xs n x) end z key ≡ keywordAnswer Strict xs n z key
+  pub keyword-answer-kept : (z : ℤ) (key : List ℕ) → Old z (countOf (take n xs))
+      → keywordAnswer Strict (grown xs n x) end z key ≡ keywordAnswer Strict xs n z key
   unfolding keywordAnswer
   keyword-answer-kept z key o = rw (find-answer-kept z key o)
 
@@ -227,7 +228,8 @@ module _ {xs : List ℕ} {n : ℕ} {x : Trace} {end : ℕ} (by : Bytes xs) (h : 
       rw (still, taken)
       (value-on g (areaAsked g z) noTrace _
       ∙ on-area w (file-some xs n taken) [] _ _
-      (λ a e r. found-value g (findOf Strict g (placesIn Strict g a e) key) ∙ value-kept w r key ∙ sym (found-value f (findOf Strict f (placesIn Strict f a e) key))) z o
+      (λ a e r. found-value g (findOf Strict g (placesIn Strict g a e) key) ∙ value-kept w r key
+      ∙ sym (found-value f (findOf Strict f (placesIn Strict f a e) key))) z o
       ∙ sym (value-on f (areaAsked f z) noTrace _))
 
   pub number-answer-kept : (z : ℤ) (key : List ℕ) → Old z (countOf (take n xs)) → numberAnswer Strict (grown xs n x) end z key ≡ numberAnswer Strict xs n z key
@@ -238,7 +240,8 @@ module _ {xs : List ℕ} {n : ℕ} {x : Trace} {end : ℕ} (by : Bytes xs) (h : 
   unfolding doubleAnswer
   double-answer-kept z key o = rw (find-answer-kept z key o, value-answer-kept z key o)
 
-  pub location-answer-kept : (z : ℤ) (key : List ℕ) → Old z (countOf (take n xs)) → locationAnswer Strict (grown xs n x) end z key ≡ locationAnswer Strict xs n z key
+  pub location-answer-kept : (z : ℤ) (key : List ℕ) → Old z (countOf (take n xs))
+      → locationAnswer Strict (grown xs n x) end z key ≡ locationAnswer Strict xs n z key
   unfolding locationAnswer
   location-answer-kept z key o = rw (find-answer-kept z key o, value-answer-kept z key o)
 
@@ -261,13 +264,15 @@ module _ {xs : List ℕ} {n : ℕ} {x : Trace} {end : ℕ} (by : Bytes xs) (h : 
       let w = grown-grows by h in
       rw (integers-answer-kept z (length row) o, samples-kept w (traceNumber z) (number-old w (file-some xs n taken) z o))
 
-  pub patterns-left-kept : (z : ℤ) (row classes : List ℕ) → Old z (countOf (take n xs)) → patternsLeft Strict (grown xs n x) end z row classes ≡ patternsLeft Strict xs n z row classes
+  pub patterns-left-kept : (z : ℤ) (row classes : List ℕ) → Old z (countOf (take n xs))
+      → patternsLeft Strict (grown xs n x) end z row classes ≡ patternsLeft Strict xs n z row classes
   unfolding patternsLeft
   patterns-left-kept z row classes o =
       let w = grown-grows by h in
       rw (bits-answer-kept z (length row) (length classes) o, patterns-kept w (traceNumber z) (number-old w (file-some xs n taken) z o))
 
-  pub classes-left-kept : (z : ℤ) (row classes : List ℕ) → Old z (countOf (take n xs)) → classesLeft Strict (grown xs n x) end z row classes ≡ classesLeft Strict xs n z row classes
+  pub classes-left-kept : (z : ℤ) (row classes : List ℕ) → Old z (countOf (take n xs))
+      → classesLeft Strict (grown xs n x) end z row classes ≡ classesLeft Strict xs n z row classes
   unfolding classesLeft
   classes-left-kept z row classes o =
       let w = grown-grows by h in
@@ -275,7 +280,8 @@ module _ {xs : List ℕ} {n : ℕ} {x : Trace} {end : ℕ} (by : Bytes xs) (h : 
 
 -- the file's strings after an addition, also after the first, before which the image was no file
 pub strings-answers-kept : {xs : List ℕ} {n : ℕ} {x : Trace} {end : ℕ} {ss : List Str} → Bytes xs → Added xs n x end
-    → Spells Strict (highFirst (take n xs)) (stringEnd (take n xs)) (lineEnd (take n xs)) ss (part (32 + roomOf (take n xs)) (stringsEnd (take n xs)) (take n xs))
+    → Spells Strict (highFirst (take n xs)) (stringEnd (take n xs)) (lineEnd (take n xs)) ss
+    (part (32 + roomOf (take n xs)) (stringsEnd (take n xs)) (take n xs))
     → AnswersBy (grown xs n x) end (negsuc 0) ss
 unfolding whoseOf areaNamed
 strings-answers-kept {xs} {n} {x} {end} {ss} by h s =
@@ -288,8 +294,22 @@ strings-answers-kept {xs} {n} {x} {end} {ss} by h s =
 pub file-answer-grown : {xs : List ℕ} {n : ℕ} {x : Trace} {end : ℕ} → Bytes xs → Added xs n x end
     → fileAnswer Strict (grown xs n x) end
     ≡ file.Is
-    (record { high = highFirst (take n xs); m = roomOf (take n xs); n = countOf (take n xs) + 1; strings = getD (take n xs) 8 0; lines = getD (take n xs) 11 0 })
+    (record {
+      high = highFirst (take n xs);
+      m = roomOf (take n xs);
+      n = countOf (take n xs) + 1;
+      strings = getD (take n xs) 8 0;
+      lines = getD (take n xs) 11 0;
+    })
 unfolding fileAnswer fileBlockOf
 file-answer-grown by h =
     let w = grown-grows by h in
-    rw (grown-accepted Read by h, high-kept w, room-kept w, count-grown w, size-kept w 8 (omega arith) (omega arith), size-kept w 11 (omega arith) (omega arith))
+    rw (
+      grown-accepted Read by h,
+      high-kept w,
+      room-kept w,
+      count-grown w,
+      size-kept w 8 (omega arith) (omega arith),
+      size-kept w 11 (omega arith)
+          (omega arith),
+    )

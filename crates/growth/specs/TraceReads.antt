@@ -114,7 +114,8 @@ module _ {g : List ℕ} {k p : ℕ} {x : Trace} (s : Standing g k p x) where
   count-there : countAt g k ≡ layout.count (x .samples)
   count-there = rw (s .pointer) (s .stands .number)
 
-  spelled-there : Spells Strict (highFirst g) (stringEnd g) (lineEnd g) (sheetStrings (lineEnd g) (x .sheet)) (part (traceAt g k + 32) (dataAt (highFirst g) g (traceAt g k)) g)
+  spelled-there : Spells Strict (highFirst g) (stringEnd g) (lineEnd g) (sheetStrings (lineEnd g) (x .sheet))
+      (part (traceAt g k + 32) (dataAt (highFirst g) g (traceAt g k)) g)
   spelled-there =
       let t = s .stands in
       rw (s .pointer, t .block, t .area) (area-spells (highFirst g) (stringEnd g) (lineEnd g) (x .sheet) (s .size) (s .ends) (s .sized))
@@ -129,7 +130,8 @@ module _ {g : List ℕ} {k p : ℕ} {x : Trace} (s : Standing g k p x) where
   samples-there : samplesOf g k ≡ valuesFrom (sampleOf (x .code) (highFirst g) (samplesData (x .code) (highFirst g) (x .samples))) 0 (layout.count (x .samples))
   samples-there = rw (samples-at g k, code-there, count-there, data-there)
 
-  patterns-there : patternsOf g k ≡ valuesFrom (patternOf (x .code) (highFirst g) (samplesData (x .code) (highFirst g) (x .samples))) 0 (layout.count (x .samples))
+  patterns-there : patternsOf g k ≡ valuesFrom (patternOf (x .code) (highFirst g) (samplesData (x .code) (highFirst g) (x .samples))) 0
+      (layout.count (x .samples))
   patterns-there = rw (patterns-at g k, code-there, count-there, data-there)
 
   classes-there : classesOf g k ≡ map (classOf (x .code)) (patternsOf g k)

@@ -68,7 +68,8 @@ good-other f at h k = rw (ne-eqb _ _ h, ne-eqb _ _ k)
 -- a good terminator has one or two characters
 pub good-length : (f : List ℕ) (at : ℕ) → goodTerminator f at ≡ true → (getD f at 0 ≡ 1) ⊎ (getD f at 0 ≡ 2)
 unfolding goodTerminator
-good-length f at h = go (eqb (getD f at 0) 1) (eqb (getD f at 0) 2) refl refl (both (eqb (getD f at 0) 1 || eqb (getD f at 0) 2) (all control (terminatorAt f at)) h .0)
+good-length f at h = go (eqb (getD f at 0) 1) (eqb (getD f at 0) 2) refl refl
+    (both (eqb (getD f at 0) 1 || eqb (getD f at 0) 2) (all control (terminatorAt f at)) h .0)
   where
     go : (a b : Bool) → eqb (getD f at 0) 1 ≡ a → eqb (getD f at 0) 2 ≡ b → (a || b) ≡ true → (getD f at 0 ≡ 1) ⊎ (getD f at 0 ≡ 2)
     go true b p q k = inl (eqb-true _ _ p)
@@ -184,7 +185,8 @@ headed purpose f e =
       count = rw (room, count) at (ltb-false (roomOf b / 4) (countOf b) (n .1));
       strings = strings;
       lines = lines;
-      apart = rw (own-terminator f 8 (omega arith) strings, own-terminator f 11 (omega arith) lines) at (not-false (Rattle.head.specs.Head.apart (stringEnd b) (lineEnd b)) (u .1));
+      apart = rw (own-terminator f 8 (omega arith) strings, own-terminator f 11 (omega arith) lines) at
+          (not-false (Rattle.head.specs.Head.apart (stringEnd b) (lineEnd b)) (u .1));
       fits = rw room at (ltb-false (length f) (32 + roomOf b) (c .1 .1 .1 .1 .1 .1 .0));
     }
 
@@ -206,7 +208,8 @@ head-accepts purpose f h =
         (
           join-neither _ _ (le-ltb (roomOf b) 4 (rw room (h .room .0))) (ap not (eq-eqb (roomOf b % 4) 0 (rw room (h .room .1)))),
           (
-            join-neither (eqb (countOf b) 0 && not (mayBeEmpty purpose)) (ltb (roomOf b / 4) (countOf b)) (rw (own-count f) free) (le-ltb (roomOf b / 4) (countOf b) (rw (room, own-count f) (h .count))),
+            join-neither (eqb (countOf b) 0 && not (mayBeEmpty purpose)) (ltb (roomOf b / 4) (countOf b)) (rw (own-count f) free)
+                (le-ltb (roomOf b / 4) (countOf b) (rw (room, own-count f) (h .count))),
             (ap not strings, (join-neither _ _ (ap not lines) (ap not ends), (le-ltb (length f) (32 + roomOf b) (rw room (h .fits)), tt))),
           ),
         ),

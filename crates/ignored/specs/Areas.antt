@@ -152,7 +152,8 @@ module _ (high : Bool) (t : List ℕ) where
     where
       go : (w : Frame) → frameOf Strict high t l ≡ w
           → take (readOf w (length l) (λ o. usedFrom m high t (drop o l))) l ≡ take (readOf w (length l) (λ o. usedFrom m high t (drop o l))) r
-          → ((l r : List ℕ) (at : ℕ) → length l ≡ length r → take (usedFrom m high t l) l ≡ take (usedFrom m high t l) r → placesFrom Strict m high t l at ≡ placesFrom Strict m high t r at)
+          → ((l r : List ℕ) (at : ℕ) → length l ≡ length r → take (usedFrom m high t l) l ≡ take (usedFrom m high t l) r
+          → placesFrom Strict m high t l at ≡ placesFrom Strict m high t r at)
           → onText (frameOf Strict high t l) [] (λ o. placeOf t o l at ∷ placesFrom Strict m high t (drop o l) (at + o))
           ≡ onText (frameOf Strict high t r) [] (λ o. placeOf t o r at ∷ placesFrom Strict m high t (drop o r) (at + o))
       go End f q again = rw (f, end-same high t l r n f q)
@@ -161,7 +162,8 @@ module _ (high : Bool) (t : List ℕ) where
       go (Text o) f q again =
           let g = front-same o (o + usedFrom m high t (drop o l)) l r (omega arith) q in
           let b = body-same high t l r n o g in
-          rw (f, text-same high t l r n o f g, b) (ap (λ (ps : List Place). placeOf t o r at ∷ ps) (again (drop o l) (drop o r) (at + o) (drop-long o l r n) (rest-same o (usedFrom m high t (drop o l)) l r q)))
+          rw (f, text-same high t l r n o f g, b) (ap (λ (ps : List Place). placeOf t o r at ∷ ps)
+          (again (drop o l) (drop o r) (at + o) (drop-long o l r n) (rest-same o (usedFrom m high t (drop o l)) l r q)))
 
   -- the same places of an area
   pub places-same : (l r : List ℕ) (at : ℕ) → length l ≡ length r → take (usedOf high t l) l ≡ take (usedOf high t l) r
@@ -175,7 +177,8 @@ SameAt f g [] = Unit {0}
 SameAt f g (s ∷ ss) = ((keyIn f s ≡ keyIn g s) × (valueIn f s ≡ valueIn g s)) × SameAt f g ss
 
 -- a part within the first o bytes of an area
-piece-same : (f g : List ℕ) (at e o i j : ℕ) → at + o ≤ e → j ≤ o → take o (part at e f) ≡ take o (part at e g) → part (at + i) (at + j) f ≡ part (at + i) (at + j) g
+piece-same : (f g : List ℕ) (at e o i j : ℕ) → at + o ≤ e → j ≤ o → take o (part at e f) ≡ take o (part at e g)
+    → part (at + i) (at + j) f ≡ part (at + i) (at + j) g
 piece-same f g at e o i j h k q =
     sym (part-part i j at e f (omega arith)) ∙ part-same i j o (part at e f) (part at e g) k q ∙ part-part i j at e g (omega arith)
 
@@ -205,7 +208,8 @@ module _ (high : Bool) (t f g : List ℕ) where
           → take (readOf w (length (part at e f)) (λ o. usedFrom m high t (drop o (part at e f)))) (part at e f)
           ≡ take (readOf w (length (part at e f)) (λ o. usedFrom m high t (drop o (part at e f)))) (part at e g)
           → ((at e : ℕ) → at ≤ e → e ≤ length f
-          → take (usedFrom m high t (part at e f)) (part at e f) ≡ take (usedFrom m high t (part at e f)) (part at e g) → SameAt f g (placesFrom Strict m high t (part at e f) at))
+          → take (usedFrom m high t (part at e f)) (part at e f) ≡ take (usedFrom m high t (part at e f)) (part at e g)
+          → SameAt f g (placesFrom Strict m high t (part at e f) at))
           → SameAt f g (onText w [] (λ o. placeOf t o (part at e f) at ∷ placesFrom Strict m high t (drop o (part at e f)) (at + o)))
       go End w q again = tt
       go (Broken b) w q again = tt

@@ -41,7 +41,8 @@ module _ (code : ℕ) (high : Bool) (block other : List ℕ) (s : ℕ) (same : t
   samples-same g =
       run-same (sampleOf code high block) (sampleOf code high other) 0 s
       (λ i p l.
-      sym (sample-told code high block s i g (omega arith)) ∙ ap (λ (r : List ℕ). sampleOf code high r i) same ∙ sample-told code high other s i g (omega arith))
+      sym (sample-told code high block s i g (omega arith)) ∙ ap (λ (r : List ℕ). sampleOf code high r i) same
+      ∙ sample-told code high other s i g (omega arith))
 
   pattern-same : (i : ℕ) → i < s → patternOf code high block i ≡ patternOf code high other i
   pattern-same i l = sym (pattern-told code high block s i l) ∙ ap (λ (r : List ℕ). patternOf code high r i) same ∙ pattern-told code high other s i l

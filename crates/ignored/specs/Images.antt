@@ -78,7 +78,8 @@ part-word w a e o f g at h q = sym (word-part w o a e f at h) ∙ ap (λ (l : Li
 
 pub part-long : (a e : ℕ) (f g : List ℕ) → length f ≡ length g → length (part a e f) ≡ length (part a e g)
 part-long a e f g n =
-    length-take (e - a) (drop a f) ∙ ap (λ (k : ℕ). Prim.Native.Nat.min (e - a) k) (length-drop a f ∙ ap (λ (k : ℕ). k - a) n ∙ sym (length-drop a g)) ∙ sym (length-take (e - a) (drop a g))
+    length-take (e - a) (drop a f) ∙ ap (λ (k : ℕ). Prim.Native.Nat.min (e - a) k)
+    (length-drop a f ∙ ap (λ (k : ℕ). k - a) n ∙ sym (length-drop a g)) ∙ sym (length-take (e - a) (drop a g))
 
 -- ---- what the file block says: f and g may be images, or no more than their first 32 bytes
 
@@ -205,7 +206,18 @@ module _ {f g : List ℕ} (a : Alike f g) where
   unfolding blockOf
   same-rows k p t =
       let h : Bool = highFirst f in
-      rw (own-mark h f p, own-size h f p, own-data h f p, own-samples h f p, own-code h f p, own-mark h g p, own-size h g p, own-data h g p, own-samples h g p, own-code h g p)
+      rw (
+        own-mark h f p,
+        own-size h f p,
+        own-data h f p,
+        own-samples h f p,
+        own-code h f p,
+        own-mark h g p,
+        own-size h g p,
+        own-data h g p,
+        own-samples h g p,
+        own-code h g p,
+      )
       (rw (same-mark t, same-block t, same-data t, same-count t, same-code t, a .size))
 
   same-trace : (u : List ℕ) (k prev : ℕ) → k < countOf f

@@ -88,14 +88,16 @@ module _ {f g : List ℕ} (a : Alike f g) where
   unfolding placesIn
   texts-alike x e low fits s = texts-same (highFirst f) (stringEnd f) f g x e low fits s
 
-  find-alike : (x e : ℕ) (key : List ℕ) → x ≤ e → e ≤ length f → AlikeStrings f g x e → findOf Strict f (placesIn Strict f x e) key ≡ findOf Strict g (placesIn Strict g x e) key
+  find-alike : (x e : ℕ) (key : List ℕ) → x ≤ e → e ≤ length f → AlikeStrings f g x e
+      → findOf Strict f (placesIn Strict f x e) key ≡ findOf Strict g (placesIn Strict g x e) key
   find-alike x e key low fits s =
       find-same f g (placesIn Strict f x e) key (texts-alike x e low fits s) ∙ ap (λ (ps : List Place). findOf Strict g ps key) (places-alike x e s)
 
   value-alike : (x e : ℕ) (key : List ℕ) → x ≤ e → e ≤ length f → AlikeStrings f g x e
       → valueFound f (findOf Strict f (placesIn Strict f x e) key) ≡ valueFound g (findOf Strict g (placesIn Strict g x e) key)
   value-alike x e key low fits s =
-      value-same f g (placesIn Strict f x e) key (texts-alike x e low fits s) ∙ ap (λ (ps : List Place). valueFound g (findOf Strict g ps key)) (places-alike x e s)
+      value-same f g (placesIn Strict f x e) key (texts-alike x e low fits s)
+      ∙ ap (λ (ps : List Place). valueFound g (findOf Strict g ps key)) (places-alike x e s)
 
   -- ---- in an accepted image the area of each part lies in it
   module _ (ok : Rattle.image.specs.Image.imageOf Strict Read f ≡ Accepted) where
@@ -176,11 +178,13 @@ module _ (xs ys : List ℕ) (n : ℕ) (fx : n ≤ length xs) (fy : n ≤ length 
 
   pub alike-count : (z : ℤ) → countAnswer Strict xs n z ≡ countAnswer Strict ys n z
   unfolding countAnswer
-  alike-count z = on-check count.Refused _ _ (λ ok. on-area a ok _ _ _ (λ x e low fits s. ap (λ (ps : List Place). count.Is (length ps)) (places-alike a x e s)) z)
+  alike-count z = on-check count.Refused _ _ (λ ok. on-area a ok _ _ _ (λ x e low fits s. ap (λ (ps : List Place). count.Is (length ps))
+      (places-alike a x e s)) z)
 
   pub alike-nth : (z : ℤ) (i : ℕ) → nthAnswer Strict xs n z i ≡ nthAnswer Strict ys n z i
   unfolding nthAnswer
-  alike-nth z i = on-check string.Refused _ _ (λ ok. on-area a ok _ _ _ (λ x e low fits s. ap (λ (ps : List Place). there (nthOf ps i)) (places-alike a x e s)) z)
+  alike-nth z i = on-check string.Refused _ _ (λ ok. on-area a ok _ _ _ (λ x e low fits s. ap (λ (ps : List Place). there (nthOf ps i))
+      (places-alike a x e s)) z)
 
   pub alike-find : (z : ℤ) (key : List ℕ) → findAnswer Strict xs n z key ≡ findAnswer Strict ys n z key
   unfolding findAnswer
@@ -204,7 +208,8 @@ module _ (xs ys : List ℕ) (n : ℕ) (fx : n ≤ length xs) (fy : n ≤ length 
       (λ ok.
       through-area (valueThere f) (areaAsked f z) (string.Refused noTrace) _
       ∙ on-area a ok [] _ _
-      (λ x e low fits s. found-value f (findOf Strict f (placesIn Strict f x e) key) ∙ value-alike a x e key low fits s ∙ sym (found-value g (findOf Strict g (placesIn Strict g x e) key))) z
+      (λ x e low fits s. found-value f (findOf Strict f (placesIn Strict f x e) key) ∙ value-alike a x e key low fits s
+      ∙ sym (found-value g (findOf Strict g (placesIn Strict g x e) key))) z
       ∙ sym (through-area (valueThere g) (areaAsked g z) (string.Refused noTrace) _))
       ∙ sym (through-check (valueThere g) string.Refused (checkOf Strict Read ys n) _)
 
@@ -237,16 +242,19 @@ module _ (xs ys : List ℕ) (n : ℕ) (fx : n ≤ length xs) (fy : n ≤ length 
   unfolding integersLeft
   alike-integers-left z row =
       kept-same _ _ _ _ row (alike-integers z (length row))
-      (λ e. (let k = integers-accepted Strict xs n z (length row) e .0 in rw (k .number) (integers-alike a (checked Strict xs n (k .accepted) .image) (k .k) (k .low))))
+      (λ e. (let k = integers-accepted Strict xs n z (length row) e .0 in
+      rw (k .number) (integers-alike a (checked Strict xs n (k .accepted) .image) (k .k) (k .low))))
 
   pub alike-patterns-left : (z : ℤ) (row classes : List ℕ) → patternsLeft Strict xs n z row classes ≡ patternsLeft Strict ys n z row classes
   unfolding patternsLeft
   alike-patterns-left z row classes =
       kept-same _ _ _ _ row (alike-bits z (length row) (length classes))
-      (λ e. (let k = bits-accepted Strict xs n z (length row) (length classes) e .0 in rw (k .number) (patterns-alike a (checked Strict xs n (k .accepted) .image) (k .k) (k .low))))
+      (λ e. (let k = bits-accepted Strict xs n z (length row) (length classes) e .0 in
+      rw (k .number) (patterns-alike a (checked Strict xs n (k .accepted) .image) (k .k) (k .low))))
 
   pub alike-classes-left : (z : ℤ) (row classes : List ℕ) → classesLeft Strict xs n z row classes ≡ classesLeft Strict ys n z row classes
   unfolding classesLeft
   alike-classes-left z row classes =
       kept-same _ _ _ _ classes (alike-bits z (length row) (length classes))
-      (λ e. (let k = bits-accepted Strict xs n z (length row) (length classes) e .0 in rw (k .number) (classes-alike a (checked Strict xs n (k .accepted) .image) (k .k) (k .low))))
+      (λ e. (let k = bits-accepted Strict xs n z (length row) (length classes) e .0 in
+      rw (k .number) (classes-alike a (checked Strict xs n (k .accepted) .image) (k .k) (k .low))))

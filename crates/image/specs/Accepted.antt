@@ -253,18 +253,21 @@ keeps-image how purpose f h =
     go false e a = let n = eqb-false (countOf f) 0 e in rest-accepts how purpose f h (omega arith)
 
 -- a buffer and a length: accepted exactly where the length is within the buffer and the image keeps the rules
-pub accepted-keeps : (how : Manner) (purpose : Purpose) (xs : List ℕ) (n : ℕ) → Bytes xs → checkOf how purpose xs n ≡ Accepted → (n ≤ length xs) × Keeps how purpose (take n xs)
+pub accepted-keeps : (how : Manner) (purpose : Purpose) (xs : List ℕ) (n : ℕ) → Bytes xs → checkOf how purpose xs n ≡ Accepted → (n ≤ length xs)
+    × Keeps how purpose (take n xs)
 unfolding checkOf
 accepted-keeps how purpose xs n by e = go (badLength (length xs) n) refl e
   where
-    go : (w : Bool) → badLength (length xs) n ≡ w → pick w (refused Length 0) (imageOf how purpose (take n xs)) ≡ Accepted → (n ≤ length xs) × Keeps how purpose (take n xs)
+    go : (w : Bool) → badLength (length xs) n ≡ w → pick w (refused Length 0) (imageOf how purpose (take n xs)) ≡ Accepted → (n ≤ length xs)
+        × Keeps how purpose (take n xs)
     go true q h = absurd (refused-not _ h)
     go false q h =
         let l = long-enough (length xs) n q in
         let s : length (take n xs) ≡ n = length-take-le n xs (l .2) in
         (l .2, image-keeps how purpose (take n xs) (bytes-take n xs by) (omega (arith, l .0)) (omega (arith, l .1)) h)
 
-pub keeps-accepted : (how : Manner) (purpose : Purpose) (xs : List ℕ) (n : ℕ) → n ≤ length xs → Keeps how purpose (take n xs) → checkOf how purpose xs n ≡ Accepted
+pub keeps-accepted : (how : Manner) (purpose : Purpose) (xs : List ℕ) (n : ℕ) → n ≤ length xs → Keeps how purpose (take n xs)
+    → checkOf how purpose xs n ≡ Accepted
 unfolding checkOf
 keeps-accepted how purpose xs n fits h =
     let s : length (take n xs) ≡ n = length-take-le n xs fits in

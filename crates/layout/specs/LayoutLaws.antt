@@ -206,25 +206,29 @@ module _ (high : Bool) (b d s code : ℕ) (rest : List ℕ) where
   pub block-size : b < 65536 → wordAt 2 high (traceBlock high b d s code ++ rest) 2 ≡ b
   block-size h =
       ap (λ (r : List ℕ). wordAt 2 high r 2) pieces
-      ∙ word-among 2 high b (bytesOf 2 high traceMark) (bytesOf 4 high d ++ (bytesOf 4 high s ++ (code ∷ (replicate 19 0 ++ rest)))) 2 (length-bytesOf 2 high traceMark) h
+      ∙ word-among 2 high b (bytesOf 2 high traceMark) (bytesOf 4 high d ++ (bytesOf 4 high s ++ (code ∷ (replicate 19 0 ++ rest)))) 2
+      (length-bytesOf 2 high traceMark) h
 
   pub block-data : d < 4294967296 → wordAt 4 high (traceBlock high b d s code ++ rest) 4 ≡ d
   block-data h =
       ap (λ (r : List ℕ). wordAt 4 high r 4) pieces
-      ∙ word-behind 4 high (bytesOf 2 high traceMark) (bytesOf 2 high b ++ (bytesOf 4 high d ++ (bytesOf 4 high s ++ (code ∷ (replicate 19 0 ++ rest))))) 2 2 (length-bytesOf 2 high traceMark)
+      ∙ word-behind 4 high (bytesOf 2 high traceMark) (bytesOf 2 high b ++ (bytesOf 4 high d
+      ++ (bytesOf 4 high s ++ (code ∷ (replicate 19 0 ++ rest))))) 2 2 (length-bytesOf 2 high traceMark)
       ∙ word-among 4 high d (bytesOf 2 high b) (bytesOf 4 high s ++ (code ∷ (replicate 19 0 ++ rest))) 2 (length-bytesOf 2 high b) h
 
   pub block-count : s < 4294967296 → wordAt 4 high (traceBlock high b d s code ++ rest) 8 ≡ s
   block-count h =
       ap (λ (r : List ℕ). wordAt 4 high r 8) pieces
-      ∙ word-behind 4 high (bytesOf 2 high traceMark) (bytesOf 2 high b ++ (bytesOf 4 high d ++ (bytesOf 4 high s ++ (code ∷ (replicate 19 0 ++ rest))))) 2 6 (length-bytesOf 2 high traceMark)
+      ∙ word-behind 4 high (bytesOf 2 high traceMark) (bytesOf 2 high b ++ (bytesOf 4 high d
+      ++ (bytesOf 4 high s ++ (code ∷ (replicate 19 0 ++ rest))))) 2 6 (length-bytesOf 2 high traceMark)
       ∙ word-behind 4 high (bytesOf 2 high b) (bytesOf 4 high d ++ (bytesOf 4 high s ++ (code ∷ (replicate 19 0 ++ rest)))) 2 4 (length-bytesOf 2 high b)
       ∙ word-among 4 high s (bytesOf 4 high d) (code ∷ (replicate 19 0 ++ rest)) 4 (length-bytesOf 4 high d) h
 
   pub block-code : getD (traceBlock high b d s code ++ rest) 12 0 ≡ code
   block-code =
       ap (λ (r : List ℕ). getD r 12 0) pieces
-      ∙ byte-behind (bytesOf 2 high traceMark) (bytesOf 2 high b ++ (bytesOf 4 high d ++ (bytesOf 4 high s ++ (code ∷ (replicate 19 0 ++ rest))))) 2 10 (length-bytesOf 2 high traceMark)
+      ∙ byte-behind (bytesOf 2 high traceMark) (bytesOf 2 high b ++ (bytesOf 4 high d ++ (bytesOf 4 high s ++ (code ∷ (replicate 19 0 ++ rest))))) 2
+      10 (length-bytesOf 2 high traceMark)
       ∙ byte-behind (bytesOf 2 high b) (bytesOf 4 high d ++ (bytesOf 4 high s ++ (code ∷ (replicate 19 0 ++ rest)))) 2 8 (length-bytesOf 2 high b)
       ∙ byte-behind (bytesOf 4 high d) (bytesOf 4 high s ++ (code ∷ (replicate 19 0 ++ rest))) 4 4 (length-bytesOf 4 high d)
       ∙ byte-behind (bytesOf 4 high s) (code ∷ (replicate 19 0 ++ rest)) 4 0 (length-bytesOf 4 high s)

@@ -33,7 +33,8 @@ mark-word true = refl
 mark-word false = refl
 
 pub file-block-put : (high : Bool) (m : ℕ) (xs : List ℕ)
-    → put (put (put (put (put (put xs 0 (bytesOf 2 high 14933)) 2 (bytesOf 2 high 1)) 4 (bytesOf 2 high m)) 6 (bytesOf 2 high 0)) 8 (1 ∷ 0 ∷ 0 ∷ 1 ∷ 10 ∷ 0 ∷ [])) 14
+    → put (put (put (put (put (put xs 0 (bytesOf 2 high 14933)) 2 (bytesOf 2 high 1)) 4 (bytesOf 2 high m)) 6 (bytesOf 2 high 0)) 8
+    (1 ∷ 0 ∷ 0 ∷ 1 ∷ 10 ∷ 0 ∷ [])) 14
     (replicate 18 0)
     ≡ put xs 0 (fileBlock high m 0)
 unfolding fileBlock
@@ -68,7 +69,8 @@ start-put high slots sheet xs =
 -- ---- the bytes of a trace
 
 pub block-put : (high : Bool) (b d s code : ℕ) (xs : List ℕ)
-    → put (put (put (put (put (put xs 0 (bytesOf 2 high traceMark)) 2 (bytesOf 2 high b)) 4 (bytesOf 4 high d)) 8 (bytesOf 4 high s)) 12 (code ∷ [])) 13 (replicate 19 0)
+    → put (put (put (put (put (put xs 0 (bytesOf 2 high traceMark)) 2 (bytesOf 2 high b)) 4 (bytesOf 4 high d)) 8 (bytesOf 4 high s)) 12 (code ∷ []))
+    13 (replicate 19 0)
     ≡ put xs 0 (traceBlock high b d s code)
 unfolding traceBlock
 block-put high b d s code xs =
@@ -109,7 +111,8 @@ pub head-samples : (high : Bool) (t u : List ℕ) (x : Trace)
     → traceBytes high t u x ≡ headBytes high t u (x .sheet) (x .code) (count (x .samples)) ++ samplesData (x .code) high (x .samples)
 unfolding traceBytes headBytes
 head-samples high t u x =
-    sym (append-assoc (traceBlock high (blockBytes t u x) (dataBytes x) (count (x .samples)) (x .code)) (areaOf high t u (x .sheet)) (samplesData (x .code) high (x .samples)))
+    sym (append-assoc (traceBlock high (blockBytes t u x) (dataBytes x) (count (x .samples)) (x .code)) (areaOf high t u (x .sheet))
+    (samplesData (x .code) high (x .samples)))
 
 -- ---- the samples
 

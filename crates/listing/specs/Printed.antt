@@ -11,6 +11,7 @@ use Rattle.strings.specs.Paper.{spelled-places}
 use Rattle.head.specs.Head.{highFirst, stringEnd, lineEnd}
 use Rattle.listing.specs.Listing.{stringsIn}
 
-pub printed : (f : List ℕ) (a e : ℕ) (ss : List Str) → a ≤ e → e ≤ length f → Spells Strict (highFirst f) (stringEnd f) (lineEnd f) ss (part a e f) → stringsIn f a e ≡ ss
+pub printed : (f : List ℕ) (a e : ℕ) (ss : List Str) → a ≤ e → e ≤ length f → Spells Strict (highFirst f) (stringEnd f) (lineEnd f) ss (part a e f)
+    → stringsIn f a e ≡ ss
 unfolding stringsIn
 printed f a e ss low fits s = spelled-places Strict f (stringEnd f) (lineEnd f) (highFirst f) a e ss low fits s

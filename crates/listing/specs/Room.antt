@@ -108,13 +108,16 @@ strings-few p u f (suc m) high t l at s h = go (frameOf Strict high t l) refl (�
     go (Broken r) e i = omega arith
     go (Text o) e i = let b = place-fits Strict high t l at o e in one-more o (placeOf t o l at) b (i o)
       where
-        one-more : (o : ℕ) (q : Place) → Fits at l q o → length (stringsText p u (strsIn f (placesFrom Strict m high t (drop o l) (at + o)))) ≤ 16 * length (drop o l)
-            → length (linesText p (keyIn f q) (valuesOf u (keyIn f q) (valueIn f q)) ++ stringsText p u (strsIn f (placesFrom Strict m high t (drop o l) (at + o)))) ≤ 16 * length l
+        one-more : (o : ℕ) (q : Place) → Fits at l q o → length (stringsText p u (strsIn f (placesFrom Strict m high t (drop o l) (at + o)))) ≤ 16
+            * length (drop o l)
+            → length (linesText p (keyIn f q) (valuesOf u (keyIn f q) (valueIn f q)) ++ stringsText p u
+            (strsIn f (placesFrom Strict m high t (drop o l) (at + o)))) ≤ 16 * length l
         one-more o q b i =
             let k = part-few (q .key) (q .gap) f in
             let v = part-few (q .value) (q .end) f in
             let x = string-few p u (keyIn f q) (valueIn f q) s h in
-            let a = length-append (linesText p (keyIn f q) (valuesOf u (keyIn f q) (valueIn f q))) (stringsText p u (strsIn f (placesFrom Strict m high t (drop o l) (at + o)))) in
+            let a = length-append (linesText p (keyIn f q) (valuesOf u (keyIn f q) (valueIn f q)))
+            (stringsText p u (strsIn f (placesFrom Strict m high t (drop o l) (at + o)))) in
             let d = length-drop o l in
             let n : 2 + (length (keyIn f q) + length (valueIn f q)) ≤ o = omega (arith, b .key, b .inside .0, b .inside .1, b .inside .2, b .inside .3) in
             omega (arith, b .within, n, x, a, d, i)
@@ -151,9 +154,11 @@ module _ (f : List ℕ) (ok : imageOf Strict Read f ≡ Accepted) (size : 32 ≤
       let q = trace-blocked Strict f ok k low in
       let c = counts .1 in
       let n = needed-low (formatCode f (traceAt f k)) (sampleCount (highFirst f) f (traceAt f k)) (q .code .0) (q .code .1) in
-      let x = trace-line-few k (formatCode f (traceAt f k)) (sampleCount (highFirst f) f (traceAt f k)) (omega arith) (omega (arith, q .code .1)) (omega (arith, n, q .samples, q .data-fits)) in
+      let x = trace-line-few k (formatCode f (traceAt f k)) (sampleCount (highFirst f) f (traceAt f k)) (omega arith) (omega (arith, q .code .1))
+      (omega (arith, n, q .samples, q .data-fits)) in
       let y = area-few (Trace k) (lineEnd f) f (traceAt f k + 32) (dataAt (highFirst f) f (traceAt f k)) (omega arith) (line-some f ok size (lineEnd f) refl) in
-      let a = length-append (traceLine k (formatCode f (traceAt f k)) (sampleCount (highFirst f) f (traceAt f k))) (stringsText (Trace k) (lineEnd f) (stringsIn f (traceAt f k + 32) (dataAt (highFirst f) f (traceAt f k)))) in
+      let a = length-append (traceLine k (formatCode f (traceAt f k)) (sampleCount (highFirst f) f (traceAt f k)))
+      (stringsText (Trace k) (lineEnd f) (stringsIn f (traceAt f k + 32) (dataAt (highFirst f) f (traceAt f k)))) in
       omega (arith, x, y, a, q .least)
 
   -- so many traces from k on, which all stand behind x
@@ -167,7 +172,8 @@ module _ (f : List ℕ) (ok : imageOf Strict Read f ≡ Accepted) (size : 32 ≤
       let t = trace-few k low in
       let y = h (omega arith) in
       let n : endBefore f (k + 1) ≡ traceAt f k + blockSize (highFirst f) f (traceAt f k) + dataSize (highFirst f) f (traceAt f k) = before-next f k in
-      let i = traces-few left (k + 1) (endBefore f (k + 1)) (omega arith) (omega (arith, n, q .data-fits)) (λ (g : 0 < left). trace-pointed Strict f ok (k + 1) (omega arith) .behind) in
+      let i = traces-few left (k + 1) (endBefore f (k + 1)) (omega arith) (omega (arith, n, q .data-fits))
+      (λ (g : 0 < left). trace-pointed Strict f ok (k + 1) (omega arith) .behind) in
       let a = length-append (traceText f k) (tracesText f left (k + 1)) in
       omega (arith, t, i, a, n, y, q .data-fits)
 
@@ -185,9 +191,11 @@ module _ (f : List ℕ) (ok : imageOf Strict Read f ≡ Accepted) (size : 32 ≤
       let em = length-ended (roomOf f) 10 in
       let s = area-few File (lineEnd f) f (32 + roomOf f) (traceAt f 0) tt (line-some f ok size (lineEnd f) refl) in
       let t = traces-front in
-      let a = length-append (headLine (highFirst f) (countOf f) (roomOf f)) (stringsText File (lineEnd f) (stringsIn f (32 + roomOf f) (traceAt f 0)) ++ tracesText f (countOf f) 0) in
+      let a = length-append (headLine (highFirst f) (countOf f) (roomOf f))
+      (stringsText File (lineEnd f) (stringsIn f (32 + roomOf f) (traceAt f 0)) ++ tracesText f (countOf f) 0) in
       let b = length-append (stringsText File (lineEnd f) (stringsIn f (32 + roomOf f) (traceAt f 0))) (tracesText f (countOf f) 0) in
       omega (arith, h, o, n, m, en, em, s, t, a, b, p .behind, p .fits)
     where
       traces-front : length (tracesText f (countOf f) 0) ≤ 16 * (length f - traceAt f 0)
-      traces-front = traces-few (countOf f) 0 (traceAt f 0) (omega arith) (omega (arith, trace-pointed Strict f ok 0 (some-trace Strict f ok) .fits)) (λ (g : 0 < countOf f). omega arith)
+      traces-front = traces-few (countOf f) 0 (traceAt f 0) (omega arith) (omega (arith, trace-pointed Strict f ok 0 (some-trace Strict f ok) .fits))
+          (λ (g : 0 < countOf f). omega arith)

@@ -78,7 +78,8 @@ module _ (f : List ℕ) (ok : imageOf Strict Read f ≡ Accepted) (size : 32 ≤
             (stringsText (Trace k) u (strsIn f (placesOf Strict high t (part (b .p + 32) (b .p + b .b) f) (b .p + 32))))
             (trace-text t u et eu) r ys room w
 
-        pub trace-both : (t u : List ℕ) → t ≡ stringEnd f → u ≡ lineEnd f → (r : ℕ) (ys : List ℕ) (s : ℕ) (zs : List ℕ) → Wrote out at (traceLine k (b .code) (b .s)) r ys
+        pub trace-both : (t u : List ℕ) → t ≡ stringEnd f → u ≡ lineEnd f → (r : ℕ) (ys : List ℕ) (s : ℕ) (zs : List ℕ)
+            → Wrote out at (traceLine k (b .code) (b .s)) r ys
             → Wrote ys r (stringsText (Trace k) u (strsIn f (placesOf Strict high t (part (b .p + 32) (b .p + b .b) f) (b .p + 32)))) s zs
             → Wrote out at (traceText f k) s zs
         trace-both t u et eu r ys s zs w v = both-wrote out at (traceText f k) _ _ (trace-text t u et eu) r ys s zs w v
@@ -112,7 +113,8 @@ module _ (f : List ℕ) (ok : imageOf Strict Read f ≡ Accepted) (size : 32 ≤
 
       module _ (out : List ℕ) (room : Room out 0 (fileText f)) where
         pub file-first : Room out 0 (headLine (b .high) (b .n) (b .m))
-        file-first = first-room out 0 (fileText f) head (strings (stringEnd f) (lineEnd f) ++ tracesText f (b .n) 0) (file-text (stringEnd f) (lineEnd f) refl refl) room
+        file-first = first-room out 0 (fileText f) head (strings (stringEnd f) (lineEnd f) ++ tracesText f (b .n) 0)
+            (file-text (stringEnd f) (lineEnd f) refl refl) room
 
         module _ (t u : List ℕ) (et : t ≡ stringEnd f) (eu : u ≡ lineEnd f) (r : ℕ) (ys : List ℕ) (w : Wrote out 0 head r ys) where
           rest : Room ys r (strings t u ++ tracesText f (b .n) 0)
@@ -121,12 +123,14 @@ module _ (f : List ℕ) (ok : imageOf Strict Read f ≡ Accepted) (size : 32 ≤
           pub file-second : Room ys r (stringsText File u (strsIn f (placesOf Strict (b .high) t (part (32 + b .m) first f) (32 + b .m))))
           file-second = room-front ys r (strings t u) (tracesText f (b .n) 0) rest
 
-          module _ (s : ℕ) (zs : List ℕ) (v : Wrote ys r (stringsText File u (strsIn f (placesOf Strict (b .high) t (part (32 + b .m) first f) (32 + b .m)))) s zs) where
+          module _ (s : ℕ) (zs : List ℕ) (v : Wrote ys r (stringsText File u
+              (strsIn f (placesOf Strict (b .high) t (part (32 + b .m) first f) (32 + b .m)))) s zs) where
             pub file-third : Room zs s (tracesText f (b .n) 0)
             file-third = room-back ys r (strings t u) (tracesText f (b .n) 0) s zs rest v
 
             pub file-all : (q : ℕ) (new : List ℕ) → Wrote zs s (tracesText f (b .n) 0) q new → Wrote out 0 (fileText f) q new
-            file-all q new x = both-wrote out 0 (fileText f) head (strings t u ++ tracesText f (b .n) 0) (file-text t u et eu) r ys q new w (joined ys r (strings t u) (tracesText f (b .n) 0) s zs q new v x)
+            file-all q new x = both-wrote out 0 (fileText f) head (strings t u ++ tracesText f (b .n) 0) (file-text t u et eu) r ys q new w
+                (joined ys r (strings t u) (tracesText f (b .n) 0) s zs q new v x)
 
 -- ---- the answer, where an input prints a text
 pub enough : (input out : List ℕ) → ltb (length out) (roomFor (length input)) ≡ false → roomFor (length input) ≤ length out

@@ -125,7 +125,8 @@ module _ (p : Part) (u f : List ℕ) (high : Bool) (t : List ℕ) (e at m : ℕ)
 
   pub string-none : nthOf (placesOf Strict high t (part at e f) at) 0 ≡ Nothing → textFrom p u f high t e at m ≡ []
   unfolding stringsText placesOf nthOf placesFrom entryOf onText
-  string-none h = ap (λ (ps : List Place). stringsText p u (strsIn f ps)) (sym (place-stop Strict high t f e at m low fits enough (sized (length (part at e f)) (length-part at e f fits) h)))
+  string-none h = ap (λ (ps : List Place). stringsText p u (strsIn f ps))
+      (sym (place-stop Strict high t f e at m low fits enough (sized (length (part at e f)) (length-part at e f fits) h)))
     where
       go : (w : Frame) → (m : ℕ)
           → nthOf (onText w [] (λ o. placeOf t o (part at e f) at ∷ placesFrom Strict m high t (drop o (part at e f)) (at + o))) 0 ≡ Nothing
@@ -140,7 +141,8 @@ module _ (p : Part) (u f : List ℕ) (high : Bool) (t : List ℕ) (e at m : ℕ)
 
 pub strings-over : (p : Part) (u f : List ℕ) (high : Bool) (t : List ℕ) (e at m : ℕ) → e ≤ at → textFrom p u f high t e at m ≡ []
 unfolding stringsText
-strings-over p u f high t e at m h = ap (λ (ps : List Place). stringsText p u (strsIn f ps)) (sym (Rattle.strings.specs.Walks.place-over Strict high t f e at m h))
+strings-over p u f high t e at m h = ap (λ (ps : List Place). stringsText p u (strsIn f ps))
+    (sym (Rattle.strings.specs.Walks.place-over Strict high t f e at m h))
 
 -- ---- the traces
 pub trace-next : (f : List ℕ) (n k : ℕ) → k < n → tracesText f (n - k) k ≡ traceText f k ++ tracesText f (n - (k + 1)) (k + 1)

@@ -36,12 +36,14 @@ pub find-none : (how : Manner) (f : List ℕ) (ss : List Place) (key : List ℕ)
 unfolding findOf
 find-none how f ss key e = rw (sym e)
 
-pub find-here : (how : Manner) (f : List ℕ) (ss : List Place) (s : Place) (rest : List Place) (key : List ℕ) → ss ≡ s ∷ rest → same (named how (keyIn f s)) key ≡ true
+pub find-here : (how : Manner) (f : List ℕ) (ss : List Place) (s : Place) (rest : List Place) (key : List ℕ) → ss ≡ s ∷ rest
+    → same (named how (keyIn f s)) key ≡ true
     → Is s ≡ findOf how f ss key
 unfolding findOf
 find-here how f ss s rest key e h = rw (e, h)
 
-pub find-later : (how : Manner) (f : List ℕ) (ss : List Place) (s : Place) (rest : List Place) (key : List ℕ) → ss ≡ s ∷ rest → same (named how (keyIn f s)) key ≡ false
+pub find-later : (how : Manner) (f : List ℕ) (ss : List Place) (s : Place) (rest : List Place) (key : List ℕ) → ss ≡ s ∷ rest
+    → same (named how (keyIn f s)) key ≡ false
     → findOf how f rest key ≡ findOf how f ss key
 unfolding findOf
 find-later how f ss s rest key e h = rw (e, h)

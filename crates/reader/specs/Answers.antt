@@ -88,11 +88,13 @@ module _ (how : Manner) (xs : List ℕ) (n k : ℕ) (ok : checkOf how Read xs n 
 
 -- ---- a refusal leaves the rows as they were
 
-pub integers-kept : (how : Manner) (xs : List ℕ) (n : ℕ) (z : ℤ) (row : List ℤ) (r : Refusal) → integersAnswer how xs n z (length row) ≡ Refused r → integersLeft how xs n z row ≡ row
+pub integers-kept : (how : Manner) (xs : List ℕ) (n : ℕ) (z : ℤ) (row : List ℤ) (r : Refusal) → integersAnswer how xs n z (length row) ≡ Refused r
+    → integersLeft how xs n z row ≡ row
 unfolding integersLeft
 integers-kept how xs n z row r h = rw h
 
-pub bits-kept : (how : Manner) (xs : List ℕ) (n : ℕ) (z : ℤ) (row classes : List ℕ) (r : Refusal) → bitsAnswer how xs n z (length row) (length classes) ≡ Refused r
+pub bits-kept : (how : Manner) (xs : List ℕ) (n : ℕ) (z : ℤ) (row classes : List ℕ) (r : Refusal)
+    → bitsAnswer how xs n z (length row) (length classes) ≡ Refused r
     → (patternsLeft how xs n z row classes ≡ row) × (classesLeft how xs n z row classes ≡ classes)
 unfolding patternsLeft classesLeft
 bits-kept how xs n z row classes r h = (rw h, rw h)
@@ -111,7 +113,8 @@ asks : (how : Manner) (xs : List ℕ) (n : ℕ) (z : ℤ) (rows : ℕ → Verdic
     → (a : Asks how xs n z) × (rows (a .k) ≡ Accepted)
 asks how xs n z rows h = go (checkOf how Read xs n) refl (whoseOf z (countOf (take n xs))) refl h
   where
-    go : (v : Verdict) → checkOf how Read xs n ≡ v → (w : Whose) → whoseOf z (countOf (take n xs)) ≡ w → asked Refused v (onTrace w (Refused noTrace) rows) ≡ Accepted
+    go : (v : Verdict) → checkOf how Read xs n ≡ v → (w : Whose) → whoseOf z (countOf (take n xs)) ≡ w
+        → asked Refused v (onTrace w (Refused noTrace) rows) ≡ Accepted
         → (a : Asks how xs n z) × (rows (a .k) ≡ Accepted)
     go (Refused r) q w p e = absurd (refused-not r e)
     go Accepted q Whole p e = absurd (refused-not _ e)

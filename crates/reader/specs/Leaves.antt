@@ -37,7 +37,8 @@ pub area-whole : (f : List ℕ) (h : Bool) (m p : ℕ) → h ≡ highFirst f →
 unfolding areaNamed roomOf
 area-whole f h m p e w v = rw (← e, ← w, ← v)
 
-pub area-one : (f : List ℕ) (h : Bool) (k p b : ℕ) → h ≡ highFirst f → p ≡ pointerOf h f k → b ≡ wordAt 2 h f (p + 2) → From (p + 32) (p + b) ≡ areaNamed f (One k)
+pub area-one : (f : List ℕ) (h : Bool) (k p b : ℕ) → h ≡ highFirst f → p ≡ pointerOf h f k → b ≡ wordAt 2 h f (p + 2)
+    → From (p + 32) (p + b) ≡ areaNamed f (One k)
 unfolding areaNamed blockSize
 area-one f h k p b e v w = rw (← e, ← v, ← w)
 
@@ -71,7 +72,8 @@ module _ (how : Manner) (xs : List ℕ) (n : ℕ) (z : ℤ) where
   find-opened key = opened-asked (checkOf how Read xs n) (areaAsked (take n xs) z) _ _
 
 -- a law for each answer, with what the code has in hand
-placed : (how : Manner) (f : List ℕ) (a e : ℕ) (h : Bool) (t : List ℕ) → h ≡ highFirst f → t ≡ stringEnd f → placesOf how h t (part a e f) a ≡ placesIn how f a e
+placed : (how : Manner) (f : List ℕ) (a e : ℕ) (h : Bool) (t : List ℕ) → h ≡ highFirst f → t ≡ stringEnd f
+    → placesOf how h t (part a e f) a ≡ placesIn how f a e
 unfolding placesIn
 placed how f a e h t p q = rw (p, q)
 

@@ -82,7 +82,8 @@ file-lists how xs n by ok =
     let s : Strings how f (32 + roomOf f) (traceAt f 0) = rw z at (accepted-keeps how Read xs n by ok .1 .file .strings) in
     (s .0, record { a = 32 + roomOf f; e = traceAt f 0; area = file-area f; spells = s .1 })
 
-pub trace-lists : (how : Manner) (xs : List ℕ) (n k : ℕ) → Bytes xs → checkOf how Read xs n ≡ Accepted → k < countOf (take n xs) → (ss : List Str) × Lists how (take n xs) (pos k) ss
+pub trace-lists : (how : Manner) (xs : List ℕ) (n k : ℕ) → Bytes xs → checkOf how Read xs n ≡ Accepted → k < countOf (take n xs) → (ss : List Str)
+    × Lists how (take n xs) (pos k) ss
 trace-lists how xs n k by ok l =
     let f : List ℕ = take n xs in
     let s = accepted-keeps how Read xs n by ok .1 .traces k l .strings in
@@ -150,7 +151,8 @@ module _ (how : Manner) (xs : List ℕ) (n : ℕ) (z : ℤ) (ss : List Str) (ok 
 
   many : length places ≡ length ss
   many =
-      spelled-count how (take n xs) (stringEnd (take n xs)) (lineEnd (take n xs)) (highFirst (take n xs)) (l .a) (l .e) ss (reaches .low) (reaches .end) (l .spells)
+      spelled-count how (take n xs) (stringEnd (take n xs)) (lineEnd (take n xs)) (highFirst (take n xs)) (l .a) (l .e) ss (reaches .low)
+      (reaches .end) (l .spells)
 
   -- how many strings
   pub listed-count : countAnswer how xs n z ≡ count.Is (length ss)
@@ -163,7 +165,8 @@ module _ (how : Manner) (xs : List ℕ) (n : ℕ) (z : ℤ) (ss : List Str) (ok 
   pub listed-nth : (i : ℕ) → i < length ss → (s : Place) × (nthAnswer how xs n z i ≡ string.There s) × IsString (take n xs) s (nthStr ss i)
   listed-nth i h =
       let s = nth-some places i (omega (arith, many, h)) in
-      let w = spelled-nth how (take n xs) (stringEnd (take n xs)) (lineEnd (take n xs)) (highFirst (take n xs)) (l .a) (l .e) ss i (reaches .low) (reaches .end) (l .spells) in
+      let w = spelled-nth how (take n xs) (stringEnd (take n xs)) (lineEnd (take n xs)) (highFirst (take n xs)) (l .a) (l .e) ss i (reaches .low)
+      (reaches .end) (l .spells) in
       (s .0, sym (nth-answer i) ∙ ap there (s .1), place-is (take n xs) (nthOf places i) (s .0) (nthStr ss i) (s .1) (w .0) (w .1))
 
   pub listed-past : (i : ℕ) → length ss ≤ i → nthAnswer how xs n z i ≡ string.Absent
@@ -174,9 +177,11 @@ module _ (how : Manner) (xs : List ℕ) (n : ℕ) (z : ℤ) (ss : List Str) (ok 
   find-answer key =
       find-told how xs n z (l .a) (l .e) _ _ opens refl refl key (findOf how (take n xs) places key) (there (findOf how (take n xs) places key)) refl refl
 
-  finds : (key : List ℕ) → (found (findOf how (take n xs) places key) ≡ hasKey how ss key) × (valueFound (take n xs) (findOf how (take n xs) places key) ≡ valueOfKey how ss key)
+  finds : (key : List ℕ) → (found (findOf how (take n xs) places key) ≡ hasKey how ss key)
+      × (valueFound (take n xs) (findOf how (take n xs) places key) ≡ valueOfKey how ss key)
   finds key =
-      spelled-value how (take n xs) (stringEnd (take n xs)) (lineEnd (take n xs)) (highFirst (take n xs)) (l .a) (l .e) ss key (reaches .low) (reaches .end) (l .spells)
+      spelled-value how (take n xs) (stringEnd (take n xs)) (lineEnd (take n xs)) (highFirst (take n xs)) (l .a) (l .e) ss key (reaches .low)
+      (reaches .end) (l .spells)
 
   pub listed-keyword : (key : List ℕ) → keywordAnswer how xs n z key ≡ pick (hasKey how ss key) keyword.Yes keyword.No
   unfolding keywordAnswer

@@ -204,12 +204,14 @@ value-within xs n string.Absent h = refl
 value-within xs n (string.Refused r) h = refl
 
 -- so the value that is found is the answer
-pub value-told : (how : Manner) (xs : List ℕ) (n : ℕ) (z : ℤ) (key : List ℕ) (s : StringAnswer) → s ≡ findAnswer how xs n z key → valueThere xs s ≡ valueAnswer how xs n z key
+pub value-told : (how : Manner) (xs : List ℕ) (n : ℕ) (z : ℤ) (key : List ℕ) (s : StringAnswer) → s ≡ findAnswer how xs n z key
+    → valueThere xs s ≡ valueAnswer how xs n z key
 unfolding valueAnswer
 value-told how xs n z key s e = ap (λ (r : StringAnswer). valueThere xs r) e ∙ value-within xs n (findAnswer how xs n z key) (find-within how xs n z key)
 
 -- where it stands is where the answer stands
-pub span-told : (how : Manner) {b r : RefT (List ℕ)} (xs : List ℕ) (n : ℕ) (z : ℤ) (key : List ℕ) (s : StringAnswer) → s ≡ findAnswer how xs n z key → PartOf b (spanThere s) r
+pub span-told : (how : Manner) {b r : RefT (List ℕ)} (xs : List ℕ) (n : ℕ) (z : ℤ) (key : List ℕ) (s : StringAnswer) → s ≡ findAnswer how xs n z key
+    → PartOf b (spanThere s) r
     → PartOf b (spanAnswer how xs n z key) r
 unfolding spanAnswer
 span-told how xs n z key s e h = rw e at h
@@ -219,7 +221,8 @@ pub value-made : (how : Manner) {A : Type 0} (bad : Refusal → A) (g : List ℕ
     → s ≡ findAnswer how xs n z key → v ≡ valueThere xs s → ((a : A) → onString bad s a ≡ a)
     → g v ≡ onString bad (findAnswer how xs n z key) (g (valueAnswer how xs n z key))
 value-made how bad g xs n z key s v e w k =
-    ap g (w ∙ value-told how xs n z key s e) ∙ sym (k (g (valueAnswer how xs n z key))) ∙ ap (λ (r : StringAnswer). onString bad r (g (valueAnswer how xs n z key))) e
+    ap g (w ∙ value-told how xs n z key s e) ∙ sym (k (g (valueAnswer how xs n z key)))
+    ∙ ap (λ (r : StringAnswer). onString bad r (g (valueAnswer how xs n z key))) e
 
 pub held : (n : ℕ) (s : StringAnswer) (p : Place) → s ≡ string.There p → Within n s → PlaceIn n p
 held n s p e h = rw e at h
@@ -249,7 +252,8 @@ told how xs n z t h = go (checkOf how Read xs n) refl (whoseOf z (countOf (take 
         let s = whose-trace z (countOf (take n xs)) j p in
         record { accepted = q; known = checked how xs n q; k = j; number = s .0; whose = p; low = s .1; block = cc }
 
-block-fits : (how : Manner) (xs : List ℕ) (n k : ℕ) → Checked how xs n → k < countOf (take n xs) → Fits (length (take n xs)) (traceBlockOf (highFirst (take n xs)) (take n xs) k)
+block-fits : (how : Manner) (xs : List ℕ) (n k : ℕ) → Checked how xs n → k < countOf (take n xs)
+    → Fits (length (take n xs)) (traceBlockOf (highFirst (take n xs)) (take n xs) k)
 unfolding traceBlockOf
 block-fits how xs n k c l =
     let b = trace-blocked how (take n xs) (c .image) k l in

@@ -114,7 +114,8 @@ pub first-nothing : firstOf [] ≡ Accepted
 unfolding firstOf
 first-nothing = refl
 
-pub first-row : (test : Bool) (r : Rule) (p : Part) (at : ℕ) (vs : List Verdict) → firstOf (row test r p at ∷ vs) ≡ pick test (Refused (refusal r p at)) (firstOf vs)
+pub first-row : (test : Bool) (r : Rule) (p : Part) (at : ℕ) (vs : List Verdict)
+    → firstOf (row test r p at ∷ vs) ≡ pick test (Refused (refusal r p at)) (firstOf vs)
 unfolding firstOf
 first-row true r p at vs = refl
 first-row false r p at vs = refl

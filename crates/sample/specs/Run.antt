@@ -81,7 +81,8 @@ run-map g f i zero = refl
 run-map g f i (suc n) = ap (λ (r : List _). g (f i) ∷ r) (run-map g f (i + 1) n)
 
 -- a list under a function is the valuesFrom that gives its elements so
-pub run-of : {A B : Type 0} (f : ℕ → B) (g : A → B) (d : A) (xs : List A) → ((i : ℕ) → i < length xs → f i ≡ g (getD xs i d)) → valuesFrom f 0 (length xs) ≡ map g xs
+pub run-of : {A B : Type 0} (f : ℕ → B) (g : A → B) (d : A) (xs : List A) → ((i : ℕ) → i < length xs → f i ≡ g (getD xs i d))
+    → valuesFrom f 0 (length xs) ≡ map g xs
 run-of f g d xs h =
     ext-getD (g d) (valuesFrom f 0 (length xs)) (map g xs) (length-run f 0 (length xs) ∙ sym (length-map xs g))
     (λ i l.

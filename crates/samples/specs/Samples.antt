@@ -105,7 +105,8 @@ module _ (f : List ℕ) (t : TraceBlock) (row classes : List ℕ) where
 -- ---- the questions
 
 -- where the trace is refused, so is every question on it
-trace-refused : (how : Manner) {A : Type 0} (bad : Refusal → A) (some : ℕ → A) (xs : List ℕ) (n : ℕ) (z : ℤ) (r : Refusal) → traceAnswer how xs n z ≡ trace.Refused r
+trace-refused : (how : Manner) {A : Type 0} (bad : Refusal → A) (some : ℕ → A) (xs : List ℕ) (n : ℕ) (z : ℤ) (r : Refusal)
+    → traceAnswer how xs n z ≡ trace.Refused r
     → asked bad (checkOf how Read xs n) (onTrace (whoseOf z (countOf (take n xs))) (bad noTrace) some) ≡ bad r
 unfolding traceAnswer
 trace-refused how bad some xs n z r h = go (checkOf how Read xs n) (whoseOf z (countOf (take n xs))) h
@@ -124,9 +125,11 @@ module _ (how : Manner) (xs : List ℕ) (n : ℕ) (z : ℤ) (r : Refusal) (h : t
   integers-bad row = let e = trace-refused how Refused (λ k. integersVerdict (blockAt (take n xs) k) (length row)) xs n z r h in (sym e, rw e)
 
   pub bits-bad : (row classes : List ℕ)
-      → (Refused r ≡ bitsAnswer how xs n z (length row) (length classes)) × ((row ≡ patternsLeft how xs n z row classes) × (classes ≡ classesLeft how xs n z row classes))
+      → (Refused r ≡ bitsAnswer how xs n z (length row) (length classes))
+      × ((row ≡ patternsLeft how xs n z row classes) × (classes ≡ classesLeft how xs n z row classes))
   unfolding bitsAnswer patternsLeft classesLeft
-  bits-bad row classes = let e = trace-refused how Refused (λ k. bitsVerdict (blockAt (take n xs) k) (length row) (length classes)) xs n z r h in (sym e, (rw e, rw e))
+  bits-bad row classes = let e = trace-refused how Refused (λ k. bitsVerdict (blockAt (take n xs) k) (length row) (length classes)) xs n z r h in
+      (sym e, (rw e, rw e))
 
 module _ (how : Manner) (xs : List ℕ) (n : ℕ) (z : ℤ) (t : TraceBlock) (h : Told how xs n z t) where
   pub integers-answer : (s : ℕ) → integersVerdict t s ≡ integersAnswer how xs n z s
@@ -141,10 +144,12 @@ module _ (how : Manner) (xs : List ℕ) (n : ℕ) (z : ℤ) (t : TraceBlock) (h 
   unfolding integersLeft
   integers-left row = rw (integers-answer (length row), h .number, h .block)
 
-  pub patterns-left : (row classes : List ℕ) → kept (bitsVerdict t (length row) (length classes)) (patternsIn (take n xs) t) row ≡ patternsLeft how xs n z row classes
+  pub patterns-left : (row classes : List ℕ) → kept (bitsVerdict t (length row) (length classes)) (patternsIn (take n xs) t) row ≡ patternsLeft how
+      xs n z row classes
   unfolding patternsLeft
   patterns-left row classes = rw (bits-answer (length row) (length classes), h .number, h .block)
 
-  pub classes-left : (row classes : List ℕ) → kept (bitsVerdict t (length row) (length classes)) (classesIn (take n xs) t) classes ≡ classesLeft how xs n z row classes
+  pub classes-left : (row classes : List ℕ) → kept (bitsVerdict t (length row) (length classes)) (classesIn (take n xs) t) classes ≡ classesLeft how
+      xs n z row classes
   unfolding classesLeft
   classes-left row classes = rw (bits-answer (length row) (length classes), h .number, h .block)

@@ -119,7 +119,8 @@ module _ (t u s : List ℕ) (at k g n : ℕ) (c : Counted t u s at k g n) where
   counted-turn low o w x h e = go (c .fuel) (c .enough) (c .checked) (c .whole)
     where
       go : (m : ℕ) → length s - at ≤ m → checkFrom m (part k g s) (drop at s) at ≡ linesVerdict s
-          → c .exact + costs t u (same (part k g s) note) (sheetLinesFrom m (drop at s)) ≡ textSize t (sheetStrings u s) → Counted t u s (at + o + 1) at (at + w) x
+          → c .exact + costs t u (same (part k g s) note) (sheetLinesFrom m (drop at s)) ≡ textSize t (sheetStrings u s)
+          → Counted t u s (at + o + 1) at (at + w) x
       go zero a b d = absurd (omega arith)
       go (suc m) a b d =
           let f = turn-fits (part k g s) s at o w low h in
@@ -139,7 +140,8 @@ module _ (t u s : List ℕ) (at k g n : ℕ) (c : Counted t u s at k g n) where
           let cut : sheetLinesFrom (suc m) (drop at s) ≡ l ∷ ls = lines-step m (part k g s) (drop at s) at o w h ∙ rw (key, rest) in
           let cost : costs t u (same (part k g s) note) (l ∷ ls) ≡ lineCost t u cont w (o - w - 1) + costs t u (same (part at (at + w) s) note) ls =
           costs-step t u (part k g s) l ls (rw same-key at (told .follows)) ∙ rw (long-key, long-value) in
-          let sum : costs t u (same (part k g s) note) (sheetLinesFrom (suc m) (drop at s)) ≡ lineCost t u cont w (o - w - 1) + costs t u (same (part at (at + w) s) note) ls =
+          let sum : costs t u (same (part k g s) note) (sheetLinesFrom (suc m) (drop at s)) ≡ lineCost t u cont w (o - w - 1) + costs t u
+          (same (part at (at + w) s) note) ls =
           ap (λ (z : List Line). costs t u (same (part k g s) note) z) cut ∙ cost in
           record {
             fuel = m;
@@ -200,7 +202,8 @@ module _ (t u s : List ℕ) (at k g n : ℕ) (c : Counted t u s at k g n) where
 pub grown-note : (n lu v a b : ℕ) → a ≡ capped (n + lu) → b ≡ capped (a + v) → b ≡ capped (n + (lu + v))
 grown-note n lu v a b d e = let q : n + lu + v ≡ n + (lu + v) = omega arith in e ∙ capped-again a (n + lu) v d ∙ ap (λ (z : ℕ). capped z) q
 
-pub grown-string : (n w v lt a b c d : ℕ) → a ≡ capped (n + 3) → b ≡ capped (a + w) → c ≡ capped (b + v) → d ≡ capped (c + lt) → d ≡ capped (n + (3 + w + v + lt))
+pub grown-string : (n w v lt a b c d : ℕ) → a ≡ capped (n + 3) → b ≡ capped (a + w) → c ≡ capped (b + v) → d ≡ capped (c + lt)
+    → d ≡ capped (n + (3 + w + v + lt))
 grown-string n w v lt a b c d ea eb ec ed =
     let q : n + (3 + w) + v + lt ≡ n + (3 + w + v + lt) = omega arith in
     let b-is : b ≡ capped (n + (3 + w)) = grown-note n 3 w a b ea eb in

@@ -86,7 +86,13 @@ module _ {how : Manner} {t u : List ℕ} {s : Str} (good : GoodString how t u s)
   judged prev ends rise =
       ruled-through (textRows how u prev (textOf s)) Wrong (Keyword (keyLen (textOf s))) (
         rw text-key (ne-eqb (length (s .key)) 0 (omega (arith, good .some))),
-        (rw (key-of, good .keys), (rw (key-of, value-of, value-accept u (named how (s .key)) (s .value) ends (good .values) (good .lines)), (rw (key-of, rise), tt))),
+        (
+          rw (key-of, good .keys),
+          (
+            rw (key-of, value-of, value-accept u (named how (s .key)) (s .value) ends (good .values) (good .lines)),
+            (rw (key-of, rise), tt),
+          ),
+        ),
       )
       ∙ ap Keyword text-key
 
@@ -368,7 +374,8 @@ unfolding body
 body-part t o l = refl
 
 module _ (how : Manner) (f t u : List ℕ) (high : Bool) (e : ℕ) (fits : e ≤ length f) where
-  read-off : (ss : List Str) (end prev : List ℕ) (m at : ℕ) → at ≤ e → Ends how high end → Rising how t u prev ss → part at e f ≡ texts high t ss end → e - at ≤ m
+  read-off : (ss : List Str) (end prev : List ℕ) (m at : ℕ) → at ≤ e → Ends how high end → Rising how t u prev ss → part at e f ≡ texts high t ss end
+      → e - at ≤ m
       → strsIn f (placesFrom how m high t (part at e f) at) ≡ ss
   unfolding texts placesFrom onText
   read-off [] end prev zero at low q g w h = refl
@@ -441,7 +448,8 @@ nth-value-in f (p ∷ ps) zero = refl
 nth-value-in f (p ∷ ps) (suc i) = nth-value-in f ps i
 
 pub spelled-nth : (how : Manner) (f t u : List ℕ) (high : Bool) (a e : ℕ) (ss : List Str) (i : ℕ) → a ≤ e → e ≤ length f → Spells how high t u ss (part a e f)
-    → (keyFound f (nthOf (placesOf how high t (part a e f) a) i) ≡ nthStr ss i .key) × (valueFound f (nthOf (placesOf how high t (part a e f) a) i) ≡ nthStr ss i .value)
+    → (keyFound f (nthOf (placesOf how high t (part a e f) a) i) ≡ nthStr ss i .key)
+    × (valueFound f (nthOf (placesOf how high t (part a e f) a) i) ≡ nthStr ss i .value)
 spelled-nth how f t u high a e ss i low fits h =
     let w = spelled-places how f t u high a e ss low fits h in (
       nth-key-in f (placesOf how high t (part a e f) a) i ∙ ap (λ (rs : List Str). nthStr rs i .key) w,
@@ -468,12 +476,15 @@ unfolding findOf hasKey
 find-has-in how f [] key = refl
 find-has-in how f (p ∷ ps) key = go (same (named how (keyIn f p)) key) (find-has-in how f ps key)
   where
-    go : (w : Bool) → found (findOf how f ps key) ≡ hasKey how (strsIn f ps) key → found (pick w (Is p) (findOf how f ps key)) ≡ pick w true (hasKey how (strsIn f ps) key)
+    go : (w : Bool) → found (findOf how f ps key) ≡ hasKey how (strsIn f ps) key
+        → found (pick w (Is p) (findOf how f ps key)) ≡ pick w true (hasKey how (strsIn f ps) key)
     go true i = refl
     go false i = i
 
-pub spelled-value : (how : Manner) (f t u : List ℕ) (high : Bool) (a e : ℕ) (ss : List Str) (key : List ℕ) → a ≤ e → e ≤ length f → Spells how high t u ss (part a e f)
-    → (found (findOf how f (placesOf how high t (part a e f) a) key) ≡ hasKey how ss key) × (valueFound f (findOf how f (placesOf how high t (part a e f) a) key) ≡ valueOfKey how ss key)
+pub spelled-value : (how : Manner) (f t u : List ℕ) (high : Bool) (a e : ℕ) (ss : List Str) (key : List ℕ) → a ≤ e → e ≤ length f
+    → Spells how high t u ss (part a e f)
+    → (found (findOf how f (placesOf how high t (part a e f) a) key) ≡ hasKey how ss key)
+    × (valueFound f (findOf how f (placesOf how high t (part a e f) a) key) ≡ valueOfKey how ss key)
 spelled-value how f t u high a e ss key low fits h =
     let w = spelled-places how f t u high a e ss low fits h in (
       find-has-in how f (placesOf how high t (part a e f) a) key ∙ ap (λ (rs : List Str). hasKey how rs key) w,
@@ -497,7 +508,8 @@ keywords-once t u prev (s ∷ ss) zero g h = rw (same-refl (s .key))
 keywords-once t u prev (s ∷ ss) (suc i) g h =
     go (same (s .key) (nthStr ss i .key)) refl (later-rises t u (s .key) ss i (g .2) (omega arith)) (keywords-once t u (s .key) ss i (g .2) (omega arith))
   where
-    go : (w : Bool) → same (s .key) (nthStr ss i .key) ≡ w → rises (s .key) (nthStr ss i .key) ≡ true → valueOfKey Strict ss (nthStr ss i .key) ≡ nthStr ss i .value
+    go : (w : Bool) → same (s .key) (nthStr ss i .key) ≡ w → rises (s .key) (nthStr ss i .key) ≡ true
+        → valueOfKey Strict ss (nthStr ss i .key) ≡ nthStr ss i .value
         → pick w (s .value) (valueOfKey Strict ss (nthStr ss i .key)) ≡ nthStr ss i .value
     go true q r v =
         let k : s .key ≡ nthStr ss i .key = same-eq (s .key) (nthStr ss i .key) q in

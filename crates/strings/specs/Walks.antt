@@ -136,7 +136,8 @@ module _ (how : Manner) (high : Bool) (t u : List ℕ) (p : Part) (f : List ℕ)
       (b .0, omega (arith, b .1), omega (arith, b .1, b .2))
 
   pub turn-next : (o n : ℕ) → stepOf how high t u p (part k g f) (part at e f) at ≡ Next o n
-      → stringsFrom how (m - 1) high t u p (part (at + 2) (at + 2 + n) f) (part (at + o) e f) (at + o) ≡ stringsFrom how m high t u p (part k g f) (part at e f) at
+      → stringsFrom how (m - 1) high t u p (part (at + 2) (at + 2 + n) f) (part (at + o) e f) (at + o) ≡ stringsFrom how m high t u p (part k g f)
+      (part at e f) at
   turn-next o n h =
       let b = turn-fits o n h in
       let x : drop o (part at e f) ≡ part (at + o) e f = part-drop o at e f in
@@ -184,7 +185,8 @@ walk-over how high t u p prev f e at zero h = refl
 walk-over how high t u p prev f e at (suc m) h = rw (part-none at e f h, no-frame how high t) (go (openEnd how))
   where
     go : (w : Bool) → pick w Accepted (Refused (refusal StringOffset p at))
-        ≡ onStep (onFrame how (pick w End (Broken StringOffset)) t u prev [] p at) (λ o n. stringsFrom how m high t u p (take n (drop 2 [])) (drop o []) (at + o))
+        ≡ onStep (onFrame how (pick w End (Broken StringOffset)) t u prev [] p at)
+        (λ o n. stringsFrom how m high t u p (take n (drop 2 [])) (drop o []) (at + o))
     go true = refl
     go false = refl
 
@@ -201,7 +203,8 @@ pub entry-text : (how : Manner) (high : Bool) (t l : List ℕ) (at : ℕ) (s : P
 unfolding entryOf onText
 entry-text how high t l at s o e = go (frameOf how high t l) refl e
   where
-    go : (w : Frame) → frameOf how high t l ≡ w → onText w Stop (λ q. At (placeOf t q l at) q) ≡ At s o → (frameOf how high t l ≡ Text o) × (s ≡ placeOf t o l at)
+    go : (w : Frame) → frameOf how high t l ≡ w → onText w Stop (λ q. At (placeOf t q l at) q) ≡ At s o → (frameOf how high t l ≡ Text o)
+        × (s ≡ placeOf t o l at)
     go End f h = let z : _≡_ {A = ℕ} 0 1 = cc in absurd (omega arith)
     go (Broken r) f h = let z : _≡_ {A = ℕ} 0 1 = cc in absurd (omega arith)
     go (Text q) f h = let a : q ≡ o = cc in let b : placeOf t q l at ≡ s = cc in (rw a at f, sym b ∙ ap (λ (j : ℕ). placeOf t j l at) a)
@@ -246,7 +249,8 @@ module _ (how : Manner) (high : Bool) (t f : List ℕ) (e at m : ℕ) (low : at 
 
       go : (j : ℕ) → [] ≡ placesFrom how j high t (part at e f) at
       go zero = refl
-      go (suc j) = stops (frameOf how high t (part at e f)) (List Place) [] (λ o. placeOf t o (part at e f) at ∷ placesFrom how j high t (drop o (part at e f)) (at + o)) h
+      go (suc j) = stops (frameOf how high t (part at e f)) (List Place) []
+          (λ o. placeOf t o (part at e f) at ∷ placesFrom how j high t (drop o (part at e f)) (at + o)) h
 
   pub place-bounds : (s : Place) (o : ℕ) → entryOf how high t (part at e f) at ≡ At s o
       → (0 < o) × (at + o ≤ e) × PlaceIn e s

@@ -96,7 +96,8 @@ pub rises-transitive : (a b c : List ℕ) → rises a b ≡ true → rises b c �
 unfolding rises
 rises-transitive a b c h k = go (same a note) (same b note) (same c note) h k
   where
-    go : (u v w : Bool) → pick u false (pick v true (less a b)) ≡ true → pick v false (pick w true (less b c)) ≡ true → pick u false (pick w true (less a c)) ≡ true
+    go : (u v w : Bool) → pick u false (pick v true (less a b)) ≡ true → pick v false (pick w true (less b c)) ≡ true
+        → pick u false (pick w true (less a c)) ≡ true
     go true v w p q = p
     go false true w p q = let z : _≡_ {A = ℕ} 0 1 = cc in absurd (omega arith)
     go false false true p q = refl

@@ -100,7 +100,8 @@ module _ {A : Type 0} where
   pub take-put-end : (bs xs : List A) (at : ℕ) → at + length bs ≤ length xs → take (at + length bs) (put xs at bs) ≡ take at xs ++ bs
   take-put-end bs xs at h =
       let l : length (take at xs) ≡ at = length-take-le at xs (omega arith) in
-      rw (put-split bs xs at h, ← append-assoc) (take-at (take at xs ++ bs) (drop (at + length bs) xs) (at + length bs) (simp lib.ListN.length-append (omega arith)))
+      rw (put-split bs xs at h, ← append-assoc) (take-at (take at xs ++ bs) (drop (at + length bs) xs) (at + length bs)
+      (simp lib.ListN.length-append (omega arith)))
 
   -- a part before, behind, and the part that was stored
   pub part-put-before : (a e : ℕ) (bs xs : List A) (at : ℕ) → e ≤ at → part a e (put xs at bs) ≡ part a e xs

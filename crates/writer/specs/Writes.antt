@@ -175,7 +175,14 @@ module _ (xs : List ℕ) (n : ℕ) (x : Trace) {fit : Verdict} {w : Written} (e 
       let r : roomOf (take n xs) < 65536 = room-small (take n xs) (bytes-take n xs by) in (
         record {
           slotted =
-              record { low = a .low; most = a .most; within = a .within; size = a .size; slot = omega (arith, d .slot, a .room, a .within); few = omega (arith, d .slot) };
+              record {
+                low = a .low;
+                most = a .most;
+                within = a .within;
+                size = a .size;
+                slot = omega (arith, d .slot, a .room, a .within);
+                few = omega (arith, d .slot);
+              };
           strings = a .strings;
           lines = a .lines;
           sized = d .sized;

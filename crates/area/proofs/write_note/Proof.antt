@@ -88,7 +88,9 @@ write-note-spec =
     let a = (note-at (args .u .now) (args .s .now) _ (start .pre .0) (at-line-len .line-len .ensures .0)) in
     rw part-rest (a .noted, omega (arith, a .low, a .fits, a .long, a .size, start .pre .1, start .pre .2)))
     (λ c κs.
-    let start = c .before .before .before .before .before .before .before .before .before .before .before .before .before .before .before .before .before .before .before .before .before in
+    let start =
+    c .before .before .before .before .before .before .before .before .before .before .before
+    .before .before .before .before .before .before .before .before .before .before in
     let a =
     note-at (start .args .u .now) (start .args .s .now) _ (start .pre .0)
     (c .before .before .before .before .before .before .before .before .before .before .before .before .before .before .before .before .line-len .ensures .0) in
