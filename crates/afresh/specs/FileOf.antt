@@ -9,7 +9,7 @@ use mathlib.Core.List.{List, [], _∷_, _++_}
 use Prim.Native.Nat.{ℕ, _+_, _-_, _*_}
 use lib.ListN.{length, replicate}
 use Rattle.word.specs.Word.{bytesOf}
-use Rattle.encode.specs.declared.Fit.the-variants.{All}
+use Rattle.fit.specs.declared.Fit.the-variants.{All}
 use Rattle.sheet.specs.declared.Measured.the-variants.{Size}
 use Rattle.sheet.specs.Area.{areaOf, measuredOf}
 use Rattle.layout.specs.Layout.{nul, lineFeed, fileBlock, startSize, Trace, fitting, unfit, traceSize, traceBytes}

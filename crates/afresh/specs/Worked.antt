@@ -14,7 +14,7 @@ use Rattle.chars.specs.Runs.{run, all, same}
 use Rattle.text.specs.Order.{rises-first}
 use Rattle.strings.specs.Spelled.{texts}
 use Rattle.sample.specs.Needed.{needed, room}
-use Rattle.encode.specs.Unfit.{firstFrom, outside, unfitInteger, unfitIntegers}
+use Rattle.fit.specs.Unfit.{firstFrom, outside, unfitInteger, unfitIntegers}
 use Rattle.encode.specs.Write.{flat, residue, fixedBytes, filledUp, integersData}
 use Rattle.sheet.specs.Lines.{lineLen, lineKeyLen, continues, lineJudged, lineStep, checkFrom, linesVerdict}
 use Rattle.sheet.specs.Lines.{sheetLinesFrom, sheetLines}

@@ -36,7 +36,7 @@ fn begin(buffer: &mut [u8], n: usize, sheet: &[u8], end: usize, code: u32, count
     let u = [buffer[12], buffer[13]];
     let t_len = b.strings;
     let u_len = b.lines;
-    word::zeros(buffer, n, at); // the gap
+    store::zeros(buffer, n, at); // the gap
     layout::put_head(
         &mut buffer[at..],
         b.high,
@@ -60,8 +60,8 @@ fn register(buffer: &mut [u8], n: usize)
 {
     let b = head::file_block(&buffer[..n]);
     let at = word::round_up(n);
-    word::put4(buffer, b.high, 32 + 4 * b.n, at as u32);
-    word::put2(buffer, b.high, 6, b.n as u16 + 1);
+    store::put4(buffer, b.high, 32 + 4 * b.n, at as u32);
+    store::put2(buffer, b.high, 6, b.n as u16 + 1);
 }
 
 pub fn grow_integers(buffer: &mut [u8], n: usize, sheet: &[u8], end: usize, code: u32, row: &[i32])

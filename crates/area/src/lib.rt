@@ -28,11 +28,11 @@ fn write_line(part: &mut [u8], high: bool, t: &[u8], l: &[u8], w: usize, to: usi
     let c = b + 1;
     let d = a + l.len();
     let from = w + 1;
-    word::put2(part, high, to, n as u16);
-    word::copy(part, a, &l[..w]);
-    word::copy(part, b, b" ");
-    word::copy(part, c, &l[from..]);
-    word::copy(part, d, t);
+    store::put2(part, high, to, n as u16);
+    store::copy(part, a, &l[..w]);
+    store::copy(part, b, b" ");
+    store::copy(part, c, &l[from..]);
+    store::copy(part, d, t);
     to + n
 }
 
@@ -43,8 +43,8 @@ fn write_more(part: &mut [u8], u: &[u8], v: &[u8], to: usize) -> usize
         × (now (part .exit) ≡ put (now (part .entry)) to (now (u .entry) ++ now (v .entry))) ⌝ }
 {
     let a = to + u.len();
-    word::copy(part, to, u);
-    word::copy(part, a, v);
+    store::copy(part, to, u);
+    store::copy(part, a, v);
     a + v.len()
 }
 
@@ -80,12 +80,12 @@ fn write_note(part: &mut [u8], high: bool, t: &[u8], u: &[u8], s: &[u8], to: usi
     let b = a + 5;
     let c = a + n;
     let from = n + 1;
-    word::copy(part, a, b"NOTE ");
-    word::copy(part, b, &s[5..n]);
+    store::copy(part, a, b"NOTE ");
+    store::copy(part, b, &s[5..n]);
     let e = write_lines(part, u, &s[from..], c);
-    word::copy(part, e, t);
+    store::copy(part, e, t);
     let end = e + t.len();
-    word::put2(part, high, to, (end - to) as u16);
+    store::put2(part, high, to, (end - to) as u16);
     end
 }
 
@@ -122,6 +122,6 @@ pub fn write_area(part: &mut [u8], high: bool, t: &[u8], u: &[u8], sheet: &[u8])
     let to = write_strings(part, high, t, u, sheet);
     let a = to + 2;
     let e = word::round_up(a);
-    word::put2(part, high, to, 0);
-    word::zeros(part, a, e);
+    store::put2(part, high, to, 0);
+    store::zeros(part, a, e);
 }

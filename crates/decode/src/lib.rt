@@ -1,43 +1,16 @@
-// The five sample codes read, on a data block alone (document 01, "Samples"): integers of codes 1 to 3, patterns and
-// classes of codes 4 and 5. Sample has the definitions, Classes holds the classes against IEEE 754. `high` says that
-// the high byte comes first. Stands on `sample`, `word`.
+// Codes 1 to 3 read, on a data block alone (document 01, "Samples"): integers. Sample has the definitions, of codes 4 and
+// 5 too. `high` says that the high byte comes first. Stands on `sample`, `word`.
 // The rules in words: docs/FORMAT.md, "Samples".
 ghost use mathlib.Core.Path.{_≡_};
 ghost use mathlib.Core.Bool.{true, false};
-ghost use mathlib.Core.List.{map};
 ghost use Prim.Native.Nat.{_+_, _*_, _/_, _%_, _≤_, _<_};
 ghost use lib.ListN.{length};
 ghost use Rattle.word.specs.Put.{put};
 ghost use Rattle.word.specs.Word.{wordAt};
 ghost use Rattle.sample.specs.Needed.{needed};
 ghost use Rattle.sample.specs.Run.{valuesFrom};
-ghost use Rattle.decode.specs.Sample.{twos, exponentIn, ones, scaled, groupSample, patternOf, sampleOf};
+ghost use Rattle.decode.specs.Sample.{twos, exponentIn, ones, scaled, groupSample, sampleOf};
 ghost use Rattle.decode.specs.Sample.{sampleEnd, integersThere, integersRead};
-ghost use Rattle.decode.specs.Sample.{classOf, bitsThere, patternsRead, classesRead};
-
-// The whole number of two bytes at a place.
-fn word_at(block: &[u8], high: bool, at: usize) -> u16
-    requires { ⌜ at + 2 ≤ length (now block) ⌝ }
-    ensures { λ r. ⌜ r ≡ wordAt 2 high (now (block .entry)) at ⌝ }
-{
-    sample::turned(high, word::word2(block, false, at) as u16)
-}
-
-// Of four bytes.
-fn word4_at(block: &[u8], high: bool, at: usize) -> u32
-    requires { ⌜ at + 4 ≤ length (now block) ⌝ }
-    ensures { λ r. ⌜ r ≡ wordAt 4 high (now (block .entry)) at ⌝ }
-{
-    sample::turned4(high, word::word4(block, false, at) as u32)
-}
-
-// Of eight bytes.
-fn word8_at(block: &[u8], high: bool, at: usize) -> u64
-    requires { ⌜ at + 8 ≤ length (now block) ⌝ }
-    ensures { λ r. ⌜ r ≡ wordAt 8 high (now (block .entry)) at ⌝ }
-{
-    sample::turned8(high, word::word8(block, false, at))
-}
 
 // ---- codes 1 and 2
 
@@ -68,7 +41,7 @@ fn sample1(block: &[u8], high: bool, i: usize) -> i32
     requires { ⌜ 2 * i + 2 ≤ length (now block) ⌝ }
     ensures { λ r. ⌜ r ≡ sampleOf 1 high (now (block .entry)) i ⌝ }
 {
-    twos16(word_at(block, high, 2 * i)) as i32
+    twos16(sample::word_at(block, high, 2 * i)) as i32
 }
 
 // Of code 2.
@@ -76,7 +49,7 @@ fn sample2(block: &[u8], high: bool, i: usize) -> i32
     requires { ⌜ 4 * i + 4 ≤ length (now block) ⌝ }
     ensures { λ r. ⌜ r ≡ sampleOf 2 high (now (block .entry)) i ⌝ }
 {
-    twos32(word4_at(block, high, 4 * i))
+    twos32(sample::word4_at(block, high, 4 * i))
 }
 
 // Fills the row with samples of code 1. Where the block is too short for it: false, and nothing is written.
@@ -147,7 +120,7 @@ fn group_sample(block: &[u8], high: bool, at: usize, exponents: u16, k: u16) -> 
 {
     scaled(
         exponent_in(exponents, k),
-        word_at(block, high, at + 2 * (k as usize + 1)),
+        sample::word_at(block, high, at + 2 * (k as usize + 1)),
     )
 }
 
@@ -157,7 +130,7 @@ fn sample3(block: &[u8], high: bool, i: usize) -> i32
     ensures { λ r. ⌜ r ≡ sampleOf 3 high (now (block .entry)) i ⌝ }
 {
     let at = i / 4 * 10;
-    let first = word_at(block, high, at);
+    let first = sample::word_at(block, high, at);
     group_sample(block, high, at, first, (i % 4) as u16)
 }
 
@@ -168,7 +141,7 @@ fn read_group(block: &[u8], high: bool, g: usize, row: &mut [i32])
         (sampleOf 3 high (now (block .entry))) (4 * g) 4) ⌝ }
 {
     let at = 10 * g;
-    let exponents = word_at(block, high, at);
+    let exponents = sample::word_at(block, high, at);
     let a = group_sample(block, high, at, exponents, 0);
     let b = group_sample(block, high, at, exponents, 1);
     let c = group_sample(block, high, at, exponents, 2);
@@ -254,138 +227,6 @@ pub fn read_integers(code: u8, block: &[u8], high: bool, row: &mut [i32]) -> boo
         1 => read1(block, high, row),
         2 => read2(block, high, row),
         3 => read3(block, high, row),
-        _ => false,
-    }
-}
-
-// ---- codes 4 and 5
-
-// The class that the exponent bits and the fraction bits tell (the paper's table of special cases): 0 zero, 1
-// underflow, 2 number, 3 infinity, 4 not a number. It is how many of four bounds the bits behind the sign have passed
-// as one number, which asks for no branch.
-fn class4(pattern: u64) -> u8
-    ensures { λ r. ⌜ r ≡ classOf 4 pattern ⌝ }
-{
-    let m = (pattern % 2147483648) as u32;
-    (0 < m) as u8 + (8388607 < m) as u8 + (2139095039 < m) as u8 + (2139095040 < m) as u8
-}
-
-fn class5(pattern: u64) -> u8
-    ensures { λ r. ⌜ r ≡ classOf 5 pattern ⌝ }
-{
-    let m = pattern % 9223372036854775808;
-    (0 < m) as u8
-        + (4503599627370495 < m) as u8
-        + (9218868437227405311 < m) as u8
-        + (9218868437227405312 < m) as u8
-}
-
-// The patterns of code 4, and their classes.
-fn patterns4(block: &[u8], high: bool, row: &mut [u64])
-    requires { ⌜ needed 4 (length (now row)) ≤ length (now block) ⌝ }
-    ensures { λ _. ⌜ now (row .exit) ≡ valuesFrom (patternOf 4 high (now (block .entry))) 0 (length (now (row .entry)))
-        ⌝ }
-{
-    let mut i = 0;
-    while i < row.len() {
-        row[i] = word4_at(block, high, 4 * i) as u64;
-        i += 1;
-    }
-}
-
-fn classes4(row: &[u64], classes: &mut [u8])
-    requires { ⌜ length (now classes) ≡ length (now row) ⌝ }
-    ensures { λ _. ⌜ now (classes .exit) ≡ map (classOf 4) (now (row .entry)) ⌝ }
-{
-    let mut i = 0;
-    while i < row.len() {
-        classes[i] = class4(row[i]);
-        i += 1;
-    }
-}
-
-// The same of code 5.
-fn patterns5(block: &[u8], high: bool, row: &mut [u64])
-    requires { ⌜ needed 5 (length (now row)) ≤ length (now block) ⌝ }
-    ensures { λ _. ⌜ now (row .exit) ≡ valuesFrom (patternOf 5 high (now (block .entry))) 0 (length (now (row .entry)))
-        ⌝ }
-{
-    let mut i = 0;
-    while i < row.len() {
-        row[i] = word8_at(block, high, 8 * i);
-        i += 1;
-    }
-}
-
-fn classes5(row: &[u64], classes: &mut [u8])
-    requires { ⌜ length (now classes) ≡ length (now row) ⌝ }
-    ensures { λ _. ⌜ now (classes .exit) ≡ map (classOf 5) (now (row .entry)) ⌝ }
-{
-    let mut i = 0;
-    while i < row.len() {
-        classes[i] = class5(row[i]);
-        i += 1;
-    }
-}
-
-// Fills the row with the patterns of code 4, and `classes` with their classes. Where the two differ in length, or the
-// block is too short: false, and nothing is written.
-pub fn read4(block: &[u8], high: bool, row: &mut [u64], classes: &mut [u8]) -> bool
-    ensures answer { λ r. ⌜ r ≡ bitsThere 4 (length (now (row .entry))) (length (now (classes .entry)))
-        (now (block .entry)) ⌝ }
-    ensures filled { λ _. ⌜ now (row .exit) ≡ patternsRead 4 high (now (block .entry)) (now (row .entry))
-        (now (classes .entry)) ⌝ }
-    ensures classed { λ _. ⌜ now (classes .exit)
-        ≡ classesRead 4 high (now (block .entry)) (now (row .entry)) (now (classes .entry)) ⌝ }
-{
-    if classes.len() != row.len() {
-        return false;
-    }
-    if block.len() / 4 < row.len() {
-        return false;
-    }
-    patterns4(block, high, row);
-    classes4(row, classes);
-    true
-}
-
-// The same of code 5. The order is settled outside of the loop, whose body is too long for the compiler to do so.
-pub fn read5(block: &[u8], high: bool, row: &mut [u64], classes: &mut [u8]) -> bool
-    ensures answer { λ r. ⌜ r ≡ bitsThere 5 (length (now (row .entry))) (length (now (classes .entry)))
-        (now (block .entry)) ⌝ }
-    ensures filled { λ _. ⌜ now (row .exit) ≡ patternsRead 5 high (now (block .entry)) (now (row .entry))
-        (now (classes .entry)) ⌝ }
-    ensures classed { λ _. ⌜ now (classes .exit)
-        ≡ classesRead 5 high (now (block .entry)) (now (row .entry)) (now (classes .entry)) ⌝ }
-{
-    if classes.len() != row.len() {
-        return false;
-    }
-    if block.len() / 8 < row.len() {
-        return false;
-    }
-    if high {
-        patterns5(block, true, row);
-        classes5(row, classes);
-        return true;
-    }
-    patterns5(block, false, row);
-    classes5(row, classes);
-    true
-}
-
-// Bits by the code: false for a code of integers, and for what is no code.
-pub fn read_bits(code: u8, block: &[u8], high: bool, row: &mut [u64], classes: &mut [u8]) -> bool
-    ensures answer { λ r. ⌜ r ≡ bitsThere code (length (now (row .entry))) (length (now (classes .entry)))
-        (now (block .entry)) ⌝ }
-    ensures filled { λ _. ⌜ now (row .exit) ≡ patternsRead code high (now (block .entry)) (now (row .entry))
-        (now (classes .entry)) ⌝ }
-    ensures classed { λ _. ⌜ now (classes .exit)
-        ≡ classesRead code high (now (block .entry)) (now (row .entry)) (now (classes .entry)) ⌝ }
-{
-    match code {
-        4 => read4(block, high, row, classes),
-        5 => read5(block, high, row, classes),
         _ => false,
     }
 }

@@ -16,8 +16,8 @@ use lib.Dec.{eqb}
 use borrow.Author.Tests.{lt-leb, le-ltb, leb-false, eq-eqb, eqb-true}
 use Rattle.word.specs.Tests.{never}
 use Rattle.word.specs.Round.{round4}
-use Rattle.encode.specs.declared.Fit.the-variants.{All}
-use Rattle.encode.specs.Unfit.{firstFrom, outside, unfitInteger, unfitPattern, unfitIntegers, unfitPatterns, all-good}
+use Rattle.fit.specs.declared.Fit.the-variants.{All}
+use Rattle.fit.specs.Unfit.{firstFrom, outside, unfitInteger, unfitPattern, unfitIntegers, unfitPatterns, all-good}
 use Rattle.encode.specs.Back.{reach, fit-reach}
 use Rattle.sheet.specs.Lines.{Line}
 use Rattle.sheet.specs.Area.{areaMost, joined, sheetStrings, textSize, areaOf, areaSize}

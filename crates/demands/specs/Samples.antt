@@ -20,7 +20,7 @@ use Rattle.sample.specs.Needed.{needed, width}
 use Rattle.sample.specs.Run.{valuesFrom}
 use Rattle.decode.specs.Sample.{patternOf, exponentIn, groupSample, sampleOf, classBy, classOf}
 use Rattle.decode.specs.SampleLaws.{twos-plus, twos-minus, scaled-plus, scaled-minus}
-use Rattle.decode.specs.Classes.{valueClass, codeOf, class-ieee}
+use Rattle.patterns.specs.Classes.{valueClass, codeOf, class-ieee}
 use Rattle.head.specs.Head.{highFirst}
 use Rattle.block.specs.Block.{pointerOf, blockSize, dataSize, sampleCount, formatCode, traceBlockOf}
 use Rattle.reader.specs.Questions.{samplesIn, patternsIn, classesIn, samplesOf, patternsOf, classesOf}

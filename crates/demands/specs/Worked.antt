@@ -15,7 +15,7 @@ use Rattle.sample.specs.Needed.{needed, width}
 use Rattle.sample.specs.Run as samples
 use Rattle.decode.specs.Sample.{patternOf, twos, exponentIn, ones, scaled, groupSample, sampleOf, integersThere}
 use Rattle.decode.specs.Sample.{integersRead}
-use Rattle.encode.specs.Unfit.{firstFrom, unfitInteger, unfitIntegers}
+use Rattle.fit.specs.Unfit.{firstFrom, unfitInteger, unfitIntegers}
 use Rattle.encode.specs.Write.{smallest, exponentOf, mantissaOf, onesBits, exponentsOf, wordsOf, groupBytes, groups}
 use Rattle.encode.specs.Write.{filledUp, integersData}
 use Rattle.decimal.specs.declared.NumberAnswer.{NumberAnswer}

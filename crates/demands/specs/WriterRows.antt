@@ -18,7 +18,7 @@ use Rattle.refusal.specs.declared.Verdict.the-variants.{Accepted, Refused}
 use Rattle.refusal.specs.Table.{refusal}
 use Rattle.refusal.specs.Rows.{pick, ruled-map}
 use Rattle.text.specs.declared.Manner.the-variants.{Strict}
-use Rattle.encode.specs.Unfit.{firstFrom, unfitInteger, unfitPattern, unfitIntegers, unfitPatterns}
+use Rattle.fit.specs.Unfit.{firstFrom, unfitInteger, unfitPattern, unfitIntegers, unfitPatterns}
 use Rattle.strings.specs.declared.Judged.{Judged}
 use Rattle.strings.specs.declared.Judged.the-variants.{Keyword, Wrong}
 use Rattle.sheet.specs.declared.Step.the-variants.{Bad}
@@ -134,7 +134,7 @@ samples-first bad i [] = sym first-nothing
 samples-first bad i (z ∷ zs) = go (bad z) (samples-first bad (i + 1) zs)
   where
     go : (w : Bool) → onFit (firstFrom bad (i + 1) zs) ≡ firstOf (sampleRows bad (i + 1) zs)
-        → onFit (cond w (Rattle.encode.specs.declared.Fit.the-variants.At i) (firstFrom bad (i + 1) zs))
+        → onFit (cond w (Rattle.fit.specs.declared.Fit.the-variants.At i) (firstFrom bad (i + 1) zs))
         ≡ firstOf (row w SampleRange File i ∷ sampleRows bad (i + 1) zs)
     go true h = sym (first-row true SampleRange File i (sampleRows bad (i + 1) zs))
     go false h = h ∙ sym (first-row false SampleRange File i (sampleRows bad (i + 1) zs))

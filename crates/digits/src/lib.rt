@@ -50,5 +50,5 @@ pub fn put_digits(out: &mut [u8], at: usize, n: u64) -> usize
     }
     i -= 1;
     row[i] = 48 + left as u8;
-    word::put_bytes(out, at, &row[i..])
+    store::put_bytes(out, at, &row[i..])
 }

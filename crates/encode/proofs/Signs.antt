@@ -10,7 +10,6 @@ use borrow.Author.Tests.{ltb-true}
 use mir.Syntax.{w32}
 use mir.Val.{toZ, ofZ}
 use Rattle.word.specs.Signed.{kept}
-use Rattle.encode.specs.Unfit.{outside}
 use Rattle.encode.specs.Write.{residue}
 
 pub minus-bits : (v : ℤ) → mag v < 2147483648 → ltZ v (pos 0) ≡ true → residue 4294967296 v ≡ 4294967295 - mag v
@@ -22,9 +21,3 @@ pub plus-bits : (v : ℤ) → mag v < 2147483648 → ltZ v (pos 0) ≡ false →
 unfolding residue
 plus-bits (pos n) h t = omega arith
 plus-bits (negsuc n) h t = absurd (let z : _≡_ {A = ℕ} 0 1 = cc in omega arith)
-
--- the test whether v lies outside of two bounds, as the machine makes it
-pub tested : (low high v : ℤ) {b : Bool} → mag v < 2147483648 → (ltZ (toZ w32 (ofZ w32 v)) low || ltZ high (toZ w32 (ofZ w32 v))) ≡ b
-    → outside low high v ≡ b
-unfolding outside
-tested low high v k e = (rw (kept w32 v k) at e)

@@ -21,10 +21,10 @@ use Rattle.sample.specs.Run.{valuesFrom, length-run, getD-run}
 use Rattle.decode.specs.Sample.{twos, patternOf, sampleOf, integersAsked, integersThere, integersRead, classOf}
 use Rattle.decode.specs.Sample.{bitsAsked, bitsThere, patternsRead, classesRead}
 use Rattle.decode.specs.SampleLaws.{twos-plus, twos-minus, there, bits-there, all-read, all-bits-read}
-use Rattle.encode.specs.Unfit.{outside, unfitInteger, unfitIntegers, unfitPattern, unfitPatterns, all-good}
+use Rattle.fit.specs.Unfit.{outside, unfitInteger, unfitIntegers, unfitPattern, unfitPatterns, all-good}
 use Rattle.encode.specs.Write.{flat, residue, fixedBytes, groups, filledUp, integersData, bitsData}
 use Rattle.encode.specs.WriteLaws.{length-flat, length-groups, length-filledUp}
-use Rattle.encode.specs.declared.Fit.the-variants.{All}
+use Rattle.fit.specs.declared.Fit.the-variants.{All}
 
 -- ---- how long the data block is
 

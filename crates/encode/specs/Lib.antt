@@ -1,4 +1,3 @@
-pub mod Unfit
 pub mod Write
 pub mod WriteLaws
 pub mod Back

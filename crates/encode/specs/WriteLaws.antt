@@ -21,10 +21,10 @@ use Rattle.word.specs.Put.{put, put-none, put-append, length-put}
 use Rattle.word.specs.Round.{round4}
 use Rattle.word.specs.Word.{lowBytes, bytesOf}
 use Rattle.word.specs.WordLaws.{length-bytesOf}
-use Rattle.encode.specs.Unfit.{unfitInteger, unfitIntegers, all-good}
+use Rattle.fit.specs.Unfit.{unfitInteger, unfitIntegers, all-good}
 use Rattle.encode.specs.Write.{flat, residue, mantissaMost, smallest, exponentOf, mantissaOf, onesBits}
 use Rattle.encode.specs.Write.{exponentsOf, wordsOf, groupBytes, groupOf, groups, filledUp}
-use Rattle.encode.specs.declared.Fit.the-variants.{All}
+use Rattle.fit.specs.declared.Fit.the-variants.{All}
 
 -- ---- two's complement
 

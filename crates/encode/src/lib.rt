@@ -1,7 +1,7 @@
-// The five sample codes written, on a data block alone (document 01, "Samples", refusal 29): the first sample that a
-// code cannot hold, and the block. Unfit and Write have the definitions; Back and Cut say what is read back: the
-// samples, or code 3's nearest towards 0. Stands on `decode`, `sample`, `word`.
+// The five sample codes written, on a data block alone (document 01, "Samples"). Write has the definitions; Back and Cut
+// say what is read back: the samples, or code 3's nearest towards 0. Stands on `fit`, `decode`, `sample`, `word`.
 // The rules in words: docs/FORMAT.md, "Samples".
+use fit::Fit;
 ghost use mathlib.Core.Path.{_≡_};
 ghost use mathlib.Core.Bool.{true, false};
 ghost use Prim.Native.Nat.{_+_, _*_, _%_, _≤_, _<_};
@@ -10,121 +10,16 @@ ghost use lib.ListN.{length};
 ghost use Rattle.word.specs.Put.{put};
 ghost use Rattle.word.specs.Word.{bytesOf};
 ghost use Rattle.sample.specs.Needed.{room};
-ghost use Rattle.encode.specs.Unfit.{firstFrom, any, outside, unfitIntegers, unfitPattern, unfitPatterns};
+ghost use Rattle.fit.specs.Unfit.{unfitIntegers};
 ghost use Rattle.encode.specs.WriteLaws.{Told, Coded};
 ghost use Rattle.encode.specs.Write.{residue, wordsOf, groupOf, groups, integersData, bitsData};
-
-// ---- the sample that a code cannot hold
-
-// Whether a row can be written: all of it, or the place of the first sample that the code cannot hold (refusal 29).
-pub enum Fit {
-    All,
-    At(usize),
-}
-
-// The first sample that is not from `low` to `high`.
-fn first_outside(row: &[i32], low: i32, high: i32) -> Fit
-    ensures { λ r. ⌜ r ≡ firstFrom (outside low high) 0 (now (row .entry)) ⌝ }
-{
-    let mut i = 0;
-    while i < row.len() {
-        let v = row[i];
-        if (v < low) | (high < v) {
-            return Fit::At(i);
-        }
-        i += 1;
-    }
-    Fit::All
-}
-
-// Whether any sample is not from `low` to `high`. The loop has no early way out, so that a compiler can test many at a
-// time.
-fn any_outside(row: &[i32], low: i32, high: i32) -> bool
-    ensures { λ r. ⌜ r ≡ any (outside low high) (now (row .entry)) ⌝ }
-{
-    let mut found = false;
-    let mut i = 0;
-    while i < row.len() {
-        let v = row[i];
-        found = found | ((v < low) | (high < v));
-        i += 1;
-    }
-    found
-}
-
-// The first is looked for only where there is one.
-fn outside_of(row: &[i32], low: i32, high: i32) -> Fit
-    ensures { λ r. ⌜ r ≡ firstFrom (outside low high) 0 (now (row .entry)) ⌝ }
-{
-    if any_outside(row, low, high) {
-        return first_outside(row, low, high);
-    }
-    Fit::All
-}
-
-// The first sample of a row that the code cannot hold.
-pub fn unfit_integers(code: u8, row: &[i32]) -> Fit
-    ensures { λ r. ⌜ r ≡ unfitIntegers code (now (row .entry)) ⌝ }
-{
-    match code {
-        1 => outside_of(row, -32768, 32767),
-        3 => outside_of(row, -1073741823, 1073741823),
-        _ => Fit::All,
-    }
-}
-
-// The first pattern of more than 32 bits.
-fn first_wide(row: &[u64]) -> Fit
-    ensures { λ r. ⌜ r ≡ unfitPatterns 4 (now (row .entry)) ⌝ }
-{
-    let mut i = 0;
-    while i < row.len() {
-        if 4294967296 <= row[i] {
-            return Fit::At(i);
-        }
-        i += 1;
-    }
-    Fit::All
-}
-
-// Whether any pattern has more than 32 bits; the same loop.
-fn any_wide(row: &[u64]) -> bool
-    ensures { λ r. ⌜ r ≡ any (unfitPattern 4) (now (row .entry)) ⌝ }
-{
-    let mut found = false;
-    let mut i = 0;
-    while i < row.len() {
-        found = found | (4294967296 <= row[i]);
-        i += 1;
-    }
-    found
-}
-
-fn wide_of(row: &[u64]) -> Fit
-    ensures { λ r. ⌜ r ≡ unfitPatterns 4 (now (row .entry)) ⌝ }
-{
-    if any_wide(row) {
-        return first_wide(row);
-    }
-    Fit::All
-}
-
-// The first pattern of a row that the code cannot hold.
-pub fn unfit_bits(code: u8, row: &[u64]) -> Fit
-    ensures { λ r. ⌜ r ≡ unfitPatterns code (now (row .entry)) ⌝ }
-{
-    match code {
-        4 => wide_of(row),
-        _ => Fit::All,
-    }
-}
 
 // The two bytes of a number, stored at a place.
 fn put_word(part: &mut [u8], high: bool, at: usize, n: u16)
     requires { ⌜ at + 2 ≤ length (now part) ⌝ }
     ensures { λ _. ⌜ now (part .exit) ≡ put (now (part .entry)) at (bytesOf 2 high n) ⌝ }
 {
-    word::put2(part, false, at, sample::turned(high, n));
+    store::put2(part, false, at, sample::turned(high, n));
 }
 
 // The four bytes.
@@ -132,7 +27,7 @@ fn put_word4(part: &mut [u8], high: bool, at: usize, n: u32)
     requires { ⌜ at + 4 ≤ length (now part) ⌝ }
     ensures { λ _. ⌜ now (part .exit) ≡ put (now (part .entry)) at (bytesOf 4 high n) ⌝ }
 {
-    word::put4(part, false, at, sample::turned4(high, n));
+    store::put4(part, false, at, sample::turned4(high, n));
 }
 
 // The eight bytes.
@@ -140,7 +35,7 @@ fn put_word8(part: &mut [u8], high: bool, at: usize, n: u64)
     requires { ⌜ at + 8 ≤ length (now part) ⌝ }
     ensures { λ _. ⌜ now (part .exit) ≡ put (now (part .entry)) at (bytesOf 8 high n) ⌝ }
 {
-    word::put8(part, false, at, sample::turned8(high, n));
+    store::put8(part, false, at, sample::turned8(high, n));
 }
 
 // ---- writing
@@ -159,11 +54,11 @@ pub fn write1(row: &[i32], high: bool, part: &mut [u8])
 {
     let mut i = 0;
     while i < row.len() {
-        word::put2(part, high, 2 * i, (bits(row[i]) % 65536) as u16);
+        store::put2(part, high, 2 * i, (bits(row[i]) % 65536) as u16);
         i += 1;
     }
     let end = 2 * row.len();
-    word::zeros(part, end, word::round_up(end));
+    store::zeros(part, end, word::round_up(end));
 }
 
 // The same of code 2.
@@ -177,7 +72,7 @@ pub fn write2(row: &[i32], high: bool, part: &mut [u8])
         i += 1;
     }
     let end = 4 * row.len();
-    word::zeros(part, end, word::round_up(end));
+    store::zeros(part, end, word::round_up(end));
 }
 
 // The same of code 4.
@@ -191,7 +86,7 @@ pub fn write4(row: &[u64], high: bool, part: &mut [u8])
         i += 1;
     }
     let end = 4 * row.len();
-    word::zeros(part, end, word::round_up(end));
+    store::zeros(part, end, word::round_up(end));
 }
 
 // The same of code 5.
@@ -205,7 +100,7 @@ pub fn write5(row: &[u64], high: bool, part: &mut [u8])
         i += 1;
     }
     let end = 8 * row.len();
-    word::zeros(part, end, word::round_up(end));
+    store::zeros(part, end, word::round_up(end));
 }
 
 // The smallest exponent that brings a magnitude to at most 32,767, found from its leading zeros: 17 of them leave 15
@@ -340,5 +235,5 @@ pub fn write3(row: &[i32], high: bool, part: &mut [u8])
 {
     write_groups(row, high, part);
     let end = 10 * (row.len() / 4);
-    word::zeros(part, end, word::round_up(end));
+    store::zeros(part, end, word::round_up(end));
 }

@@ -17,7 +17,7 @@ use Rattle.word.specs.Bytes.{Bytes}
 use Rattle.word.specs.Round.{round4, round4-up}
 use Rattle.word.specs.Word.{wordAt}
 use Rattle.word.specs.WordLaws.{word-take}
-use Rattle.encode.specs.declared.Fit.the-variants.{All}
+use Rattle.fit.specs.declared.Fit.the-variants.{All}
 use Rattle.sheet.specs.declared.Measured.the-variants.{Size}
 use Rattle.sheet.specs.Area.{areaSize, measuredOf}
 use Rattle.head.specs.Head.{maximum, highFirst, roomOf, countOf, stringEnd, lineEnd}

@@ -17,11 +17,11 @@ use Rattle.word.specs.Tests.{never}
 use Rattle.word.specs.Part.{part}
 use Rattle.refusal.specs.declared.Verdict.the-variants.{Accepted}
 use Rattle.strings.specs.Spelled.{Spells}
-use Rattle.encode.specs.declared.Fit.the-variants.{All}
+use Rattle.fit.specs.declared.Fit.the-variants.{All}
 use Rattle.sample.specs.Needed.{byCode, width}
 use Rattle.sample.specs.Run.{valuesFrom, run-map, run-of}
 use Rattle.decode.specs.Sample.{sampleOf, patternOf, classOf, integersAsked, bitsAsked}
-use Rattle.encode.specs.Unfit.{unfitIntegers, unfitPatterns}
+use Rattle.fit.specs.Unfit.{unfitIntegers, unfitPatterns}
 use Rattle.encode.specs.Write.{integersData, bitsData}
 use Rattle.encode.specs.Back.{reach, fit-reach, integers-back, fit-32, bits-back}
 use Rattle.encode.specs.Cut.{cut, floats-back}

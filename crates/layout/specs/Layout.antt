@@ -9,10 +9,10 @@ use lib.ListN.{length, replicate}
 use Rattle.block.specs.Block.{traceMark}
 use Rattle.word.specs.Word.{bytesOf}
 use Rattle.refusal.specs.Rows.{pick}
-use Rattle.encode.specs.declared.Fit.{Fit}
+use Rattle.fit.specs.declared.Fit.{Fit}
 use Rattle.sample.specs.Needed.{room}
 use Rattle.decode.specs.Sample.{integersAsked, bitsAsked}
-use Rattle.encode.specs.Unfit.{unfitIntegers, unfitPatterns}
+use Rattle.fit.specs.Unfit.{unfitIntegers, unfitPatterns}
 use Rattle.encode.specs.Write.{integersData, bitsData}
 use Rattle.sheet.specs.Area.{areaOf, areaSize}
 

@@ -11,9 +11,9 @@ use Rattle.block.specs.Block.{traceMark}
 use Rattle.word.specs.Put.{put, put-append}
 use Rattle.word.specs.Word.{lowBytes, bytesOf}
 use Rattle.word.specs.WordLaws.{length-bytesOf}
-use Rattle.encode.specs.declared.Fit.the-variants.{All}
+use Rattle.fit.specs.declared.Fit.the-variants.{All}
 use Rattle.sample.specs.Needed.{room}
-use Rattle.encode.specs.Unfit.{unfitIntegers}
+use Rattle.fit.specs.Unfit.{unfitIntegers}
 use Rattle.sheet.specs.declared.Measured.the-variants as measured
 use Rattle.sheet.specs.Area.{areaOf, areaSize, measuredOf}
 use Rattle.sheet.specs.Sizes.{length-area}

@@ -24,12 +24,12 @@ fn put_file_block(buf: &mut [u8], high: bool, m: u16)
     ensures { λ _. ⌜ now (buf .exit) ≡ put (now (buf .entry)) 0 (fileBlock high m 0) ⌝ }
 {
     let ends = [1u8, 0, 0, 1, 10, 0];
-    word::put2(buf, high, 0, 14933);
-    word::put2(buf, high, 2, 1);
-    word::put2(buf, high, 4, m);
-    word::put2(buf, high, 6, 0);
-    word::copy(buf, 8, &ends[..]);
-    word::zeros(buf, 14, 32);
+    store::put2(buf, high, 0, 14933);
+    store::put2(buf, high, 2, 1);
+    store::put2(buf, high, 4, m);
+    store::put2(buf, high, 6, 0);
+    store::copy(buf, 8, &ends[..]);
+    store::zeros(buf, 14, 32);
 }
 
 // A sheet's area from a place on: the buffer from there on is lent.
@@ -52,7 +52,7 @@ pub fn put_start(buf: &mut [u8], high: bool, slots: usize, sheet: &[u8])
     let t = [0u8];
     let u = [10u8];
     put_file_block(buf, high, m as u16);
-    word::zeros(buf, 32, at);
+    store::zeros(buf, 32, at);
     put_area(buf, at, high, &t[..], &u[..], sheet);
 }
 
@@ -61,13 +61,13 @@ fn put_block(part: &mut [u8], high: bool, b: u16, d: u32, s: u32, code: u8)
     requires { ⌜ 32 ≤ length (now part) ⌝ }
     ensures { λ _. ⌜ now (part .exit) ≡ put (now (part .entry)) 0 (traceBlock high b d s code) ⌝ }
 {
-    word::put2(part, high, 0, 17442);
-    word::put2(part, high, 2, b);
-    word::put4(part, high, 4, d);
-    word::put4(part, high, 8, s);
+    store::put2(part, high, 0, 17442);
+    store::put2(part, high, 2, b);
+    store::put4(part, high, 4, d);
+    store::put4(part, high, 8, s);
     let c = [code];
-    word::copy(part, 12, &c[..]);
-    word::zeros(part, 13, 32);
+    store::copy(part, 12, &c[..]);
+    store::zeros(part, 13, 32);
 }
 
 // All of a trace before its samples, the block and the strings, into the free end of a buffer, which is lent from the

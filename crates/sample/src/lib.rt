@@ -2,9 +2,11 @@
 // of 2, 4 or 8 bytes in either byte order, turned as a whole. Definitions in Needed, Run and Turned. Stands on `word`.
 // The rules in words: docs/FORMAT.md, "Samples".
 ghost use mathlib.Core.Path.{_≡_};
-ghost use Prim.Native.Nat.{_≤_, _<_};
+ghost use Prim.Native.Nat.{_+_, _≤_, _<_};
 ghost use Rattle.sample.specs.Needed.{needed, room};
 ghost use Rattle.sample.specs.Turned.{turned};
+ghost use lib.ListN.{length};
+ghost use Rattle.word.specs.Word.{wordAt};
 
 // ---- sizes
 
@@ -62,4 +64,28 @@ pub fn turned8(high: bool, n: u64) -> u64
     } else {
         n
     }
+}
+
+// The whole number of two bytes at a place.
+pub fn word_at(block: &[u8], high: bool, at: usize) -> u16
+    requires { ⌜ at + 2 ≤ length (now block) ⌝ }
+    ensures { λ r. ⌜ r ≡ wordAt 2 high (now (block .entry)) at ⌝ }
+{
+    turned(high, word::word2(block, false, at) as u16)
+}
+
+// Of four bytes.
+pub fn word4_at(block: &[u8], high: bool, at: usize) -> u32
+    requires { ⌜ at + 4 ≤ length (now block) ⌝ }
+    ensures { λ r. ⌜ r ≡ wordAt 4 high (now (block .entry)) at ⌝ }
+{
+    turned4(high, word::word4(block, false, at) as u32)
+}
+
+// Of eight bytes.
+pub fn word8_at(block: &[u8], high: bool, at: usize) -> u64
+    requires { ⌜ at + 8 ≤ length (now block) ⌝ }
+    ensures { λ r. ⌜ r ≡ wordAt 8 high (now (block .entry)) at ⌝ }
+{
+    turned8(high, word::word8(block, false, at))
 }

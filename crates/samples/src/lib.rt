@@ -107,7 +107,7 @@ fn bits_of(f: &[u8], t: TraceBlock, row: &mut [u64], classes: &mut [u8]) -> Verd
     let p = t.p;
     let b = t.b;
     let d = t.d;
-    decode::read_bits(code, &f[p + b..p + b + d], head::is_high(f), row, classes);
+    patterns::read_bits(code, &f[p + b..p + b + d], head::is_high(f), row, classes);
     Verdict::Accepted
 }
 

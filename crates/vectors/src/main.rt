@@ -7,7 +7,7 @@ use chars::Kind;
 use decimal::NumberAnswer;
 use double::DoubleAnswer;
 use double::LocationAnswer;
-use encode::Fit;
+use fit::Fit;
 use head::Purpose;
 use refusal::Part;
 use refusal::Verdict;
@@ -93,14 +93,14 @@ fn group_is(block: &[u8], high: bool, a: i32, b: i32, c: i32, d: i32) -> bool {
 fn bits_are(code: u8, block: &[u8], high: bool, pattern: u64, class: u8) -> bool {
     let mut row = [0u64];
     let mut classes = [9u8];
-    let read = decode::read_bits(code, block, high, &mut row, &mut classes);
+    let read = patterns::read_bits(code, block, high, &mut row, &mut classes);
     read & ((row[0] == pattern) & (classes[0] == class))
 }
 
 // Row 29 of code 3.
 fn unfit(value: i32) -> bool {
     let row = [value, 0, 0, 0];
-    let fit = encode::unfit_integers(3, &row);
+    let fit = fit::unfit_integers(3, &row);
     match fit {
         Fit::All => false,
         Fit::At(i) => i == 0,
@@ -349,7 +349,7 @@ fn refused_with(file: &mut [u8], at: usize, n: u16) -> u32 {
     if file.len() - 2 < at {
         return 99;
     }
-    word::put2(file, false, at, n);
+    store::put2(file, false, at, n);
     refused_by(file)
 }
 

@@ -15,8 +15,8 @@ use Rattle.refusal.specs.Rows.{pick}
 use Rattle.refusal.specs.Verdicts.{asked}
 use Rattle.text.specs.declared.Manner.the-variants.{Strict}
 use Rattle.head.specs.declared.Purpose.the-variants.{Grow}
-use Rattle.encode.specs.declared.Fit.{Fit}
-use Rattle.encode.specs.declared.Fit.the-variants.{All, At}
+use Rattle.fit.specs.declared.Fit.{Fit}
+use Rattle.fit.specs.declared.Fit.the-variants.{All, At}
 use Rattle.sheet.specs.declared.Measured.{Measured}
 use Rattle.sheet.specs.declared.Measured.the-variants as measured
 use Rattle.sheet.specs.Area.{measuredOf}

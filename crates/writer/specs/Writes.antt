@@ -19,7 +19,7 @@ use Rattle.refusal.specs.declared.Rule.the-variants.{NoSlot, EntryCode, NoRoom}
 use Rattle.refusal.specs.declared.Part.the-variants.{File}
 use Rattle.refusal.specs.declared.Verdict.{Verdict}
 use Rattle.refusal.specs.declared.Verdict.the-variants as verdict
-use Rattle.encode.specs.declared.Fit.{Fit}
+use Rattle.fit.specs.declared.Fit.{Fit}
 use Rattle.sample.specs.Needed.{room}
 use Rattle.decode.specs.Sample.{integersAsked, bitsAsked}
 use Rattle.sheet.specs.declared.Measured.the-variants as measured

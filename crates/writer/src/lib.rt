@@ -2,7 +2,7 @@
 // written. Answers has the definitions, Shown the second view: a trace is added exactly where no row is met. Stands on
 // `append`, `start`, `image`, `encode`.
 // The rules in words: docs/FORMAT.md, "What we write".
-use encode::Fit;
+use fit::Fit;
 use head::Purpose;
 use refusal::Rule;
 use refusal::Verdict;
@@ -69,7 +69,7 @@ fn integers_fit(code: u32, row: &[i32]) -> Verdict
     ensures { λ r. ⌜ r ≡ samplesVerdict code (integers (now (row .entry))) ⌝ }
 {
     if is_of_integers(code, row.len()) {
-        return fitted(encode::unfit_integers(code as u8, row));
+        return fitted(fit::unfit_integers(code as u8, row));
     }
     head::refusing(Rule::EntryCode, 0)
 }
@@ -78,7 +78,7 @@ fn bits_fit(code: u32, row: &[u64]) -> Verdict
     ensures { λ r. ⌜ r ≡ samplesVerdict code (patterns (now (row .entry))) ⌝ }
 {
     if is_of_bits(code) {
-        return fitted(encode::unfit_bits(code as u8, row));
+        return fitted(fit::unfit_bits(code as u8, row));
     }
     head::refusing(Rule::EntryCode, 0)
 }
