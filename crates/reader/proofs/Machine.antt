@@ -30,7 +30,8 @@ whole (negsuc zero) n h e = refl
 whole (negsuc (suc k)) n h e = absurd (omega arith)
 
 -- below -1
-pub below : (z : ℤ) (n : ℕ) → mag z < 2147483648 → (ofZ w32 z ≡ 4294967295 → ⊥) → ltZ (toZ w32 (ofZ w32 z)) (pos 0) ≡ true → Nobody ≡ whoseOf z n
+pub below : (z : ℤ) (n : ℕ) → mag z < 2147483648 → (ofZ w32 z ≡ 4294967295 → ⊥)
+    → ltZ (toZ w32 (ofZ w32 z)) (pos 0) ≡ true → Nobody ≡ whoseOf z n
 unfolding whoseOf
 below z n h f t = go z f (sign w32 z h t)
   where
@@ -67,7 +68,8 @@ one z n h t l =
     let p = plain z (a .0) h (a .1) in
     ap One p ∙ among (a .0) n (omega (arith, p, l)) ∙ ap (λ (y : ℤ). whoseOf y n) (sym (a .1))
 
-pub past : (z : ℤ) (n : ℕ) → mag z < 2147483648 → ltZ (toZ w32 (ofZ w32 z)) (pos 0) ≡ false → n ≤ natAbs (toZ w32 (ofZ w32 z)) → Nobody ≡ whoseOf z n
+pub past : (z : ℤ) (n : ℕ) → mag z < 2147483648 → ltZ (toZ w32 (ofZ w32 z)) (pos 0) ≡ false
+    → n ≤ natAbs (toZ w32 (ofZ w32 z)) → Nobody ≡ whoseOf z n
 past z n h t l =
     let a = at-least z h t in
     let p = plain z (a .0) h (a .1) in

@@ -19,7 +19,8 @@ use Rattle.decode.proofs.read_group.Statement.{statement}
 use Rattle.decode.proofs.read_group.Tie as tie
 
 -- what is stored at place i
-stored : (high : Bool) (block : List ℕ) (g k i : ℕ) (z : ℤ) → mag z < 2147483648 → z ≡ groupSample high block (10 * g) k → i ≡ 4 * g + k → k < 4
+stored : (high : Bool) (block : List ℕ) (g k i : ℕ) (z : ℤ) → mag z < 2147483648
+    → z ≡ groupSample high block (10 * g) k → i ≡ 4 * g + k → k < 4
     → toZ w32 (ofZ w32 z) ≡ sampleOf 3 high block i
 stored high block g k i z f e q h = kept w32 z f ∙ e ∙ sym (in-group high block i g k q h)
 

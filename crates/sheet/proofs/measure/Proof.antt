@@ -13,7 +13,8 @@ use Rattle.sheet.proofs.measure.Tie as tie
 use Rattle.sheet.specs.Area.{areaMost}
 
 abbrev Inv-loop : tie.InvT-loop
-Inv-loop sheet t u at₀ k₀ g₀ n₀ at k g n = (at ≤ length sheet) × (k ≤ g) × (g ≤ length sheet) × (n ≤ (areaMost + 1)) × Counted t u sheet at k g n
+Inv-loop sheet t u at₀ k₀ g₀ n₀ at k g n = (at ≤ length sheet) × (k ≤ g) × (g ≤ length sheet)
+    × (n ≤ (areaMost + 1)) × Counted t u sheet at k g n
 
 abbrev μ-loop : tie.MeasureT-loop
 μ-loop sheet t u at₀ k₀ g₀ n₀ at k g n = length sheet - at
