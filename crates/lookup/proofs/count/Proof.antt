@@ -1,11 +1,11 @@
 -- `lookup::count` meets its contract. The invariant: the strings passed and those that are left are all. Assumes
 -- nothing.
 use mathlib.Core.Path.{_≡_, sym, ap, _∙_}
-use Prim.Native.Nat.{ℕ, _≤_, _+_, _-_}
+use Prim.Native.Nat.{ℕ, _≤_, _+_, _-_, _<_}
 use native.Mathlib.Nat.{le-of-eq}
 use lib.ListN.{length}
 use Rattle.word.specs.Part.{part, length-part}
-use Rattle.strings.specs.Strings.{placesFrom, placesOf}
+use Rattle.strings.specs.Strings.{placesFrom, placesOf, PlaceIn}
 use Rattle.strings.specs.Walks.{place-next, place-stop, place-bounds, place-over}
 use borrow.Author.Needs.{needs}
 use native.Mathlib.Omega.{arith}
@@ -18,6 +18,20 @@ Inv-loop f a e high t how at₀ n₀ at n = (a ≤ at) × (at ≤ e) × (n + a �
 
 abbrev μ-loop : tie.MeasureT-loop
 μ-loop f a e high t how at₀ n₀ at n = e - at
+
+-- the string that the walk is at has bytes, and it stands in the area, its parts in order
+bounds : (c : tie.After-s Inv-loop μ-loop)
+    → let at-loop = c .before .before .before .before .before in
+    let e = at-loop .before .before .before .args .e in
+    let string = c .s .given .0 in
+    (0 < string .1 .0) × (at-loop .loop .at + string .1 .0 ≤ e) × PlaceIn e (string .0)
+bounds c =
+    let at-entry-at = c .before .before in
+    let at-loop-test = at-entry-at .before .before in
+    let at-loop = at-loop-test .before in
+    let start = at-loop .before .before .before in
+    place-bounds _ _ _ (start .args .f .now) (start .args .e) (at-loop .loop .at) (at-loop .loop .inv .3 .0) (at-loop-test .loop-test .taken)
+    (start .pre .1) (at-loop .loop .inv .3 .1) _ _ (sym (at-entry-at .entry-at .ensures) ∙ c .s .given .1)
 
 pub count-spec : {M : Type 1} → statement M
 unfolding placesOf
@@ -58,6 +72,9 @@ count-spec =
     (start .pre .1) (at-loop .loop .inv .3 .1) (sym (at-entry-at .entry-at .ensures) ∙ c .enum-told .given .1)) in omega
     (arith, at-loop .loop .inv .3 .2))
     (λ c. search needs)
+    (λ c. let b = bounds (c .before) in omega (arith, b .0, b .1, b .2 .0, b .2 .1, b .2 .2, b .2 .3))
+    (λ c. let b = bounds (c .before) in omega (arith, b .0, b .1, b .2 .0, b .2 .1, b .2 .2, b .2 .3))
+    (λ c. let b = bounds (c .before) in omega (arith, b .0, b .1, b .2 .0, b .2 .1, b .2 .2, b .2 .3))
     (λ c.
     let at-s = c .before in
     let at-entry-at = at-s .before .before in
@@ -65,63 +82,7 @@ count-spec =
     let at-loop = at-loop-test .before in
     let start = at-loop .before .before .before in
     let args = start .args in
-    let b = place-bounds _ _ _ (args .f .now) (args .e) (at-loop .loop .at) (at-loop .loop .inv .3 .0) (at-loop-test .loop-test .taken)
-    (start .pre .1)
-    (at-loop .loop .inv .3 .1) _ _ (sym (at-entry-at .entry-at .ensures) ∙ at-s .s .given .1) in omega (
-      arith,
-      b .0,
-      b .1,
-      b .2 .0,
-      b .2 .1,
-      b .2 .2,
-      b .2 .3,
-    ))
-    (λ c.
-    let at-s = c .before in
-    let at-entry-at = at-s .before .before in
-    let at-loop-test = at-entry-at .before .before in
-    let at-loop = at-loop-test .before in
-    let start = at-loop .before .before .before in
-    let args = start .args in
-    let b = place-bounds _ _ _ (args .f .now) (args .e) (at-loop .loop .at) (at-loop .loop .inv .3 .0) (at-loop-test .loop-test .taken)
-    (start .pre .1)
-    (at-loop .loop .inv .3 .1) _ _ (sym (at-entry-at .entry-at .ensures) ∙ at-s .s .given .1) in omega (
-      arith,
-      b .0,
-      b .1,
-      b .2 .0,
-      b .2 .1,
-      b .2 .2,
-      b .2 .3,
-    ))
-    (λ c.
-    let at-s = c .before in
-    let at-entry-at = at-s .before .before in
-    let at-loop-test = at-entry-at .before .before in
-    let at-loop = at-loop-test .before in
-    let start = at-loop .before .before .before in
-    let args = start .args in
-    let b = place-bounds _ _ _ (args .f .now) (args .e) (at-loop .loop .at) (at-loop .loop .inv .3 .0) (at-loop-test .loop-test .taken)
-    (start .pre .1)
-    (at-loop .loop .inv .3 .1) _ _ (sym (at-entry-at .entry-at .ensures) ∙ at-s .s .given .1) in omega (
-      arith,
-      b .0,
-      b .1,
-      b .2 .0,
-      b .2 .1,
-      b .2 .2,
-      b .2 .3,
-    ))
-    (λ c.
-    let at-s = c .before in
-    let at-entry-at = at-s .before .before in
-    let at-loop-test = at-entry-at .before .before in
-    let at-loop = at-loop-test .before in
-    let start = at-loop .before .before .before in
-    let args = start .args in
-    let b = place-bounds _ _ _ (args .f .now) (args .e) (at-loop .loop .at) (at-loop .loop .inv .3 .0) (at-loop-test .loop-test .taken)
-    (start .pre .1)
-    (at-loop .loop .inv .3 .1) _ _ (sym (at-entry-at .entry-at .ensures) ∙ at-s .s .given .1) in
+    let b = bounds at-s in
     let q = ap length (place-next _ _ _ (args .f .now) (args .e) (at-loop .loop .at) (at-loop .loop .inv .3 .0) (at-loop-test .loop-test .taken)
     (start .pre .1) (at-loop .loop .inv .3 .1) _ _ (sym (at-entry-at .entry-at .ensures) ∙ at-s .s .given .1)) in (
       omega (arith, b .1),
@@ -130,10 +91,7 @@ count-spec =
       (
         at-loop .loop .inv .3 .0 - 1,
         omega (arith, b .0),
-        omega (
-          arith,
-          at-loop .loop .inv .3 .2,
-        ),
+        omega (arith, at-loop .loop .inv .3 .2),
       ),
     ))
     (λ c.

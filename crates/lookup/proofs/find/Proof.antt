@@ -1,11 +1,11 @@
 -- `lookup::find` meets its contract. The invariant: what is found among those that are left is found among all. Assumes
 -- nothing.
 use mathlib.Core.Path.{_≡_, refl, sym, _∙_}
-use Prim.Native.Nat.{ℕ, _≤_, _-_}
+use Prim.Native.Nat.{ℕ, _≤_, _-_, _+_, _<_}
 use native.Mathlib.Nat.{le-of-eq}
 use lib.ListN.{length}
 use Rattle.word.specs.Part.{part, length-part}
-use Rattle.strings.specs.Strings.{placesFrom, placesOf, findOf}
+use Rattle.strings.specs.Strings.{placesFrom, placesOf, findOf, PlaceIn}
 use Rattle.strings.specs.Walks.{place-next, place-stop, place-bounds, place-over}
 use Rattle.lookup.specs.Lists.{find-none, find-here, find-later}
 use borrow.Author.Needs.{needs}
@@ -19,6 +19,20 @@ Inv-loop f a e high t key how at₀ at = (a ≤ at) × (at ≤ e) × ((m : ℕ) 
 
 abbrev μ-loop : tie.MeasureT-loop
 μ-loop f a e high t key how at₀ at = e - at
+
+-- the string that the walk is at has bytes, and it stands in the area, its parts in order
+bounds : (c : tie.After-s Inv-loop μ-loop)
+    → let at-loop = c .before .before .before .before .before in
+    let e = at-loop .before .before .before .before .args .e in
+    let string = c .s .given .0 in
+    (0 < string .1 .0) × (at-loop .loop .at + string .1 .0 ≤ e) × PlaceIn e (string .0)
+bounds c =
+    let at-entry-at = c .before .before in
+    let at-loop-test = at-entry-at .before .before in
+    let at-loop = at-loop-test .before in
+    let start = at-loop .before .before .before .before in
+    place-bounds _ _ _ (start .args .f .now) (start .args .e) (at-loop .loop .at) (at-loop .loop .inv .2 .0) (at-loop-test .loop-test .taken)
+    (start .pre .1) (at-loop .loop .inv .2 .1) _ _ (sym (at-entry-at .entry-at .ensures) ∙ c .s .given .1)
 
 pub find-spec : {M : Type 1} → statement M
 unfolding placesOf
@@ -57,60 +71,9 @@ find-spec =
     find-none _ _ _ _ (place-stop _ _ _ (args .f .now) (args .e) (at-loop .loop .at) (at-loop .loop .inv .2 .0) (at-loop-test .loop-test .taken)
     (start .pre .1) (at-loop .loop .inv .2 .1) (sym (at-entry-at .entry-at .ensures) ∙ c .enum-told .given .1)) ∙ at-loop .loop .inv .2 .2)
     (λ c. search needs)
-    (λ c.
-    let at-s = c .before in
-    let at-entry-at = at-s .before .before in
-    let at-loop-test = at-entry-at .before .before in
-    let at-loop = at-loop-test .before in
-    let start = at-loop .before .before .before .before in
-    let args = start .args in
-    let b = place-bounds _ _ _ (args .f .now) (args .e) (at-loop .loop .at) (at-loop .loop .inv .2 .0) (at-loop-test .loop-test .taken)
-    (start .pre .1)
-    (at-loop .loop .inv .2 .1) _ _ (sym (at-entry-at .entry-at .ensures) ∙ at-s .s .given .1) in omega (
-      arith,
-      b .0,
-      b .1,
-      b .2 .0,
-      b .2 .1,
-      b .2 .2,
-      b .2 .3,
-    ))
-    (λ c.
-    let at-s = c .before in
-    let at-entry-at = at-s .before .before in
-    let at-loop-test = at-entry-at .before .before in
-    let at-loop = at-loop-test .before in
-    let start = at-loop .before .before .before .before in
-    let args = start .args in
-    let b = place-bounds _ _ _ (args .f .now) (args .e) (at-loop .loop .at) (at-loop .loop .inv .2 .0) (at-loop-test .loop-test .taken)
-    (start .pre .1)
-    (at-loop .loop .inv .2 .1) _ _ (sym (at-entry-at .entry-at .ensures) ∙ at-s .s .given .1) in omega (
-      arith,
-      b .0,
-      b .1,
-      b .2 .0,
-      b .2 .1,
-      b .2 .2,
-      b .2 .3,
-    ))
-    (λ c.
-    let at-s = c .before in
-    let at-entry-at = at-s .before .before in
-    let at-loop-test = at-entry-at .before .before in
-    let at-loop = at-loop-test .before in
-    let start = at-loop .before .before .before .before in
-    let args = start .args in
-    let b = place-bounds _ _ _ (args .f .now) (args .e) (at-loop .loop .at) (at-loop .loop .inv .2 .0) (at-loop-test .loop-test .taken)
-    (start .pre .1)
-    (at-loop .loop .inv .2 .1) _ _ (sym (at-entry-at .entry-at .ensures) ∙ at-s .s .given .1) in omega (
-      arith,
-      b .0,
-      b .1,
-      b .2 .0,
-      b .2 .1,
-      b .2 .2,
-      b .2 .3,
-    ))
+    (λ c. let b = bounds (c .before) in omega (arith, b .0, b .1, b .2 .0, b .2 .1, b .2 .2, b .2 .3))
+    (λ c. let b = bounds (c .before) in omega (arith, b .0, b .1, b .2 .0, b .2 .1, b .2 .2, b .2 .3))
+    (λ c. let b = bounds (c .before) in omega (arith, b .0, b .1, b .2 .0, b .2 .1, b .2 .2, b .2 .3))
     (λ c κs. search needs)
     (λ c.
     let at-is-named = c .before in
@@ -123,42 +86,8 @@ find-spec =
     find-here _ (args .f .now) _ _ _ _ (place-next _ _ _ (args .f .now) (args .e) (at-loop .loop .at) (at-loop .loop .inv .2 .0)
     (at-loop-test .loop-test .taken) (start .pre .1) (at-loop .loop .inv .2 .1) _ _ (sym (at-entry-at .entry-at .ensures) ∙ at-s .s .given .1)) (sym
     (at-is-named .is-named .ensures) ∙ c .if1 .taken) ∙ at-loop .loop .inv .2 .2)
-    (λ c.
-    let at-s = c .before .before .before .before in
-    let at-entry-at = at-s .before .before in
-    let at-loop-test = at-entry-at .before .before in
-    let at-loop = at-loop-test .before in
-    let start = at-loop .before .before .before .before in
-    let args = start .args in
-    let b = place-bounds _ _ _ (args .f .now) (args .e) (at-loop .loop .at) (at-loop .loop .inv .2 .0) (at-loop-test .loop-test .taken)
-    (start .pre .1)
-    (at-loop .loop .inv .2 .1) _ _ (sym (at-entry-at .entry-at .ensures) ∙ at-s .s .given .1) in omega (
-      arith,
-      b .0,
-      b .1,
-      b .2 .0,
-      b .2 .1,
-      b .2 .2,
-      b .2 .3,
-    ))
-    (λ c.
-    let at-s = c .before .before .before .before in
-    let at-entry-at = at-s .before .before in
-    let at-loop-test = at-entry-at .before .before in
-    let at-loop = at-loop-test .before in
-    let start = at-loop .before .before .before .before in
-    let args = start .args in
-    let b = place-bounds _ _ _ (args .f .now) (args .e) (at-loop .loop .at) (at-loop .loop .inv .2 .0) (at-loop-test .loop-test .taken)
-    (start .pre .1)
-    (at-loop .loop .inv .2 .1) _ _ (sym (at-entry-at .entry-at .ensures) ∙ at-s .s .given .1) in omega (
-      arith,
-      b .0,
-      b .1,
-      b .2 .0,
-      b .2 .1,
-      b .2 .2,
-      b .2 .3,
-    ))
+    (λ c. let b = bounds (c .before .before .before .before) in omega (arith, b .0, b .1, b .2 .0, b .2 .1, b .2 .2, b .2 .3))
+    (λ c. let b = bounds (c .before .before .before .before) in omega (arith, b .0, b .1, b .2 .0, b .2 .1, b .2 .2, b .2 .3))
     (λ c.
     let at-is-named = c .before in
     let at-s = at-is-named .before .before .before in
@@ -167,9 +96,7 @@ find-spec =
     let at-loop = at-loop-test .before in
     let start = at-loop .before .before .before .before in
     let args = start .args in
-    let b = place-bounds _ _ _ (args .f .now) (args .e) (at-loop .loop .at) (at-loop .loop .inv .2 .0) (at-loop-test .loop-test .taken)
-    (start .pre .1)
-    (at-loop .loop .inv .2 .1) _ _ (sym (at-entry-at .entry-at .ensures) ∙ at-s .s .given .1) in (
+    let b = bounds at-s in (
       omega (arith, b .1),
       b .1,
       (

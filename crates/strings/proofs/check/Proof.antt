@@ -1,7 +1,7 @@
 -- `strings::check` meets its contract. The invariant: the check from here answers as the check of the whole area.
 -- Assumes nothing.
 use mathlib.Core.Path.{_≡_, sym, _∙_}
-use Prim.Native.Nat.{ℕ, _≤_, _-_}
+use Prim.Native.Nat.{ℕ, _≤_, _-_, _+_, _<_}
 use native.Mathlib.Nat.{le-of-eq}
 use lib.ListN.{length}
 use Rattle.word.specs.Part.{part, length-part}
@@ -18,6 +18,20 @@ Inv-loop f a e high t u whose how at₀ k₀ g₀ at k g = (a ≤ at) × (at ≤
 
 abbrev μ-loop : tie.MeasureT-loop
 μ-loop f a e high t u whose how at₀ k₀ g₀ at k g = e - at
+
+-- the string that a step has passed has bytes, and it and its keyword end in the area
+fits : (c : tie.After-s2 Inv-loop μ-loop)
+    → let at-loop = c .before .before .before .before .before .before in
+    let e = at-loop .before .before .before .before .before .args .e in
+    let string = c .s2 .given .0 in
+    (0 < string .0) × (at-loop .loop .at + string .0 ≤ e) × (at-loop .loop .at + 2 + string .1 .0 ≤ e)
+fits c =
+    let at-step-at = c .before .before in
+    let at-loop-test = at-step-at .before .before .before in
+    let at-loop = at-loop-test .before in
+    let start = at-loop .before .before .before .before .before in
+    turn-fits _ _ _ _ _ (start .args .f .now) (start .args .e) (at-loop .loop .at) (at-loop .loop .k) (at-loop .loop .g) (at-loop .loop .inv .4 .0)
+    (at-loop-test .loop-test .taken) (start .pre .1) (at-loop .loop .inv .4 .1) _ _ (sym (at-step-at .step-at .ensures) ∙ c .s2 .given .1)
 
 pub check-spec : {M : Type 1} → statement M
 check-spec =
@@ -72,66 +86,10 @@ check-spec =
     (at-loop-test .loop-test .taken) (start .pre .1) (at-loop .loop .inv .4 .1) (sym (at-step-at .step-at .ensures) ∙ c .enum-told .given .1) ∙
     at-loop .loop .inv .4 .2)
     (λ c. search needs)
-    (λ c.
-    let at-s2 = c .before in
-    let at-step-at = at-s2 .before .before in
-    let at-loop-test = at-step-at .before .before .before in
-    let at-loop = at-loop-test .before in
-    let start = at-loop .before .before .before .before .before in
-    let args = start .args in
-    let b = turn-fits _ _ _ _ _ (args .f .now) (args .e) (at-loop .loop .at) (at-loop .loop .k) (at-loop .loop .g) (at-loop .loop .inv .4 .0)
-    (at-loop-test .loop-test .taken) (start .pre .1) (at-loop .loop .inv .4 .1) _ _ (sym (at-step-at .step-at .ensures) ∙ at-s2 .s2 .given .1) in
-    omega (
-      arith,
-      b .0,
-      b .1,
-      b .2,
-    ))
-    (λ c.
-    let at-s2 = c .before in
-    let at-step-at = at-s2 .before .before in
-    let at-loop-test = at-step-at .before .before .before in
-    let at-loop = at-loop-test .before in
-    let start = at-loop .before .before .before .before .before in
-    let args = start .args in
-    let b = turn-fits _ _ _ _ _ (args .f .now) (args .e) (at-loop .loop .at) (at-loop .loop .k) (at-loop .loop .g) (at-loop .loop .inv .4 .0)
-    (at-loop-test .loop-test .taken) (start .pre .1) (at-loop .loop .inv .4 .1) _ _ (sym (at-step-at .step-at .ensures) ∙ at-s2 .s2 .given .1) in
-    omega (
-      arith,
-      b .0,
-      b .1,
-      b .2,
-    ))
-    (λ c.
-    let at-s2 = c .before in
-    let at-step-at = at-s2 .before .before in
-    let at-loop-test = at-step-at .before .before .before in
-    let at-loop = at-loop-test .before in
-    let start = at-loop .before .before .before .before .before in
-    let args = start .args in
-    let b = turn-fits _ _ _ _ _ (args .f .now) (args .e) (at-loop .loop .at) (at-loop .loop .k) (at-loop .loop .g) (at-loop .loop .inv .4 .0)
-    (at-loop-test .loop-test .taken) (start .pre .1) (at-loop .loop .inv .4 .1) _ _ (sym (at-step-at .step-at .ensures) ∙ at-s2 .s2 .given .1) in
-    omega (
-      arith,
-      b .0,
-      b .1,
-      b .2,
-    ))
-    (λ c.
-    let at-s2 = c .before in
-    let at-step-at = at-s2 .before .before in
-    let at-loop-test = at-step-at .before .before .before in
-    let at-loop = at-loop-test .before in
-    let start = at-loop .before .before .before .before .before in
-    let args = start .args in
-    let b = turn-fits _ _ _ _ _ (args .f .now) (args .e) (at-loop .loop .at) (at-loop .loop .k) (at-loop .loop .g) (at-loop .loop .inv .4 .0)
-    (at-loop-test .loop-test .taken) (start .pre .1) (at-loop .loop .inv .4 .1) _ _ (sym (at-step-at .step-at .ensures) ∙ at-s2 .s2 .given .1) in
-    omega (
-      arith,
-      b .0,
-      b .1,
-      b .2,
-    ))
+    (λ c. let b = fits (c .before) in omega (arith, b .0, b .1, b .2))
+    (λ c. let b = fits (c .before) in omega (arith, b .0, b .1, b .2))
+    (λ c. let b = fits (c .before) in omega (arith, b .0, b .1, b .2))
+    (λ c. let b = fits (c .before) in omega (arith, b .0, b .1, b .2))
     (λ c.
     let at-s2 = c .before in
     let at-step-at = at-s2 .before .before in
@@ -140,8 +98,7 @@ check-spec =
     let start = at-loop .before .before .before .before .before in
     let args = start .args in
     let h = sym (at-step-at .step-at .ensures) ∙ at-s2 .s2 .given .1 in
-    let b = turn-fits _ _ _ _ _ (args .f .now) (args .e) (at-loop .loop .at) (at-loop .loop .k) (at-loop .loop .g) (at-loop .loop .inv .4 .0)
-    (at-loop-test .loop-test .taken) (start .pre .1) (at-loop .loop .inv .4 .1) _ _ h in (
+    let b = fits at-s2 in (
       omega (arith, b .1),
       b .1,
       omega arith,
