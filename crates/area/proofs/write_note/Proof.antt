@@ -1,118 +1,59 @@
 -- `area::write_note` meets its contract. The stores make the string, the offset last. Assumes nothing.
 use mathlib.Core.Path.{refl}
+use Prim.Native.Nat.{_+_, _≤_, _<_}
+use lib.ListN.{length}
 use Rattle.word.specs.Part.{part-rest}
-use Rattle.area.specs.Writing.{note-at, note-written}
+use Rattle.strings.specs.Spelled.{sizeOf}
+use Rattle.sheet.specs.Lines.{sheetLines}
+use Rattle.sheet.specs.Area.{noteOf}
+use Rattle.area.specs.Writing.{NoteAt, note-at, note-written}
 use borrow.Author.Needs.{needs}
 use native.Mathlib.Omega.{arith}
 use Rattle.area.proofs.write_note.Statement.{statement}
 use Rattle.area.proofs.write_note.Tie as tie
+
+-- the NOTE's first line, once its length is known, and the room that the buffer has
+noted : (c : tie.After-line-len)
+    → let start = c .before .before .before .before .before in
+    NoteAt (start .args .u .now) (start .args .s .now) (c .line-len .result)
+    × (sizeOf (start .args .t .now) (noteOf (start .args .u .now) (sheetLines (start .args .s .now))) < 65536)
+    × (start .args .to + sizeOf (start .args .t .now) (noteOf (start .args .u .now) (sheetLines (start .args .s .now))) ≤ length (start .args .part .now))
+noted c =
+    let start = c .before .before .before .before .before in
+    (note-at (start .args .u .now) (start .args .s .now) _ (start .pre .0) (c .line-len .ensures .0), start .pre .1, start .pre .2)
 
 pub write-note-spec : {M : Type 1} → statement M
 write-note-spec =
     tie.close
     (tie.spec
     (λ c κs. search needs)
-    (λ c.
-    let start = c .before .before .before .before .before in
-    let args = start .args in
-    let a = (note-at (args .u .now) (args .s .now) _ (start .pre .0) (c .line-len .ensures .0)) in
-    omega (arith, a .low, a .fits, a .long, a .size, start .pre .1, start .pre .2))
-    (λ c.
-    let start = c .before .before .before .before .before in
-    let args = start .args in
-    let a = (note-at (args .u .now) (args .s .now) _ (start .pre .0) (c .line-len .ensures .0)) in
-    omega (arith, a .low, a .fits, a .long, a .size, start .pre .1, start .pre .2))
-    (λ c.
-    let start = c .before .before .before .before .before in
-    let args = start .args in
-    let a = (note-at (args .u .now) (args .s .now) _ (start .pre .0) (c .line-len .ensures .0)) in
-    omega (arith, a .low, a .fits, a .long, a .size, start .pre .1, start .pre .2))
-    (λ c.
-    let start = c .before .before .before .before .before in
-    let args = start .args in
-    let a = (note-at (args .u .now) (args .s .now) _ (start .pre .0) (c .line-len .ensures .0)) in
-    omega (arith, a .low, a .fits, a .long, a .size, start .pre .1, start .pre .2))
+    (λ c. let a = noted c in omega (arith, a .0 .low, a .0 .fits, a .0 .long, a .0 .size, a .1, a .2))
+    (λ c. let a = noted c in omega (arith, a .0 .low, a .0 .fits, a .0 .long, a .0 .size, a .1, a .2))
+    (λ c. let a = noted c in omega (arith, a .0 .low, a .0 .fits, a .0 .long, a .0 .size, a .1, a .2))
+    (λ c. let a = noted c in omega (arith, a .0 .low, a .0 .fits, a .0 .long, a .0 .size, a .1, a .2))
     (λ c. search needs)
+    (λ c κs. let a = noted (c .before .before) in omega (arith, a .0 .low, a .0 .fits, a .0 .long, a .0 .size, a .1, a .2))
+    (λ c. let a = noted (c .before .before .before .before .before .before) in omega (arith, a .0 .low, a .0 .fits, a .0 .long, a .0 .size, a .1, a .2))
+    (λ c. let a = noted (c .before .before .before .before .before .before) in omega (arith, a .0 .low, a .0 .fits, a .0 .long, a .0 .size, a .1, a .2))
+    (λ c. let a = noted (c .before .before .before .before .before .before) in omega (arith, a .0 .low, a .0 .fits, a .0 .long, a .0 .size, a .1, a .2))
+    (λ c κs. let a = noted (c .before .before .before .before .before .before .before) in omega (arith, a .0 .low, a .0 .fits, a .0 .long, a .0 .size, a .1, a .2))
+    (λ c. let a = noted (c .before .before .before .before .before .before .before .before .before .before .before) in omega (arith, a .0 .low, a .0 .fits, a .0 .long, a .0 .size, a .1, a .2))
+    (λ c. let a = noted (c .before .before .before .before .before .before .before .before .before .before .before) in omega (arith, a .0 .low, a .0 .fits, a .0 .long, a .0 .size, a .1, a .2))
+    (λ c. let a = noted (c .before .before .before .before .before .before .before .before .before .before .before) in omega (arith, a .0 .low, a .0 .fits, a .0 .long, a .0 .size, a .1, a .2))
+    (λ c κs. let a = noted (c .before .before .before .before .before .before .before .before .before .before .before .before) in rw part-rest (a .0 .noted, omega (arith, a .0 .low, a .0 .fits, a .0 .long, a .0 .size, a .1, a .2)))
     (λ c κs.
-    let at-line-len = c .before .before in
-    let start = at-line-len .before .before .before .before .before in
-    let args = start .args in
-    let a = (note-at (args .u .now) (args .s .now) _ (start .pre .0) (at-line-len .line-len .ensures .0)) in
-    omega (arith, a .low, a .fits, a .long, a .size, start .pre .1, start .pre .2))
-    (λ c.
-    let at-line-len = c .before .before .before .before .before .before in
-    let start = at-line-len .before .before .before .before .before in
-    let args = start .args in
-    let a = (note-at (args .u .now) (args .s .now) _ (start .pre .0) (at-line-len .line-len .ensures .0)) in
-    omega (arith, a .low, a .fits, a .long, a .size, start .pre .1, start .pre .2))
-    (λ c.
-    let at-line-len = c .before .before .before .before .before .before in
-    let start = at-line-len .before .before .before .before .before in
-    let args = start .args in
-    let a = (note-at (args .u .now) (args .s .now) _ (start .pre .0) (at-line-len .line-len .ensures .0)) in
-    omega (arith, a .low, a .fits, a .long, a .size, start .pre .1, start .pre .2))
-    (λ c.
-    let at-line-len = c .before .before .before .before .before .before in
-    let start = at-line-len .before .before .before .before .before in
-    let args = start .args in
-    let a = (note-at (args .u .now) (args .s .now) _ (start .pre .0) (at-line-len .line-len .ensures .0)) in
-    omega (arith, a .low, a .fits, a .long, a .size, start .pre .1, start .pre .2))
-    (λ c κs.
-    let at-line-len = c .before .before .before .before .before .before .before in
-    let start = at-line-len .before .before .before .before .before in
-    let args = start .args in
-    let a = (note-at (args .u .now) (args .s .now) _ (start .pre .0) (at-line-len .line-len .ensures .0)) in
-    omega (arith, a .low, a .fits, a .long, a .size, start .pre .1, start .pre .2))
-    (λ c.
-    let at-line-len = c .before .before .before .before .before .before .before .before .before .before .before in
-    let start = at-line-len .before .before .before .before .before in
-    let args = start .args in
-    let a = (note-at (args .u .now) (args .s .now) _ (start .pre .0) (at-line-len .line-len .ensures .0)) in
-    omega (arith, a .low, a .fits, a .long, a .size, start .pre .1, start .pre .2))
-    (λ c.
-    let at-line-len = c .before .before .before .before .before .before .before .before .before .before .before in
-    let start = at-line-len .before .before .before .before .before in
-    let args = start .args in
-    let a = (note-at (args .u .now) (args .s .now) _ (start .pre .0) (at-line-len .line-len .ensures .0)) in
-    omega (arith, a .low, a .fits, a .long, a .size, start .pre .1, start .pre .2))
-    (λ c.
-    let at-line-len = c .before .before .before .before .before .before .before .before .before .before .before in
-    let start = at-line-len .before .before .before .before .before in
-    let args = start .args in
-    let a = (note-at (args .u .now) (args .s .now) _ (start .pre .0) (at-line-len .line-len .ensures .0)) in
-    omega (arith, a .low, a .fits, a .long, a .size, start .pre .1, start .pre .2))
-    (λ c κs.
-    let at-line-len = c .before .before .before .before .before .before .before .before .before .before .before .before in
-    let start = at-line-len .before .before .before .before .before in
-    let args = start .args in
-    let a = (note-at (args .u .now) (args .s .now) _ (start .pre .0) (at-line-len .line-len .ensures .0)) in
-    rw part-rest (a .noted, omega (arith, a .low, a .fits, a .long, a .size, start .pre .1, start .pre .2)))
-    (λ c κs.
-    let start =
-    c .before .before .before .before .before .before .before .before .before .before .before
-    .before .before .before .before .before .before .before .before .before .before in
-    let a =
-    note-at (start .args .u .now) (start .args .s .now) _ (start .pre .0)
-    (c .before .before .before .before .before .before .before .before .before .before .before .before .before .before .before .before .line-len .ensures .0) in
+    let a = noted (c .before .before .before .before .before .before .before .before .before .before .before .before .before .before .before .before) in
     let e = rw part-rest at (c .before .before .before .write-lines .ensures .0) in
-    omega (arith, a .low, a .fits, a .long, a .size, start .pre .1, start .pre .2))
+    omega (arith, a .0 .low, a .0 .fits, a .0 .long, a .0 .size, a .1, a .2))
     (λ c.
-    let at-write-lines = c .before .before .before .before .before .before in
-    let at-line-len = at-write-lines .before .before .before .before .before .before .before .before .before .before .before .before .before in
-    let start = at-line-len .before .before .before .before .before in
-    let args = start .args in
-    let a = (note-at (args .u .now) (args .s .now) _ (start .pre .0) (at-line-len .line-len .ensures .0)) in
-    let e = (rw part-rest at (c .before .before .before .before .before .before .write-lines .ensures .0)) in
-    omega (arith, a .low, a .fits, a .long, a .size, start .pre .1, start .pre .2, e))
+    let a = noted (c .before .before .before .before .before .before .before .before .before .before .before .before .before .before .before .before .before .before .before) in
+    let e = rw part-rest at (c .before .before .before .before .before .before .write-lines .ensures .0) in
+    omega (arith, a .0 .low, a .0 .fits, a .0 .long, a .0 .size, a .1, a .2, e))
     (λ c. search needs)
     (λ c.
-    let at-write-lines = c .before .before .before .before .before .before .before in
-    let at-line-len = at-write-lines .before .before .before .before .before .before .before .before .before .before .before .before .before in
-    let start = at-line-len .before .before .before .before .before in
-    let args = start .args in
-    let a = (note-at (args .u .now) (args .s .now) _ (start .pre .0) (at-line-len .line-len .ensures .0)) in
-    let e = (rw part-rest at (c .before .before .before .before .before .before .before .write-lines .ensures .0)) in
-    omega (arith, a .low, a .fits, a .long, a .size, start .pre .1, start .pre .2, e))
+    let a = noted (c .before .before .before .before .before .before .before .before .before .before .before .before .before .before .before .before .before .before .before .before) in
+    let e = rw part-rest at (c .before .before .before .before .before .before .before .write-lines .ensures .0) in
+    omega (arith, a .0 .low, a .0 .fits, a .0 .long, a .0 .size, a .1, a .2, e))
     (λ c κs. search needs)
     (λ c. search needs)
     (λ c.
