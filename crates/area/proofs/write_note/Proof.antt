@@ -36,22 +36,36 @@ write-note-spec =
     (λ c. let a = noted (c .before .before .before .before .before .before) in omega (arith, a .0 .low, a .0 .fits, a .0 .long, a .0 .size, a .1, a .2))
     (λ c. let a = noted (c .before .before .before .before .before .before) in omega (arith, a .0 .low, a .0 .fits, a .0 .long, a .0 .size, a .1, a .2))
     (λ c. let a = noted (c .before .before .before .before .before .before) in omega (arith, a .0 .low, a .0 .fits, a .0 .long, a .0 .size, a .1, a .2))
-    (λ c κs. let a = noted (c .before .before .before .before .before .before .before) in omega (arith, a .0 .low, a .0 .fits, a .0 .long, a .0 .size, a .1, a .2))
-    (λ c. let a = noted (c .before .before .before .before .before .before .before .before .before .before .before) in omega (arith, a .0 .low, a .0 .fits, a .0 .long, a .0 .size, a .1, a .2))
-    (λ c. let a = noted (c .before .before .before .before .before .before .before .before .before .before .before) in omega (arith, a .0 .low, a .0 .fits, a .0 .long, a .0 .size, a .1, a .2))
-    (λ c. let a = noted (c .before .before .before .before .before .before .before .before .before .before .before) in omega (arith, a .0 .low, a .0 .fits, a .0 .long, a .0 .size, a .1, a .2))
-    (λ c κs. let a = noted (c .before .before .before .before .before .before .before .before .before .before .before .before) in rw part-rest (a .0 .noted, omega (arith, a .0 .low, a .0 .fits, a .0 .long, a .0 .size, a .1, a .2)))
+    (λ c κs.
+    let a = noted (c .before .before .before .before .before .before .before) in
+    omega (arith, a .0 .low, a .0 .fits, a .0 .long, a .0 .size, a .1, a .2))
+    (λ c.
+    let a = noted (c .before .before .before .before .before .before .before .before .before .before .before) in
+    omega (arith, a .0 .low, a .0 .fits, a .0 .long, a .0 .size, a .1, a .2))
+    (λ c.
+    let a = noted (c .before .before .before .before .before .before .before .before .before .before .before) in
+    omega (arith, a .0 .low, a .0 .fits, a .0 .long, a .0 .size, a .1, a .2))
+    (λ c.
+    let a = noted (c .before .before .before .before .before .before .before .before .before .before .before) in
+    omega (arith, a .0 .low, a .0 .fits, a .0 .long, a .0 .size, a .1, a .2))
+    (λ c κs.
+    let a = noted (c .before .before .before .before .before .before .before .before .before .before .before .before) in
+    rw part-rest (a .0 .noted, omega (arith, a .0 .low, a .0 .fits, a .0 .long, a .0 .size, a .1, a .2)))
     (λ c κs.
     let a = noted (c .before .before .before .before .before .before .before .before .before .before .before .before .before .before .before .before) in
     let e = rw part-rest at (c .before .before .before .write-lines .ensures .0) in
     omega (arith, a .0 .low, a .0 .fits, a .0 .long, a .0 .size, a .1, a .2))
     (λ c.
-    let a = noted (c .before .before .before .before .before .before .before .before .before .before .before .before .before .before .before .before .before .before .before) in
+    let a =
+    noted (c .before .before .before .before .before .before
+    .before .before .before .before .before .before .before .before .before .before .before .before .before) in
     let e = rw part-rest at (c .before .before .before .before .before .before .write-lines .ensures .0) in
     omega (arith, a .0 .low, a .0 .fits, a .0 .long, a .0 .size, a .1, a .2, e))
     (λ c. search needs)
     (λ c.
-    let a = noted (c .before .before .before .before .before .before .before .before .before .before .before .before .before .before .before .before .before .before .before .before) in
+    let a =
+    noted (c .before .before .before .before .before .before .before
+    .before .before .before .before .before .before .before .before .before .before .before .before .before) in
     let e = rw part-rest at (c .before .before .before .before .before .before .before .write-lines .ensures .0) in
     omega (arith, a .0 .low, a .0 .fits, a .0 .long, a .0 .size, a .1, a .2, e))
     (λ c κs. search needs)
@@ -62,11 +76,8 @@ write-note-spec =
     let at-write-lines = at-copy3 .before .before .before .before in
     let at-copy2 = at-write-lines .before .before .before .before .before in
     let at-copy = at-copy2 .before .before .before .before .before in
-    let at-line-len = at-copy .before .before .before in
-    let start = at-line-len .before .before .before .before .before in
-    let args = start .args in
-    let a = (note-at (args .u .now) (args .s .now) _ (start .pre .0) (at-line-len .line-len .ensures .0)) in
-    let e = (rw part-rest at (at-write-lines .write-lines .ensures .0)) in (
+    let a = noted (at-copy .before .before .before) .0 in
+    let e = rw part-rest at (at-write-lines .write-lines .ensures .0) in (
       omega (arith, a .size),
       note-written _ _ _ _ _ _ _ _ _ _ _ _ a _ _ _ _ _ refl refl refl e (omega (arith, a .size)) (at-copy .copy .ensures)
           (at-copy2 .copy2 .ensures) (rw part-rest at (at-write-lines .write-lines .ensures .1)) (at-copy3 .copy3 .ensures) (at-put2 .put2 .ensures),

@@ -1,7 +1,7 @@
 -- `area::write_strings` meets its contract. The invariant: what is left to store, stored, makes the whole. Assumes
 -- nothing.
 use mathlib.Core.Path.{_≡_, refl, sym, _∙_}
-use Prim.Native.Nat.{_≤_, _-_}
+use Prim.Native.Nat.{_+_, _-_, _≤_, _<_}
 use lib.ListN.{length}
 use Rattle.word.specs.Part.{part-rest}
 use Rattle.word.specs.Put.{length-put}
@@ -18,6 +18,16 @@ Inv-loop part₀ high t u sheet at₀ to₀ part at to = (at ≤ length sheet) �
 abbrev μ-loop : tie.MeasureT-loop
 μ-loop part₀ high t u sheet at₀ to₀ part at to = length sheet - at
 
+-- the line that the walk is at ends before the sheet does
+ends : (c : tie.After-line-len Inv-loop μ-loop)
+    → let at-loop = c .before .before .before in
+    at-loop .loop .at + c .line-len .result < length (at-loop .before .before .before .before .before .args .sheet .now)
+ends c =
+    let at-loop-test = c .before .before in
+    let at-loop = at-loop-test .before in
+    line-fits _ _ _ _ _ (at-loop .loop .at) _ _ (at-loop .loop .inv .2) (at-loop-test .loop-test .taken) _
+    (rw part-rest at (c .line-len .ensures .0))
+
 pub write-strings-spec : {M : Type 1} → statement M
 write-strings-spec =
     tie.close
@@ -29,30 +39,10 @@ write-strings-spec =
     (λ c. search needs)
     (λ c. search needs)
     (λ c κs. search needs)
-    (λ c.
-    let at-loop-test = c .before .before in
-    let at-loop = at-loop-test .before in
-    let b = line-fits _ _ _ _ _ (at-loop .loop .at) _ _ (at-loop .loop .inv .2) (at-loop-test .loop-test .taken) _
-    (rw part-rest at (c .line-len .ensures .0)) in
-    omega (arith, b))
-    (λ c.
-    let at-loop-test = c .before .before in
-    let at-loop = at-loop-test .before in
-    let b = line-fits _ _ _ _ _ (at-loop .loop .at) _ _ (at-loop .loop .inv .2) (at-loop-test .loop-test .taken) _
-    (rw part-rest at (c .line-len .ensures .0)) in
-    omega (arith, b))
-    (λ c.
-    let at-loop-test = c .before .before in
-    let at-loop = at-loop-test .before in
-    let b = line-fits _ _ _ _ _ (at-loop .loop .at) _ _ (at-loop .loop .inv .2) (at-loop-test .loop-test .taken) _
-    (rw part-rest at (c .line-len .ensures .0)) in
-    omega (arith, b))
-    (λ c.
-    let at-loop-test = c .before .before in
-    let at-loop = at-loop-test .before in
-    let b = line-fits _ _ _ _ _ (at-loop .loop .at) _ _ (at-loop .loop .inv .2) (at-loop-test .loop-test .taken) _
-    (rw part-rest at (c .line-len .ensures .0)) in
-    omega (arith, b))
+    (λ c. omega (arith, ends c))
+    (λ c. omega (arith, ends c))
+    (λ c. omega (arith, ends c))
+    (λ c. omega (arith, ends c))
     (λ c κs. search needs)
     (λ c.
     let at-loop = c .before .before .before .before .before in
