@@ -3,7 +3,7 @@
 use mathlib.Core.Path.{_≡_, refl, sym, _∙_}
 use Prim.Native.Nat.{_+_, _-_, _≤_, _<_}
 use lib.ListN.{length}
-use Rattle.word.specs.Part.{part-rest}
+use Rattle.word.specs.Part.{part, part-rest}
 use Rattle.word.specs.Put.{length-put}
 use Rattle.area.specs.Writing.{Strung, texts-room, strung-start, line-fits, strung-fits, strung-room, strung-turn}
 use Rattle.area.specs.Writing.{strung-headed, strung-note-room, strung-note, strung-over}
@@ -28,6 +28,21 @@ ends c =
     line-fits _ _ _ _ _ (at-loop .loop .at) _ _ (at-loop .loop .inv .2) (at-loop-test .loop-test .taken) _
     (rw part-rest at (c .line-len .ensures .0))
 
+-- its keyword is shorter than it, and it is as long as what is lent of it
+fits : (c : tie.After-key-run Inv-loop μ-loop)
+    → let at-line-len = c .before .before in
+    let n = at-line-len .line-len .result in
+    let at-loop = at-line-len .before .before .before in
+    let sheet = at-loop .before .before .before .before .before .args .sheet .now in
+    let line = part (at-loop .loop .at) (at-loop .loop .at + n) sheet in
+    (c .key-run .result < n) × (at-loop .loop .at + n < length sheet) × (c .key-run .result < length line) × (length line ≡ n)
+fits c =
+    let at-line-len = c .before .before in
+    let at-loop-test = at-line-len .before .before in
+    let at-loop = at-loop-test .before in
+    strung-fits _ _ _ _ _ (at-loop .loop .at) _ _ (at-loop .loop .inv .2) (at-loop-test .loop-test .taken) _
+    (rw part-rest at (at-line-len .line-len .ensures .0)) _ (c .key-run .ensures .0)
+
 pub write-strings-spec : {M : Type 1} → statement M
 write-strings-spec =
     tie.close
@@ -44,32 +59,10 @@ write-strings-spec =
     (λ c. omega (arith, ends c))
     (λ c. omega (arith, ends c))
     (λ c κs. search needs)
-    (λ c.
-    let at-loop = c .before .before .before .before .before in
-    let b = strung-fits _ _ _ _ _ (at-loop .loop .at) _ _ (at-loop .loop .inv .2) (c .before .before .before .before .loop-test .taken) _
-    (rw part-rest at (c .before .before .line-len .ensures .0)) _ (c .key-run .ensures .0) in
-    omega (arith, b .0, b .1, b .2, b .3))
-    (λ c.
-    let at-line-len = c .before .before in
-    let at-loop-test = at-line-len .before .before in
-    let at-loop = at-loop-test .before in
-    let b = strung-fits _ _ _ _ _ (at-loop .loop .at) _ _ (at-loop .loop .inv .2) (at-loop-test .loop-test .taken) _
-    (rw part-rest at (at-line-len .line-len .ensures .0)) _ (c .key-run .ensures .0) in
-    omega (arith, b .0, b .1, b .2, b .3))
-    (λ c.
-    let at-line-len = c .before .before in
-    let at-loop-test = at-line-len .before .before in
-    let at-loop = at-loop-test .before in
-    let b = strung-fits _ _ _ _ _ (at-loop .loop .at) _ _ (at-loop .loop .inv .2) (at-loop-test .loop-test .taken) _
-    (rw part-rest at (at-line-len .line-len .ensures .0)) _ (c .key-run .ensures .0) in
-    omega (arith, b .0, b .1, b .2, b .3))
-    (λ c.
-    let at-line-len = c .before .before in
-    let at-loop-test = at-line-len .before .before in
-    let at-loop = at-loop-test .before in
-    let b = strung-fits _ _ _ _ _ (at-loop .loop .at) _ _ (at-loop .loop .inv .2) (at-loop-test .loop-test .taken) _
-    (rw part-rest at (at-line-len .line-len .ensures .0)) _ (c .key-run .ensures .0) in
-    omega (arith, b .0, b .1, b .2, b .3))
+    (λ c. let b = fits c in omega (arith, b .0, b .1, b .2, b .3))
+    (λ c. let b = fits c in omega (arith, b .0, b .1, b .2, b .3))
+    (λ c. let b = fits c in omega (arith, b .0, b .1, b .2, b .3))
+    (λ c. let b = fits c in omega (arith, b .0, b .1, b .2, b .3))
     (λ c κs. search needs)
     (λ c. search needs)
     (λ c. search needs)
@@ -106,30 +99,9 @@ write-strings-spec =
     (rw part-rest at (at-line-len .line-len .ensures .0)) _ (at-key-run .key-run .ensures .0)
     (sym (at-is-note .is-note .ensures) ∙ at-if1 .if1 .taken) _ _ (rw part-rest at (at-write-note .write-note .ensures .0))
     (rw part-rest at (at-write-note .write-note .ensures .1)))
-    (λ c.
-    let at-key-run = c .before .before .before .before in
-    let at-line-len = at-key-run .before .before in
-    let at-loop-test = at-line-len .before .before in
-    let at-loop = at-loop-test .before in
-    let b = strung-fits _ _ _ _ _ (at-loop .loop .at) _ _ (at-loop .loop .inv .2) (at-loop-test .loop-test .taken) _
-    (rw part-rest at (at-line-len .line-len .ensures .0)) _ (at-key-run .key-run .ensures .0) in
-    omega (arith, b .0, b .1, b .2, b .3))
-    (λ c.
-    let at-key-run = c .before .before .before .before in
-    let at-line-len = at-key-run .before .before in
-    let at-loop-test = at-line-len .before .before in
-    let at-loop = at-loop-test .before in
-    let b = strung-fits _ _ _ _ _ (at-loop .loop .at) _ _ (at-loop .loop .inv .2) (at-loop-test .loop-test .taken) _
-    (rw part-rest at (at-line-len .line-len .ensures .0)) _ (at-key-run .key-run .ensures .0) in
-    omega (arith, b .0, b .1, b .2, b .3))
-    (λ c.
-    let at-key-run = c .before .before .before .before in
-    let at-line-len = at-key-run .before .before in
-    let at-loop-test = at-line-len .before .before in
-    let at-loop = at-loop-test .before in
-    let b = strung-fits _ _ _ _ _ (at-loop .loop .at) _ _ (at-loop .loop .inv .2) (at-loop-test .loop-test .taken) _
-    (rw part-rest at (at-line-len .line-len .ensures .0)) _ (at-key-run .key-run .ensures .0) in
-    omega (arith, b .0, b .1, b .2, b .3))
+    (λ c. let b = fits (c .before .before .before .before) in omega (arith, b .0, b .1, b .2, b .3))
+    (λ c. let b = fits (c .before .before .before .before) in omega (arith, b .0, b .1, b .2, b .3))
+    (λ c. let b = fits (c .before .before .before .before) in omega (arith, b .0, b .1, b .2, b .3))
     (λ c κs.
     let at-if1 = c .before .before in
     let at-is-note = at-if1 .before in
@@ -152,14 +124,7 @@ write-strings-spec =
     (rw part-rest at (c .before .before .before .before .before .before .before .before .before .before .line-len .ensures .0)) _
     (c .before .before .before .before .before .before .before .before .key-run .ensures .0) in
     omega (arith, b .0, b .1, b .2, b .3))
-    (λ c.
-    let at-key-run = c .before .before .before .before .before .before .before .before in
-    let at-line-len = at-key-run .before .before in
-    let at-loop-test = at-line-len .before .before in
-    let at-loop = at-loop-test .before in
-    let b = strung-fits _ _ _ _ _ (at-loop .loop .at) _ _ (at-loop .loop .inv .2) (at-loop-test .loop-test .taken) _
-    (rw part-rest at (at-line-len .line-len .ensures .0)) _ (at-key-run .key-run .ensures .0) in
-    omega (arith, b .0, b .1, b .2, b .3))
+    (λ c. let b = fits (c .before .before .before .before .before .before .before .before) in omega (arith, b .0, b .1, b .2, b .3))
     (λ c.
     let at-write-line = c .before .before in
     let at-if1 = at-write-line .before .before .before in
