@@ -15,3 +15,4 @@ pub mod Locations
 pub mod Exported
 pub mod Notes
 pub mod Ignored
+pub mod Repeats

@@ -20,9 +20,9 @@ use Rattle.image.specs.Image.{checkOf}
 use Rattle.reader.specs.declared.CountAnswer.the-variants as count
 use Rattle.reader.specs.declared.StringAnswer.the-variants as string
 use Rattle.reader.specs.declared.KeywordAnswer.the-variants.{Yes, No}
-use Rattle.reader.specs.Questions.{countAnswer, nthAnswer, keywordAnswer, valueAnswer, numberAnswer, doubleAnswer}
+use Rattle.reader.specs.Questions.{countAnswer, nthAnswer, findAnswer, keywordAnswer, valueAnswer, numberAnswer, doubleAnswer}
 use Rattle.reader.specs.Questions.{locationAnswer}
-use Rattle.reader.specs.Listed.{Lists, IsString, listed-count, listed-nth, listed-past, listed-keyword, listed-value}
+use Rattle.reader.specs.Listed.{Lists, IsString, listed-count, listed-nth, listed-past, listed-first, listed-keyword, listed-value}
 use Rattle.reader.specs.Listed.{listed-number, listed-double, listed-location}
 
 -- the answers on part z of the file in the first n bytes of xs
@@ -30,6 +30,9 @@ pub record AnswersBy (xs : List ℕ) (n : ℕ) (z : ℤ) (ss : List Str) : Type 
   pub many : countAnswer Strict xs n z ≡ count.Is (length ss)
   pub nth : (i : ℕ) → i < length ss → (s : Place) × (nthAnswer Strict xs n z i ≡ string.There s) × IsString (take n xs) s (nthStr ss i)
   pub past : (i : ℕ) → length ss ≤ i → nthAnswer Strict xs n z i ≡ string.Absent
+  -- the string of a keyword is the first that has it (document 02, §1)
+  pub first : (key : List ℕ) (i : ℕ) → i < length ss → nthStr ss i .key ≡ key → ((j : ℕ) → j < i → nthStr ss j .key ≡ key → ⊥)
+      → findAnswer Strict xs n z key ≡ nthAnswer Strict xs n z i
   pub keyword : (key : List ℕ) → keywordAnswer Strict xs n z key ≡ pick (hasKey Strict ss key) Yes No
   pub value : (key : List ℕ) → valueAnswer Strict xs n z key ≡ valueOfKey Strict ss key
   pub number : (key : List ℕ) → numberAnswer Strict xs n z key ≡ numberIn (valueOfKey Strict ss key)
@@ -42,6 +45,7 @@ answered xs n z ss ok l =
       many = listed-count Strict xs n z ss ok l;
       nth = listed-nth Strict xs n z ss ok l;
       past = listed-past Strict xs n z ss ok l;
+      first = listed-first Strict xs n z ss ok l;
       keyword = listed-keyword Strict xs n z ss ok l;
       value = listed-value Strict xs n z ss ok l;
       number = listed-number Strict xs n z ss ok l;

@@ -20,7 +20,7 @@ use Rattle.strings.specs.declared.Found.{Found}
 use Rattle.strings.specs.declared.Found.the-variants.{Nothing, Is}
 use Rattle.strings.specs.Strings.{placesOf, keyIn, valueIn, nthOf, findOf, keyFound, valueFound}
 use Rattle.strings.specs.Spelled.{Str, Spells, nthStr, valueOfKey, hasKey}
-use Rattle.strings.specs.Paper.{spelled-once, spelled-count, spelled-nth, found, spelled-value}
+use Rattle.strings.specs.Paper.{spelled-once, spelled-places, spelled-count, spelled-nth, found, spelled-value, find-first}
 use Rattle.head.specs.Head.{highFirst, roomOf, countOf, stringEnd, lineEnd}
 use Rattle.block.specs.Block.{dataAt}
 use Rattle.image.specs.Image.{checkOf}
@@ -40,6 +40,7 @@ use Rattle.reader.specs.declared.StringAnswer.{StringAnswer}
 use Rattle.reader.specs.declared.StringAnswer.the-variants as string
 use Rattle.reader.specs.declared.KeywordAnswer.the-variants as keyword
 use Rattle.text.specs.declared.Manner.{Manner}
+use Rattle.text.specs.Manner.{named}
 use Rattle.head.specs.declared.Purpose.the-variants.{Read}
 use Rattle.reader.specs.Questions.{whoseOf, areaNamed, areaAsked, there, yesOrNo, valueThere, onString}
 use Rattle.reader.specs.Questions.{countAnswer, nthAnswer, findAnswer, keywordAnswer, valueAnswer, numberAnswer}
@@ -176,6 +177,16 @@ module _ (how : Manner) (xs : List ℕ) (n : ℕ) (z : ℤ) (ss : List Str) (ok 
   find-answer : (key : List ℕ) → there (findOf how (take n xs) places key) ≡ findAnswer how xs n z key
   find-answer key =
       find-told how xs n z (l .a) (l .e) _ _ opens refl refl key (findOf how (take n xs) places key) (there (findOf how (take n xs) places key)) refl refl
+
+  -- the string that is found is the first that counts as the asked one
+  pub listed-first : (key : List ℕ) (i : ℕ) → i < length ss → named how (nthStr ss i .key) ≡ key
+      → ((j : ℕ) → j < i → named how (nthStr ss j .key) ≡ key → ⊥) → findAnswer how xs n z key ≡ nthAnswer how xs n z i
+  listed-first key i h e free =
+      let w = spelled-places how (take n xs) (stringEnd (take n xs)) (lineEnd (take n xs)) (highFirst (take n xs)) (l .a) (l .e) ss (reaches .low)
+      (reaches .end) (l .spells) in
+      sym (find-answer key)
+      ∙ ap there (find-first how (take n xs) places key i (omega (arith, many, h)) (rw w e) (λ j b k. free j b (rw w at k)))
+      ∙ nth-answer i
 
   finds : (key : List ℕ) → (found (findOf how (take n xs) places key) ≡ hasKey how ss key)
       × (valueFound (take n xs) (findOf how (take n xs) places key) ≡ valueOfKey how ss key)

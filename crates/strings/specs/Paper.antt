@@ -39,7 +39,7 @@ use Rattle.text.specs.declared.Manner.{Manner}
 use Rattle.text.specs.declared.Manner.the-variants.{Strict}
 use Rattle.chars.specs.Chars.{blank, solid, solid-not-blank}
 use Rattle.chars.specs.Runs.{run, all, same, same-eq, same-refl, Stops, all-weaker, run-all, run-stops, run-append}
-use Rattle.text.specs.Order.{rises, rises-strict, rises-transitive}
+use Rattle.text.specs.Order.{rises, repeats, rises-again, rises-transitive, rises-both}
 use Rattle.text.specs.Manner.{openEnd, letter, letter-solid, named, follows}
 use Rattle.note.specs.Note.{LineEnd, value-accept, value-spelled}
 use Rattle.strings.specs.Strings.{offset, body, keyLen, keyOf, afterKey, gapLen, gapOf, valueOf, cut, frameRows}
@@ -491,7 +491,7 @@ spelled-value how f t u high a e ss key low fits h =
       find-value-in how f (placesOf how high t (part a e f) a) key ∙ ap (λ (rs : List Str). valueOfKey how rs key) w,
     )
 
--- ---- keywords occur once, so the first string with a keyword is the one
+-- ---- each keyword stands once but those that may repeat, whose strings stand together
 
 -- every later keyword may follow an earlier one
 later-rises : (t u prev : List ℕ) (ss : List Str) (i : ℕ) → Rising Strict t u prev ss → i < length ss → rises prev (nthStr ss i .key) ≡ true
@@ -500,21 +500,37 @@ later-rises t u prev (s ∷ ss) zero g h = g .1
 later-rises t u prev (s ∷ ss) (suc i) g h =
     rises-transitive prev (s .key) (nthStr ss i .key) (g .1) (later-rises t u (s .key) ss i (g .2) (omega arith))
 
-pub keywords-once : (t u prev : List ℕ) (ss : List Str) (i : ℕ) → Rising Strict t u prev ss → i < length ss
-    → valueOfKey Strict ss (nthStr ss i .key) ≡ nthStr ss i .value
-unfolding valueOfKey
-keywords-once t u prev [] i g h = absurd (omega arith)
-keywords-once t u prev (s ∷ ss) zero g h = rw (same-refl (s .key))
-keywords-once t u prev (s ∷ ss) (suc i) g h =
-    go (same (s .key) (nthStr ss i .key)) refl (later-rises t u (s .key) ss i (g .2) (omega arith)) (keywords-once t u (s .key) ss i (g .2) (omega arith))
+pairs-rise : (t u prev : List ℕ) (ss : List Str) (i j : ℕ) → Rising Strict t u prev ss → i < j → j < length ss
+    → rises (nthStr ss i .key) (nthStr ss j .key) ≡ true
+pairs-rise t u prev [] i j g l h = absurd (omega arith)
+pairs-rise t u prev (s ∷ ss) i zero g l h = absurd (omega arith)
+pairs-rise t u prev (s ∷ ss) zero (suc j) g l h = later-rises t u (s .key) ss j (g .2) (omega arith)
+pairs-rise t u prev (s ∷ ss) (suc i) (suc j) g l h = pairs-rise t u (s .key) ss i j (g .2) (omega arith) (omega arith)
+
+spelled-rise : {high : Bool} {t u l : List ℕ} (ss : List Str) (i j : ℕ) → Spells Strict high t u ss l → i < j → j < length ss
+    → rises (nthStr ss i .key) (nthStr ss j .key) ≡ true
+spelled-rise ss i j empty l h = absurd (omega arith)
+spelled-rise {t = t} {u = u} ss i j (full x g) l h = pairs-rise t u [] ss i j g l h
+
+pub keywords-once : {high : Bool} {t u l : List ℕ} (ss : List Str) (i j : ℕ) → Spells Strict high t u ss l → i < j → j < length ss
+    → nthStr ss i .key ≡ nthStr ss j .key
+    → (repeats (nthStr ss i .key) ≡ true) × ((k : ℕ) → i < k → k < j → nthStr ss k .key ≡ nthStr ss i .key)
+keywords-once ss i j g l h e =
+    let back : (k : ℕ) → k < j → rises (nthStr ss k .key) (nthStr ss i .key) ≡ true =
+    λ k m. ap (λ (x : List ℕ). rises (nthStr ss k .key) x) e ∙ spelled-rise ss k j g m h in
+    (sym (rises-again (nthStr ss i .key)) ∙ back i l, λ k a b. rises-both _ _ (back k b) (spelled-rise ss i k g a (omega arith)))
+
+-- ---- a question answers the first string that counts as the asked one
+
+pub find-first : (how : Manner) (f : List ℕ) (ps : List Place) (key : List ℕ) (i : ℕ) → i < length ps
+    → named how (nthStr (strsIn f ps) i .key) ≡ key → ((j : ℕ) → j < i → named how (nthStr (strsIn f ps) j .key) ≡ key → ⊥)
+    → findOf how f ps key ≡ nthOf ps i
+unfolding findOf nthOf
+find-first how f [] key i h e free = absurd (omega arith)
+find-first how f (p ∷ ps) key zero h e free = rw (e, same-refl key)
+find-first how f (p ∷ ps) key (suc i) h e free =
+    go (same (named how (keyIn f p)) key) refl (find-first how f ps key i (omega arith) e (λ j l. free (suc j) (omega arith)))
   where
-    go : (w : Bool) → same (s .key) (nthStr ss i .key) ≡ w → rises (s .key) (nthStr ss i .key) ≡ true
-        → valueOfKey Strict ss (nthStr ss i .key) ≡ nthStr ss i .value
-        → pick w (s .value) (valueOfKey Strict ss (nthStr ss i .key)) ≡ nthStr ss i .value
-    go true q r v =
-        let k : s .key ≡ nthStr ss i .key = same-eq (s .key) (nthStr ss i .key) q in
-        let x : rises (s .key) (s .key) ≡ true = rw (← k) at r in
-        let y = rises-strict (s .key) in
-        let z : _≡_ {A = ℕ} 0 1 = cc in
-        absurd (omega arith)
-    go false q r v = v
+    go : (w : Bool) → same (named how (keyIn f p)) key ≡ w → findOf how f ps key ≡ nthOf ps i → pick w (Is p) (findOf how f ps key) ≡ nthOf ps i
+    go true q r = absurd (free 0 (omega arith) (same-eq _ key q))
+    go false q r = r

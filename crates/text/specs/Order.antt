@@ -1,17 +1,21 @@
 -- The order of keywords: "Keywords strictly rise in byte order, a prefix first; NOTE comes after all others, once at
--- most" (document 01, "Strings"). Everything that asks for the order asks `rises`, by its laws.
+-- most" (document 01, "Strings"); "RECEIVER_GEOMETRY and SOURCE_GEOMETRY may stand several times running, in files and
+-- in sheets; all others still rise strictly" (document 02, §1). Everything that asks for the order asks `rises`, by its
+-- laws.
 -- Assumes nothing.
-use mathlib.Core.Path.{_≡_, refl}
-use mathlib.Core.Bool.{Bool, true, false}
+use mathlib.Core.Path.{_≡_, refl, sym, _∙_}
+use mathlib.Core.Bool.{Bool, true, false, _&&_, _||_}
 use mathlib.Core.List.{List, [], _∷_}
+use mathlib.Core.Logic.{_↔_, _⊎_, inl, inr, ⊎-elim}
 use Prim.Native.Nat.{ℕ, _+_, _≤_, _<_}
 use native.Mathlib.Omega.{arith}
 use lib.ListN.{length, getD, drop}
 use lib.Dec.{ltb}
 use borrow.Author.Tests.{ltb-true, ltb-false, lt-ltb, le-ltb}
+use Rattle.word.specs.Tests.{never}
 use Rattle.refusal.specs.Rows.{pick}
 use Rattle.chars.specs.Chars.{note}
-use Rattle.chars.specs.Runs.{same, same-refl, more, none}
+use Rattle.chars.specs.Runs.{same, same-eq, same-refl, more, none}
 
 -- byte order, a prefix first
 unfoldable pub less : List ℕ → List ℕ → Bool
@@ -20,9 +24,25 @@ less [] (y ∷ ys) = true
 less (x ∷ xs) [] = false
 less (x ∷ xs) (y ∷ ys) = pick (ltb x y) true (pick (ltb y x) false (less xs ys))
 
+-- whether the keyword p comes before the keyword k
+unfoldable pub before : List ℕ → List ℕ → Bool
+before p k = pick (same p note) false (pick (same k note) true (less p k))
+
+-- RECEIVER_GEOMETRY
+abbrev pub receiverGeometry : List ℕ
+receiverGeometry = 82 ∷ 69 ∷ 67 ∷ 69 ∷ 73 ∷ 86 ∷ 69 ∷ 82 ∷ 95 ∷ 71 ∷ 69 ∷ 79 ∷ 77 ∷ 69 ∷ 84 ∷ 82 ∷ 89 ∷ []
+
+-- SOURCE_GEOMETRY
+abbrev pub sourceGeometry : List ℕ
+sourceGeometry = 83 ∷ 79 ∷ 85 ∷ 82 ∷ 67 ∷ 69 ∷ 95 ∷ 71 ∷ 69 ∷ 79 ∷ 77 ∷ 69 ∷ 84 ∷ 82 ∷ 89 ∷ []
+
+-- whether the keyword k "may stand several times running"
+unfoldable pub repeats : List ℕ → Bool
+repeats k = same k receiverGeometry || same k sourceGeometry
+
 -- whether the keyword k may follow the keyword p; the first keyword follows the empty one
 unfoldable pub rises : List ℕ → List ℕ → Bool
-rises p k = pick (same p note) false (pick (same k note) true (less p k))
+rises p k = before p k || (same p k && repeats k)
 
 -- ---- its laws
 
@@ -63,38 +83,18 @@ less-transitive (x ∷ a) (y ∷ b) (z ∷ c) h k =
     let m : y ≤ z = q .0 in
     cons-less x z a c (omega arith) (λ n. less-transitive a b c (p .1 (omega arith)) (q .1 (omega arith)))
 
--- a keyword does not follow itself
-pub rises-strict : (k : List ℕ) → rises k k ≡ false
-unfolding rises
-rises-strict k = go (same k note)
+-- a keyword does not come before itself
+before-irreflexive : (k : List ℕ) → before k k ≡ false
+unfolding before
+before-irreflexive k = go (same k note)
   where
     go : (w : Bool) → pick w false (pick w true (less k k)) ≡ false
     go true = refl
     go false = less-irreflexive k
 
--- NOTE follows every other keyword, and none follows it
-pub note-last : (k : List ℕ) → rises note k ≡ false
-unfolding rises
-note-last k = rw (same-refl note)
-
-pub rises-note : (p k : List ℕ) → same p note ≡ true → rises p k ≡ false
-unfolding rises
-rises-note p k h = rw h
-
--- the first keyword is free
-pub rises-first : (k : List ℕ) → 0 < length k → rises [] k ≡ true
-unfolding rises same less
-rises-first [] h = absurd (omega arith)
-rises-first (x ∷ xs) h = go (same (x ∷ xs) note)
-  where
-    go : (w : Bool) → pick w true true ≡ true
-    go true = refl
-    go false = refl
-
--- what follows a follower follows
-pub rises-transitive : (a b c : List ℕ) → rises a b ≡ true → rises b c ≡ true → rises a c ≡ true
-unfolding rises
-rises-transitive a b c h k = go (same a note) (same b note) (same c note) h k
+before-transitive : (a b c : List ℕ) → before a b ≡ true → before b c ≡ true → before a c ≡ true
+unfolding before
+before-transitive a b c h k = go (same a note) (same b note) (same c note) h k
   where
     go : (u v w : Bool) → pick u false (pick v true (less a b)) ≡ true → pick v false (pick w true (less b c)) ≡ true
         → pick u false (pick w true (less a c)) ≡ true
@@ -102,6 +102,73 @@ rises-transitive a b c h k = go (same a note) (same b note) (same c note) h k
     go false true w p q = let z : _≡_ {A = ℕ} 0 1 = cc in absurd (omega arith)
     go false false true p q = refl
     go false false false p q = less-transitive a b c p q
+
+-- these two may repeat; NOTE is neither
+pub repeats-two : (k : List ℕ) → (repeats k ≡ true) ↔ ((k ≡ receiverGeometry) ⊎ (k ≡ sourceGeometry))
+unfolding repeats same
+repeats-two k = (λ h. go (same k receiverGeometry) refl h, ⊎-elim (λ e. rw e) (λ e. rw e))
+  where
+    go : (w : Bool) → same k receiverGeometry ≡ w → (w || same k sourceGeometry) ≡ true → (k ≡ receiverGeometry) ⊎ (k ≡ sourceGeometry)
+    go true e h = inl (same-eq k receiverGeometry e)
+    go false e h = inr (same-eq k sourceGeometry h)
+
+repeats-note : repeats note ≡ false
+unfolding repeats same
+repeats-note = refl
+
+-- a keyword follows itself exactly where it may repeat
+pub rises-again : (k : List ℕ) → rises k k ≡ repeats k
+unfolding rises
+rises-again k = rw (before-irreflexive k, same-refl k)
+
+-- what follows comes later, or is the same again where that may be
+pub rises-so : (p k : List ℕ) → rises p k ≡ true → (before p k ≡ true) ⊎ ((p ≡ k) × (repeats k ≡ true))
+unfolding rises
+rises-so p k h = go (before p k) (same p k) refl refl h
+  where
+    go : (v w : Bool) → before p k ≡ v → same p k ≡ w → (v || (w && repeats k)) ≡ true → (before p k ≡ true) ⊎ ((p ≡ k) × (repeats k ≡ true))
+    go true w e f q = inl e
+    go false true e f q = inr (same-eq p k f, q)
+    go false false e f q = never q
+
+pub rises-later : (p k : List ℕ) → before p k ≡ true → rises p k ≡ true
+unfolding rises
+rises-later p k h = rw h
+
+-- none follows NOTE
+pub rises-note : (p k : List ℕ) → same p note ≡ true → rises p k ≡ false
+unfolding rises before
+rises-note p k h = rw h (go (same p k) refl)
+  where
+    go : (w : Bool) → same p k ≡ w → (w && repeats k) ≡ false
+    go true e = rw (sym (same-eq p k e) ∙ same-eq p note h) repeats-note
+    go false e = refl
+
+-- the first keyword is free
+pub rises-first : (k : List ℕ) → 0 < length k → rises [] k ≡ true
+unfolding before same less
+rises-first [] h = absurd (omega arith)
+rises-first (x ∷ xs) h = rises-later [] (x ∷ xs) (go (same (x ∷ xs) note))
+  where
+    go : (w : Bool) → pick w true true ≡ true
+    go true = refl
+    go false = refl
+
+-- what follows a follower follows
+pub rises-transitive : (a b c : List ℕ) → rises a b ≡ true → rises b c ≡ true → rises a c ≡ true
+rises-transitive a b c h k =
+    ⊎-elim
+    (λ x. ⊎-elim (λ y. rises-later a c (before-transitive a b c x y)) (λ y. rw (← y .0) h) (rises-so b c k))
+    (λ x. rw (x .0) k)
+    (rises-so a b h)
+
+-- of two that follow each other both are the same
+pub rises-both : (a b : List ℕ) → rises a b ≡ true → rises b a ≡ true → a ≡ b
+rises-both a b h k =
+    ⊎-elim
+    (λ x. ⊎-elim (λ y. never (sym (before-irreflexive a) ∙ before-transitive a b a x y)) (λ y. sym (y .0)) (rises-so b a k))
+    (λ x. x .0)
+    (rises-so a b h)
 
 -- ---- turns of the loops that compare
 module _ (p k : List ℕ) (i : ℕ) where

@@ -1,4 +1,5 @@
-// Keywords (document 01, "Strings"): the characters that they have, their order, NOTE, and the manner of reading them.
+// Keywords (document 01, "Strings"; document 02, §1): the characters that they have, their order, NOTE, and the manner
+// of reading them.
 // Definitions in Order and Manner. Stands on `chars`, and on `word` and `refusal` for laws alone.
 // The rules in words: docs/FORMAT.md, "Strings".
 use chars::Kind;
@@ -7,7 +8,7 @@ ghost use Prim.Native.Nat.{_≤_};
 ghost use lib.ListN.{length};
 ghost use Rattle.chars.specs.Chars.{note};
 ghost use Rattle.chars.specs.Runs.{run, same};
-ghost use Rattle.text.specs.Order.{less, rises};
+ghost use Rattle.text.specs.Order.{less, before, repeats, rises};
 ghost use Rattle.text.specs.Manner.{openEnd, letter, named, follows};
 
 // The manner of reading strings: `specs/Manner.antt` has what it decides. Strict is document 01's.
@@ -95,9 +96,9 @@ pub fn open_end(how: Manner) -> bool
     }
 }
 
-// Whether the keyword k may follow the keyword p in document 01's order.
-pub fn rising(p: &[u8], k: &[u8]) -> bool
-    ensures { λ r. ⌜ r ≡ rises (now (p .entry)) (now (k .entry)) ⌝ }
+// Whether the keyword p comes before the keyword k.
+fn is_before(p: &[u8], k: &[u8]) -> bool
+    ensures { λ r. ⌜ r ≡ before (now (p .entry)) (now (k .entry)) ⌝ }
 {
     if is_note(p) {
         return false;
@@ -106,6 +107,23 @@ pub fn rising(p: &[u8], k: &[u8]) -> bool
         return true;
     }
     is_less(p, k)
+}
+
+// Whether the keyword k may stand several times running.
+fn is_repeating(k: &[u8]) -> bool
+    ensures { λ r. ⌜ r ≡ repeats (now (k .entry)) ⌝ }
+{
+    chars::is_same(k, b"RECEIVER_GEOMETRY") | chars::is_same(k, b"SOURCE_GEOMETRY")
+}
+
+// Whether the keyword k may follow the keyword p.
+pub fn rising(p: &[u8], k: &[u8]) -> bool
+    ensures { λ r. ⌜ r ≡ rises (now (p .entry)) (now (k .entry)) ⌝ }
+{
+    if is_before(p, k) {
+        return true;
+    }
+    chars::is_same(p, k) & is_repeating(k)
 }
 
 // Whether it may in the manner of reading.
