@@ -245,7 +245,10 @@ void seg2_string_count(seg2_count *answer, const uint8_t *buffer, size_t size, s
 void seg2_string(struct seg2_string *answer, const uint8_t *buffer, size_t size, size_t length, int32_t part, size_t index);
 
 /* Whether a part has a keyword: yes, no, or the refusal. Any bytes may be asked for; what cannot be a keyword is
- * a no. 18 where there is no such part. */
+ * a no. 18 where there is no such part.
+ *
+ * RECEIVER_GEOMETRY and SOURCE_GEOMETRY may stand several times running in a part. This question and the next four
+ * answer the first of them; seg2_string_count and seg2_string have them all. */
 void seg2_keyword(struct seg2_keyword *answer, const uint8_t *buffer, size_t size, size_t length, int32_t part,
                   const uint8_t *key, size_t key_size);
 
@@ -282,8 +285,9 @@ seg2_verdict seg2_bits(const uint8_t *buffer, size_t size, size_t length, int32_
 
 /* ---- writing: a refusal has changed no byte; bytes past the answered length stay as they were
  *
- * A sheet is lines of text, each a keyword, a tab, a value and 0Ah, with the keywords rising. Consecutive NOTE lines
- * at its end are the lines of one NOTE. An empty sheet is a list without strings. */
+ * A sheet is lines of text, each a keyword, a tab, a value and 0Ah, with the keywords rising. RECEIVER_GEOMETRY and
+ * SOURCE_GEOMETRY may have several lines running, each a string of its own. Consecutive NOTE lines at its end are the
+ * lines of one NOTE. An empty sheet is a list without strings. */
 
 /* Writes the image of a new file without traces at the buffer's start and answers its length. `order` is enum
  * seg2_order, `slots` how many traces the file can take, 1 to SEG2_MAXIMUM_SLOTS. Refusals in order: 31, 25, 26 (line
@@ -404,7 +408,7 @@ static inline const char *seg2_text(uint32_t number) {
     case SEG2_STRING_OFFSET: return "a string's offset is missing, too small for a keyword, or leads past its area";
     case SEG2_STRING_END: return "the string terminator is not at the string's end";
     case SEG2_CHARACTER: return "a forbidden character in a keyword or value, or an empty keyword";
-    case SEG2_KEYWORD_ORDER: return "the keyword is out of order, or there twice";
+    case SEG2_KEYWORD_ORDER: return "the keyword is out of order, or there twice (only RECEIVER_GEOMETRY and SOURCE_GEOMETRY may repeat)";
     case SEG2_NO_TRACE: return "the file has no such part; traces count from 0";
     case SEG2_INPUT_SIZE: return "the listing program's input is longer than 65,536 bytes";
     case SEG2_NO_NUMBER: return "this is not a number, or the keyword is missing";
@@ -413,7 +417,7 @@ static inline const char *seg2_text(uint32_t number) {
     case SEG2_VALUE_COUNT: return "a location is one value or three: here is another number of values, or the keyword is missing";
     case SEG2_NO_SLOT: return "no trace slot is free: the file has all traces that it was started for";
     case SEG2_SHEET_LINE: return "a line of the sheet is not a keyword, a tab and a value";
-    case SEG2_SHEET_ORDER: return "a line of the sheet is out of order, or its keyword is there twice";
+    case SEG2_SHEET_ORDER: return "a line of the sheet is out of order, or its keyword is there twice (only RECEIVER_GEOMETRY and SOURCE_GEOMETRY may repeat)";
     case SEG2_AREA_SIZE: return "the sheet's strings need more than 65,500 bytes";
     case SEG2_ENTRY_CODE: return "the format code does not fit these samples, or their count is no multiple of 4 under code 3";
     case SEG2_SAMPLE_RANGE: return "a sample is outside what the format code can hold";

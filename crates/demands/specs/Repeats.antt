@@ -3,7 +3,7 @@
 -- 3 read with this order."
 -- Assumes nothing.
 use mathlib.Core.Path.{_≡_, refl, sym, ap, _∙_}
-use mathlib.Core.Bool.{Bool, true, false}
+use mathlib.Core.Bool.{true, false}
 use mathlib.Core.List.{List, [], _∷_}
 use mathlib.Core.Logic.{_↔_, _⊎_, inl, inr, ⊎-elim}
 use Prim.Native.Nat.{ℕ, _≤_, _<_}
@@ -13,7 +13,7 @@ use lib.ListN.{length, take}
 use Rattle.text.specs.declared.Manner.the-variants.{Strict}
 use Rattle.chars.specs.Chars.{keyChar, note}
 use Rattle.chars.specs.Runs.{run, all, same}
-use Rattle.text.specs.Order.{before, receiverGeometry, sourceGeometry, repeats, rises, repeats-two, rises-again, rises-so}
+use Rattle.text.specs.Order.{before, receiverGeometry, sourceGeometry, rises, repeats-two, rises-again, rises-so}
 use Rattle.text.specs.Order.{rises-later, rises-first}
 use Rattle.note.specs.Note.{Each}
 use Rattle.strings.specs.Spelled.{Str, nthStr, valueOfKey}
@@ -65,8 +65,8 @@ pub each-once-but-the-two : (f : List ℕ) (z : ℤ) (ss : List Str) → Lists S
     → Geometry (nthStr ss i .key) × ((k : ℕ) → i < k → k < j → nthStr ss k .key ≡ nthStr ss i .key)
 each-once-but-the-two f z ss l i j low high e = let o = keywords-once ss i j (l .spells) low high e in (repeats-two (nthStr ss i .key) .0 (o .0), o .1)
 
--- ---- "A keyword question answers the first": the string that is found is the i-th, where that has the keyword and none
--- before it has; count and i-th string have them all (`AnswersBy`). Rules out a question that answers a later one.
+-- ---- "A keyword question answers the first": the string that is found is the i-th, where that has the keyword and
+-- none before it has; count and i-th string have them all (`AnswersBy`). Rules out a question that answers a later one.
 
 pub the-first-is-answered : (xs : List ℕ) (n : ℕ) (z : ℤ) (ss : List Str) → AnswersBy xs n z ss → (key : List ℕ) (i : ℕ) → i < length ss
     → nthStr ss i .key ≡ key → ((j : ℕ) → j < i → nthStr ss j .key ≡ key → ⊥)

@@ -103,7 +103,7 @@ before-transitive a b c h k = go (same a note) (same b note) (same c note) h k
     go false false true p q = refl
     go false false false p q = less-transitive a b c p q
 
--- these two may repeat; NOTE is neither
+-- the two may repeat, and no other
 pub repeats-two : (k : List ℕ) → (repeats k ≡ true) ↔ ((k ≡ receiverGeometry) ⊎ (k ≡ sourceGeometry))
 unfolding repeats same
 repeats-two k = (λ h. go (same k receiverGeometry) refl h, ⊎-elim (λ e. rw e) (λ e. rw e))
@@ -111,10 +111,6 @@ repeats-two k = (λ h. go (same k receiverGeometry) refl h, ⊎-elim (λ e. rw e
     go : (w : Bool) → same k receiverGeometry ≡ w → (w || same k sourceGeometry) ≡ true → (k ≡ receiverGeometry) ⊎ (k ≡ sourceGeometry)
     go true e h = inl (same-eq k receiverGeometry e)
     go false e h = inr (same-eq k sourceGeometry h)
-
-repeats-note : repeats note ≡ false
-unfolding repeats same
-repeats-note = refl
 
 -- a keyword follows itself exactly where it may repeat
 pub rises-again : (k : List ℕ) → rises k k ≡ repeats k
@@ -137,11 +133,11 @@ rises-later p k h = rw h
 
 -- none follows NOTE
 pub rises-note : (p k : List ℕ) → same p note ≡ true → rises p k ≡ false
-unfolding rises before
+unfolding rises before repeats same
 rises-note p k h = rw h (go (same p k) refl)
   where
     go : (w : Bool) → same p k ≡ w → (w && repeats k) ≡ false
-    go true e = rw (sym (same-eq p k e) ∙ same-eq p note h) repeats-note
+    go true e = rw (sym (same-eq p k e) ∙ same-eq p note h)
     go false e = refl
 
 -- the first keyword is free

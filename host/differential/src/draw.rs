@@ -76,8 +76,19 @@ pub fn numbers(rng: &mut Rng) -> Case {
 
 fn number_area(rng: &mut Rng) -> AreaModel {
     let mut strings = Vec::new();
-    for keyword in ["DELAY", "RECEIVER_LOCATION", "SOURCE_LOCATION", "STACK"] {
-        let text = match keyword.ends_with("LOCATION") || rng.one_in(4) {
+    for keyword in [
+        "DELAY",
+        "RECEIVER_GEOMETRY",
+        "RECEIVER_GEOMETRY",
+        "RECEIVER_LOCATION",
+        "SOURCE_GEOMETRY",
+        "SOURCE_GEOMETRY",
+        "SOURCE_LOCATION",
+        "STACK",
+    ] {
+        // A place is asked for as a location, and others now and then.
+        let place = keyword.contains('_');
+        let text = match place || rng.one_in(4) {
             true => location_case(rng).text,
             false => number_case(rng).text,
         };

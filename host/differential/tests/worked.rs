@@ -58,6 +58,66 @@ fn file_with<'a>(sheet: &[u8], code: u32, row: &[i32]) -> (Pair<'a>, Answer) {
     (pair, answer)
 }
 
+/// Document 02, §1: "A crew with six phones per group writes RECEIVER_GEOMETRY six times
+/// in one trace block". A question answers the first; count and index have them all.
+#[test]
+fn six_receivers_in_one_group() {
+    let mut pair = Pair::new(&Archive, 3, &[7; 250]);
+    pair.lend_sheet(EXAMPLE_SHEET);
+    let start = Call::Start { order: 0, slots: 1 };
+    assert_eq!(pair.ask(0, start), Ok(Answer::good([56])));
+    let phones = ["-5", "-3", "-1", "1", "3", "5"];
+    let lines: Vec<String> = phones
+        .iter()
+        .map(|x| format!("RECEIVER_GEOMETRY\t{x}\n"))
+        .collect();
+    let given = Given {
+        sheet: lines.concat().into_bytes(),
+        code: 1,
+        row: Row::Integers(EXAMPLE_SAMPLES.to_vec()),
+    };
+    let (answer, _) = add(&mut pair, 56, &given).expect("alike");
+    assert_eq!(answer, Answer::good([236]));
+    assert_eq!(pair.ask(236, Call::Check), Ok(Answer::good([])));
+    let count = pair.ask(236, Call::StringCount { part: 0 });
+    assert_eq!(count, Ok(Answer::good([6])));
+    let mut starts = Vec::new();
+    for (index, phone) in phones.iter().enumerate() {
+        let string = pair
+            .ask(236, Call::String { part: 0, index })
+            .expect("alike");
+        let [found, key, key_size, value, size] = string.values.map(|n| n as usize);
+        let buffer = &pair.memory().buffer;
+        assert_eq!(found, 1);
+        assert_eq!(&buffer[key..key + key_size], b"RECEIVER_GEOMETRY");
+        assert_eq!(&buffer[value..value + size], phone.as_bytes());
+        starts.push(value as u64);
+    }
+    pair.lend_key(b"RECEIVER_GEOMETRY");
+    let value = pair.ask(236, Call::Value { part: 0 });
+    assert_eq!(value, Ok(Answer::good([starts[0], 2])));
+    let number = pair.ask(236, Call::Number { part: 0 });
+    assert_eq!(number, Ok(Answer::good([1, 0, 5])));
+    let x = (-5.0_f64).to_bits();
+    assert_eq!(
+        pair.ask(236, Call::Double { part: 0 }),
+        Ok(Answer::good([x]))
+    );
+    let location = pair.ask(236, Call::Location { part: 0 });
+    assert_eq!(location, Ok(Answer::good([1, x, 0, 0])));
+    // One that does not run is refused at its line, and changes nothing.
+    for (sheet, place) in [
+        (
+            &b"RECEIVER_GEOMETRY\t1\nSHOT\t1\nRECEIVER_GEOMETRY\t2\n"[..],
+            27,
+        ),
+        (b"RECEIVER_LOCATION\t1\nRECEIVER_LOCATION\t2\n", 20),
+    ] {
+        pair.lend_sheet(sheet);
+        assert_eq!(pair.ask(0, start), Ok(Answer::refused(26, -1, place)));
+    }
+}
+
 #[test]
 fn numbers() {
     let asked = |text: &str| {

@@ -72,9 +72,16 @@ pub(crate) fn parted_lines<'a>(text: &'a [u8], line_terminator: &[u8]) -> Vec<&'
     lines
 }
 
+/// "RECEIVER_GEOMETRY and SOURCE_GEOMETRY may stand several times running, in
+/// files and in sheets" (document 02, §1).
+pub(crate) const REPEATED: [&[u8]; 2] = [b"RECEIVER_GEOMETRY", b"SOURCE_GEOMETRY"];
+
 /// "Keywords strictly rise in byte order, a prefix first; NOTE comes after all
 /// others, once at most." (Slices compare byte by byte, a prefix first.)
 pub fn may_follow(previous: &[u8], keyword: &[u8]) -> bool {
+    if previous == keyword {
+        return REPEATED.contains(&keyword);
+    }
     previous != NOTE && (keyword == NOTE || previous < keyword)
 }
 
@@ -210,6 +217,18 @@ mod tests {
         assert!(!may_follow(NOTE, b"Z"));
         assert!(!may_follow(NOTE, NOTE));
         assert!(may_follow(b"NOT", b"NOTE_"));
+    }
+
+    #[test]
+    fn two_keywords_may_repeat() {
+        assert!(may_follow(b"RECEIVER_GEOMETRY", b"RECEIVER_GEOMETRY"));
+        assert!(may_follow(b"SOURCE_GEOMETRY", b"SOURCE_GEOMETRY"));
+        assert!(may_follow(b"RECEIVER_GEOMETRY", b"SOURCE_GEOMETRY"));
+        assert!(!may_follow(b"SOURCE_GEOMETRY", b"RECEIVER_GEOMETRY"));
+        assert!(!may_follow(b"RECEIVER_LOCATION", b"RECEIVER_LOCATION"));
+        assert!(!may_follow(b"SHOT", b"RECEIVER_GEOMETRY"));
+        assert!(!may_follow(b"RECEIVER_GEOMETRYX", b"RECEIVER_GEOMETRY"));
+        assert!(!may_follow(b"RECEIVER_GEOMETR", b"RECEIVER_GEOMETR"));
     }
 
     #[test]

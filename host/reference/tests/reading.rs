@@ -15,7 +15,11 @@ fn strings_match(laid: &Laid, part: i64) {
         let word = &buffer[expected.keyword.clone()];
         assert_eq!(keyword(buffer, length, part, word), Ok(true));
         let value = keyword_value(buffer, length, part, word);
-        assert_eq!(value, expected.value);
+        let first = |s: &&StringPlace| &buffer[s.keyword.clone()] == word;
+        assert_eq!(
+            Some(value),
+            strings.iter().find(first).map(|s| s.value.clone())
+        );
     }
     assert_eq!(string(buffer, length, part, strings.len()), Ok(None));
     assert_eq!(keyword(buffer, length, part, b"@ABSENT"), Ok(false));
@@ -66,6 +70,27 @@ fn valid_files_read_as_their_models() {
             texts_match(&laid, k as i64, &trace.area);
         }
     }
+}
+
+/// The two keywords that may repeat do so now and then, in files and in sheets.
+#[test]
+fn some_generated_keywords_repeat() {
+    let mut rng = Rng::new(21);
+    let (mut files, mut sheets) = ([0; 2], [0; 2]);
+    let repeated: [&[u8]; 2] = [b"RECEIVER_GEOMETRY", b"SOURCE_GEOMETRY"];
+    for _ in 0..4000 {
+        let strings = Model::random(&mut rng).area.strings;
+        let sheet = good_sheet(&mut rng).expected.expect("a good sheet");
+        for (i, keyword) in repeated.iter().enumerate() {
+            let times = |twice: bool| usize::from(twice);
+            files[i] += times(strings.iter().filter(|s| s.keyword == *keyword).count() > 1);
+            sheets[i] += times(sheet.iter().filter(|s| s.keyword == *keyword).count() > 1);
+        }
+    }
+    assert!(
+        files.iter().chain(&sheets).all(|&n| n > 100),
+        "{files:?} {sheets:?}"
+    );
 }
 
 #[test]

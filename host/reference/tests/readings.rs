@@ -200,6 +200,54 @@ fn notes() {
     assert!(strings_of(&[b"A", b"AB", b"B"]).is_ok());
 }
 
+/// Document 02, §1: "RECEIVER_GEOMETRY and SOURCE_GEOMETRY may stand several times
+/// running, in files and in sheets; all others still rise strictly."
+#[test]
+fn several_receivers_in_one_group() {
+    let (r, s) = (&b"RECEIVER_GEOMETRY 1"[..], &b"SOURCE_GEOMETRY 1"[..]);
+    let size = |body: &[u8]| body.len() as u64 + 3;
+    assert!(strings_of(&[r; 6]).is_ok_and(|six| six.len() == 6));
+    assert!(strings_of(&[r, r, s, s, s]).is_ok_and(|five| five.len() == 5));
+    assert!(strings_of(&[b"A", r, r, b"SHOT", s, b"NOTE"]).is_ok());
+    // It runs, or it is 17.
+    let apart = strings_of(&[r, b"SHOT", r]);
+    assert_eq!(apart, Err((17, size(r) + size(b"SHOT"))));
+    assert_eq!(strings_of(&[s, r, r]), Err((17, size(s))));
+    assert_eq!(strings_of(&[b"NOTE", r]), Err((17, size(b"NOTE"))));
+    // No other repeats, NOTE included.
+    for body in [
+        &b"RECEIVER_LOCATION"[..],
+        b"RECEIVER_GEOMETRYX",
+        b"SOURCE",
+        b"NOTE",
+    ] {
+        assert_eq!(strings_of(&[body; 2]), Err((17, size(body))));
+    }
+    // The same in sheets, by 26.
+    let sheet =
+        b"RECEIVER_GEOMETRY\t-1\nRECEIVER_GEOMETRY\t1\nSOURCE_GEOMETRY\t0\nSOURCE_GEOMETRY\t0\n";
+    let strings = sheet_strings(sheet).expect("good");
+    let values: Vec<&[u8]> = strings.iter().map(|s| &s.lines[0][..]).collect();
+    assert_eq!(values, [&b"-1"[..], b"1", b"0", b"0"]);
+    let apart = sheet_strings(b"SOURCE_GEOMETRY\t0\nSTACK\t1\nSOURCE_GEOMETRY\t1\n");
+    assert_eq!(apart, Err(refusal(26, -1, 26)));
+    assert_eq!(
+        sheet_strings(b"STACK\t1\nSTACK\t1\n"),
+        Err(refusal(26, -1, 8))
+    );
+    // A question answers the first; count and index have them all.
+    let mut buffer = vec![0; 300];
+    let length = start(&mut buffer, 0, 1, b"").expect("room");
+    let length = add_integers(&mut buffer, length, sheet, 1, &[7]).expect("room");
+    let value = keyword_value(&buffer, length, 0, b"RECEIVER_GEOMETRY");
+    assert_eq!(buffer[value], *b"-1");
+    assert_eq!(string_count(&buffer, length, 0), Ok(4));
+    let second = seg2_reference::string(&buffer, length, 0, 1)
+        .expect("a file")
+        .expect("there");
+    assert_eq!(buffer[second.value], *b"1");
+}
+
 #[test]
 fn keywords_asked_for() {
     let area = padded(b"UNITS METERS");

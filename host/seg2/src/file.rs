@@ -281,7 +281,8 @@ impl<'a> File<'a> {
     }
 
     /// The value of a keyword as the buffer's own bytes; none where the keyword is
-    /// missing.
+    /// missing. Of a keyword that stands several times, the first, as
+    /// [`Trace::value`](crate::Trace::value).
     ///
     /// ```
     /// # use seg2::{Builder, Order};

@@ -209,16 +209,23 @@ impl<'a> Trace<'a> {
     }
 
     /// The value of a keyword as the buffer's own bytes; none where the keyword is
-    /// missing.
+    /// missing. RECEIVER_GEOMETRY and SOURCE_GEOMETRY may stand several times running: this
+    /// and the other questions on a keyword answer the first, [`strings`](Trace::strings)
+    /// has them all.
     ///
     /// ```
     /// # use seg2::{Builder, Order};
     /// # let mut shot = Builder::start(Order::Low, 1, b"")?;
-    /// # shot.add_integers(b"STACK\t1\n", 1, &[7])?;
+    /// # shot.add_integers(b"RECEIVER_GEOMETRY\t-1\nRECEIVER_GEOMETRY\t1\nSTACK\t1\n", 1, &[7])?;
     /// # let bytes = shot.finish();
     /// let file = seg2::File::open(&bytes)?;
-    /// assert_eq!(file.trace(0)?.value(b"STACK"), Some(&b"1"[..]));
-    /// assert_eq!(file.trace(0)?.value(b"DELAY"), None);
+    /// let trace = file.trace(0)?;
+    /// assert_eq!(trace.value(b"STACK"), Some(&b"1"[..]));
+    /// assert_eq!(trace.value(b"DELAY"), None);
+    /// let phones = trace.strings().filter(|(keyword, _)| keyword == b"RECEIVER_GEOMETRY");
+    /// let phones: Vec<&[u8]> = phones.map(|(_, value)| value).collect();
+    /// assert_eq!(phones, [&b"-1"[..], b"1"]);
+    /// assert_eq!(trace.value(b"RECEIVER_GEOMETRY"), Some(phones[0]));
     /// # Ok::<(), seg2::Refusal>(())
     /// ```
     pub fn value(&self, keyword: &[u8]) -> Option<&'a [u8]> {

@@ -1,7 +1,8 @@
 //! Starting a file and adding traces.
 //!
-//! A sheet is lines of text: keyword, tab, value, 0Ah, with the keywords rising;
-//! consecutive NOTE lines at its end are the lines of one NOTE.
+//! A sheet is lines of text: keyword, tab, value, 0Ah, with the keywords rising.
+//! RECEIVER_GEOMETRY and SOURCE_GEOMETRY may have several lines running, each a string of
+//! its own; consecutive NOTE lines at its end are the lines of one NOTE.
 
 use crate::{calls, Order, Refusal, MAXIMUM_AREA, MAXIMUM_LENGTH};
 

@@ -102,8 +102,9 @@ than another has empty cells at its end.
         more: "
 -1 is the file too. Each line of a NOTE is printed as a line. A number is printed as it
 was written: all digits, then E and the power of ten; a location as x, or x, y and z with
-spaces between them. A keyword that is not there: nothing is printed, the exit status
-is 1, and standard error says so.
+spaces between them. RECEIVER_GEOMETRY and SOURCE_GEOMETRY may stand several times in a
+part: this is the first of them, and `seg2 list` shows them all. A keyword that is not
+there: nothing is printed, the exit status is 1, and standard error says so.
 ",
         run: value::run,
     },
@@ -169,7 +170,8 @@ write-protected file or folder is left alone.
 
 const BEHIND: &str = "
 A sheet is a text file: on each line a keyword, a tab and a value, keywords in rising
-order, lines of a NOTE last. Where a file, a sheet or samples are read, - is standard
+order, lines of a NOTE last. RECEIVER_GEOMETRY and SOURCE_GEOMETRY may have several lines,
+one directly behind the other. Where a file, a sheet or samples are read, - is standard
 input. --name=value is --name value; behind -- stand no options. `seg2 COMMAND --help`
 tells more of a command, `seg2 --version` the version.
 

@@ -424,6 +424,55 @@ fn a_file_is_started_and_traces_are_added() {
     assert_eq!(folder.names(), ["samples", "shot", "stack", "units"]);
 }
 
+/// A crew with several phones per group: its lines in any order, put in order as `explain`
+/// says, are written and listed in the order of the phones.
+#[test]
+fn several_receivers_are_written_and_listed() {
+    let folder = Folder::new("receivers");
+    let phones = ["10 0 0", "2 0 0", "-6 0 0", "-14 0 0", "2 0 0", "10 0 0"];
+    let lines = phones.map(|phone| format!("RECEIVER_GEOMETRY\t{phone}\n"));
+    let given = [
+        "STACK\t4\n",
+        &lines.concat(),
+        "DELAY\t0\n",
+        "RECEIVER\tVERTICAL_GEOPHONE 6\n",
+    ];
+    let given = folder.keep("given", given.concat());
+    let (shot, samples) = (folder.path("shot"), folder.keep("samples", "1\n-1\n"));
+    assert_eq!(run!("new", shot, "--order", "high", "--slots", "2").0, 0);
+    let (status, _, error) = add(&shot, &given, "1", &samples);
+    assert_eq!(status, 1);
+    let line = "line 2, `RECEIVER_GEOMETRY\\t10 0 0`: `RECEIVER_GEOMETRY` follows `STACK`, and comes before it";
+    assert!(
+        error.contains("refused (26) at byte 8 of the sheet: "),
+        "{error}"
+    );
+    assert!(
+        error.contains("(only RECEIVER_GEOMETRY and SOURCE_GEOMETRY may repeat)"),
+        "{error}"
+    );
+    assert!(error.contains(line), "{error}");
+    let told = run!("explain", "26").1;
+    let (_, rest) = told.split_once("as `LC_ALL=C ").expect("a command");
+    let (words, _) = rest.split_once('`').expect("its end");
+    let mut words = words.split(' ');
+    let mut sort = std::process::Command::new(words.next().expect("a program"));
+    let sorted = sort.args(words).arg(&given).env("LC_ALL", "C").output();
+    let sheet = folder.keep("sheet", sorted.expect("sort runs").stdout);
+    let (status, _, error) = add(&shot, &sheet, "1", &samples);
+    assert_eq!((status, error.as_str()), (0, ""));
+    let strings: String = phones
+        .map(|phone| format!("S\t0\tRECEIVER_GEOMETRY\t{phone}\n"))
+        .concat();
+    let listed = run!("list", shot).1;
+    let wanted = format!("S\t0\tRECEIVER\tVERTICAL_GEOPHONE 6\n{strings}S\t0\tSTACK\t4\n");
+    assert!(listed.ends_with(&wanted), "{listed}");
+    let (status, out, _) = run!("value", shot, "0", "RECEIVER_GEOMETRY");
+    assert_eq!((status, out.as_str()), (0, "10 0 0\n"));
+    let json = run!("list", "--json", shot).1;
+    assert_eq!(json.matches("\"RECEIVER_GEOMETRY\"").count(), 6, "{json}");
+}
+
 #[test]
 fn what_samples_prints_add_reads() {
     let folder = Folder::new("again");

@@ -123,7 +123,9 @@ pub fn several_damages(rng: &mut Rng) -> Damaged {
             let Some(change) = change(rng, &laid) else {
                 continue;
             };
-            if change.bytes.iter().any(|(at, _)| taken.contains(at)) {
+            // Two halves of a terminator side by side would be a whole one.
+            let beside_taken = |(at, _): &(usize, u8)| taken.iter().any(|t| t.abs_diff(*at) <= 1);
+            if change.bytes.iter().any(beside_taken) {
                 continue;
             }
             taken.extend(change.bytes.iter().map(|(at, _)| at));

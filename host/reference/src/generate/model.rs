@@ -1,6 +1,7 @@
 //! Models of files: what a file says, with all freedoms of the rules.
 
 use super::rng::Rng;
+use crate::strings::REPEATED;
 use crate::words::Order;
 use std::collections::BTreeSet;
 
@@ -258,19 +259,43 @@ const KEYWORDS: &[&str] = &[
     "INSTRUMENT",
     "LINE_ID",
     "RECEIVER",
+    "RECEIVER_GEOMETRY",
     "RECEIVER_LOCATION",
     "SAMPLE_INTERVAL",
     "SOURCE",
+    "SOURCE_GEOMETRY",
     "SOURCE_LOCATION",
     "STACK",
     "TRACE_SORT",
     "UNITS",
 ];
 
-/// Unknown keywords, prefixes of each other, and neighbours of NOTE.
+/// Unknown keywords, prefixes of each other, and neighbours of NOTE and of what
+/// may repeat.
 const ODD_KEYWORDS: &[&str] = &[
-    "!", "0", "A", "AB", "ABC", "N", "NO", "NOT", "NOTE!", "NOTE0", "NOTES", "NOTE_", "O", "Z",
-    "ZZ", "_", "`", "{", "~", "~~",
+    "!",
+    "0",
+    "A",
+    "AB",
+    "ABC",
+    "N",
+    "NO",
+    "NOT",
+    "NOTE!",
+    "NOTE0",
+    "NOTES",
+    "NOTE_",
+    "O",
+    "RECEIVER_GEOMETR",
+    "RECEIVER_GEOMETRYS",
+    "SOURCE_GEOMETRY1",
+    "Z",
+    "ZZ",
+    "_",
+    "`",
+    "{",
+    "~",
+    "~~",
 ];
 
 /// Any keyword but NOTE.
@@ -296,10 +321,25 @@ fn random_keyword_character(rng: &mut Rng) -> u8 {
     }
 }
 
-/// Different keywords in byte order, without NOTE.
+/// Keywords in byte order, without NOTE: each once, but for those that may repeat.
 pub(super) fn rising_keywords(rng: &mut Rng, at_most: usize) -> Vec<Vec<u8>> {
-    let keywords: BTreeSet<Vec<u8>> = (0..at_most).map(|_| random_keyword(rng)).collect();
-    keywords.into_iter().collect()
+    let mut keywords: BTreeSet<Vec<u8>> = (0..at_most).map(|_| random_keyword(rng)).collect();
+    if at_most > 0 && rng.one_in(4) {
+        keywords.insert(rng.pick(&REPEATED).to_vec());
+    }
+    let mut rising = Vec::new();
+    for keyword in keywords {
+        let times = match may_repeat(&keyword) {
+            true => rng.pick(&[1, 1, 2, 3, 6]),
+            false => 1,
+        };
+        rising.extend(std::iter::repeat_n(keyword, times));
+    }
+    rising
+}
+
+pub(super) fn may_repeat(keyword: &[u8]) -> bool {
+    REPEATED.contains(&keyword)
 }
 
 /// A text that no separator can swallow: empty, or not starting with a blank. It

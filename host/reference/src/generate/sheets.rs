@@ -1,7 +1,7 @@
 //! Sheets with their strings or refusals: rows 25 and 26.
 
 use super::expected::refused;
-use super::model::{random_note_lines, random_text, rising_keywords};
+use super::model::{may_repeat, random_note_lines, random_text, rising_keywords};
 use super::rng::Rng;
 use crate::refusal::Refusal;
 use crate::sheet::SheetString;
@@ -108,19 +108,35 @@ fn break_order(rng: &mut Rng, lines: &mut Vec<Vec<u8>>, plain: usize) -> usize {
         lines.push(rng.pick(&[&b"ZZ\t1"[..], b"A\t", b"NOTES\tx"]).to_vec());
         return lines.len() - 1;
     }
+    let last = keyword_of(&lines[plain - 1]);
+    let comes_back = |line: &&Vec<u8>| may_repeat(keyword_of(line)) && keyword_of(line) != last;
+    if let Some(again) = lines[..plain].iter().find(comes_back).cloned() {
+        if rng.one_in(3) {
+            // A repeat that does not run.
+            lines.insert(plain, again);
+            return plain;
+        }
+    }
     let i = rng.between(0, plain - 1);
+    let keyword = keyword_of(&lines[i]);
+    let once = !may_repeat(keyword);
+    let other_is_next = i + 1 < plain && keyword_of(&lines[i + 1]) != keyword;
     match rng.between(0, 2) {
-        0 if i + 1 < plain => lines.swap(i, i + 1),
-        1 => {
+        0 if other_is_next => lines.swap(i, i + 1),
+        1 | 2 if once => lines.insert(i, lines[i].clone()),
+        _ => {
             // The longer keyword before its prefix.
-            let tab = lines[i].iter().position(|&c| c == b'\t').unwrap_or(0);
             let mut longer = lines[i].clone();
-            longer.insert(tab, b'X');
+            longer.insert(keyword.len(), b'X');
             lines.insert(i, longer);
         }
-        _ => lines.insert(i, lines[i].clone()),
     }
     i + 1
+}
+
+fn keyword_of(line: &[u8]) -> &[u8] {
+    let tab = line.iter().position(|&c| c == b'\t');
+    &line[..tab.unwrap_or(0)]
 }
 
 /// Makes one line bad and answers its index.

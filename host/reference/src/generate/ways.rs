@@ -2,7 +2,7 @@
 
 use super::damage::{alone, bytes, shape, Change, Scope, Spot, Way};
 use super::lay::{four, two, Laid};
-use super::model::{End, Model, StringModel};
+use super::model::{may_repeat, random_text, AreaModel, End, Model, StringModel};
 use super::rng::Rng;
 use crate::check::{Trace, MAXIMUM_LENGTH};
 use crate::strings::StringPlace;
@@ -191,6 +191,19 @@ fn with_note(rng: &mut Rng, model: &mut Model, lines: &[&str]) -> (i64, usize) {
         area.end = End::Mark(Vec::new());
     }
     (part, area.strings.len() - 1)
+}
+
+/// Some part of the model, with strings of these keywords for its own; the part.
+fn with_keywords(rng: &mut Rng, model: &mut Model, keywords: &[&str]) -> i64 {
+    let part = rng.between(0, model.traces.len()) as i64 - 1;
+    let mut strings = Vec::new();
+    for &keyword in keywords {
+        let text = random_text(rng, true);
+        strings.push(StringModel::new(rng, keyword.into(), vec![text]));
+    }
+    let end = End::Mark(Vec::new());
+    *model.area_mut(part) = AreaModel { strings, end };
+    part
 }
 
 /// Every way named in the table of document 01, row by row.
@@ -463,15 +476,53 @@ pub const WAYS: &[Way] = &[
     shape(17, "two strings exchanged", |rng, model| {
         let (part, i) = some_model_string(rng, model)?;
         let strings = &mut model.area_mut(part).strings;
-        let next_is_plain = strings.get(i + 1).is_some_and(|s| s.keyword != b"NOTE");
+        let keyword = &strings[i].keyword;
+        let other_is_next = |s: &StringModel| s.keyword != b"NOTE" && s.keyword != *keyword;
+        let next_is_plain = strings.get(i + 1).is_some_and(other_is_next);
         next_is_plain.then(|| strings.swap(i, i + 1))?;
         Some(Spot::String(part, i + 1))
     }),
     shape(17, "a keyword twice", |rng, model| {
         let (part, i) = some_model_string(rng, model)?;
         let strings = &mut model.area_mut(part).strings;
-        strings.insert(i, strings[i].clone());
+        let once = !may_repeat(&strings[i].keyword);
+        once.then(|| strings.insert(i, strings[i].clone()))?;
         Some(Spot::String(part, i + 1))
+    }),
+    shape(17, "a repeat that does not run", |rng, model| {
+        let keywords: &[&str] = rng.pick(&[
+            &["RECEIVER_GEOMETRY", "SHOT", "RECEIVER_GEOMETRY"],
+            &[
+                "RECEIVER_GEOMETRY",
+                "RECEIVER_GEOMETRY",
+                "SOURCE_GEOMETRY",
+                "RECEIVER_GEOMETRY",
+            ],
+            &[
+                "RECEIVER_GEOMETRY",
+                "RECEIVER_GEOMETRYS",
+                "RECEIVER_GEOMETRY",
+            ],
+            &[
+                "SOURCE_GEOMETRY",
+                "SOURCE_GEOMETRY",
+                "SOURCE_LOCATION",
+                "SOURCE_GEOMETRY",
+            ],
+        ]);
+        let part = with_keywords(rng, model, keywords);
+        Some(Spot::String(part, keywords.len() - 1))
+    }),
+    shape(17, "a neighbour of what may repeat, twice", |rng, model| {
+        let near = [
+            "RECEIVER_LOCATION",
+            "RECEIVER_GEOMETR",
+            "SOURCE_LOCATION",
+            "SOURCE_GEOMETRY1",
+        ];
+        let keyword = rng.pick(&near);
+        let part = with_keywords(rng, model, &["RECEIVER", keyword, keyword]);
+        Some(Spot::String(part, 2))
     }),
     shape(17, "a prefix behind the longer keyword", |rng, model| {
         let (part, i) = some_model_string(rng, model)?;

@@ -440,7 +440,12 @@ public final class Seg2 {
         return new Entry(a, buffer);
     }
 
-    /** Whether a part has a keyword: yes, no, or the refusal. What cannot be a keyword is a no. 18 as above. */
+    /**
+     * Whether a part has a keyword: yes, no, or the refusal. What cannot be a keyword is a no. 18 as above.
+     *
+     * <p>RECEIVER_GEOMETRY and SOURCE_GEOMETRY may stand several times running in a part. The questions on a keyword answer the first of
+     * them; {@link #stringCount} and {@link #string} have them all.
+     */
     public static Keyword keyword(ByteBuffer buffer, long length, int part, byte[] key) {
         long[] a = new long[4];
         nativeKeyword(lent(buffer), buffer.limit(), length, part, there(key, "keyword"), a);
@@ -542,7 +547,8 @@ public final class Seg2 {
 
     /**
      * Writes the image of a new file without traces at the buffer's start and answers its length. The sheet is lines of text, each a
-     * keyword, a tab, a value and a line feed, with the keywords rising; consecutive NOTE lines at its end are the lines of one NOTE.
+     * keyword, a tab, a value and a line feed, with the keywords rising. RECEIVER_GEOMETRY and SOURCE_GEOMETRY may have several lines
+     * running, each a string of its own; consecutive NOTE lines at its end are the lines of one NOTE.
      * Refusals in order: 31, 25, 26 (line by line), 27, 30. The image is no file yet: the questions refuse it by 5.
      */
     public static Length start(ByteBuffer buffer, int order, int slots, byte[] sheet) {

@@ -352,6 +352,21 @@ public final class Seg2Test {
         same(before, copy(b));
     }
 
+    private static void severalReceivers() {
+        ByteBuffer b = withSheet("RECEIVER_GEOMETRY\t-5\nRECEIVER_GEOMETRY\t0.5\nRECEIVER_GEOMETRY\t5\nSTACK\t1\n");
+        int n = b.limit();
+        same(4, Seg2.stringCount(b, n, 0).count);
+        String[] phones = {"-5", "0.5", "5"};
+        for (int i = 0; i < 3; i++) {
+            Seg2.Entry entry = Seg2.string(b, n, 0, i);
+            same("RECEIVER_GEOMETRY", entry.keyText());
+            same(phones[i], entry.valueText());
+        }
+        same("-5", Seg2.value(b, n, 0, "RECEIVER_GEOMETRY").text());
+        same(-5.0, Seg2.location(b, n, 0, "RECEIVER_GEOMETRY").x);
+        refused(26, -1, 25, Seg2.start(painted(600), 0, 1, "SOURCE_GEOMETRY\t1\nUNITS\t\nSOURCE_GEOMETRY\t2\n"));
+    }
+
     private static void numbersAndLocations() {
         ByteBuffer b = withSheet("DELAY\t-0.020\nLINE\t0,020\nRECEIVER_LOCATION\t12.5\nSOURCE_LOCATION\t1 -2  0.5\nSTACK\t1.345E24\nZ\t1 2\n");
         int n = b.limit();
@@ -649,6 +664,7 @@ public final class Seg2Test {
         test("numbers, names and limits are the header's", () -> theTable(Paths.get(args[0])));
         test("a refusal is told as Rust tells it", () -> theWords(Paths.get(args[1]), Paths.get(args[0])));
         test("bit patterns and classes", Seg2Test::bitsAndClasses);
+        test("several receivers in one group", Seg2Test::severalReceivers);
         test("numbers, doubles and locations", Seg2Test::numbersAndLocations);
         test("the lines of a NOTE", Seg2Test::noteLines);
         test("a refused start or addition changes nothing", Seg2Test::refusedAdditionsChangeNothing);
