@@ -57,8 +57,8 @@ follows-exactly p k = (
   ⊎-elim (rises-later p k) (λ x. rw (x .0) (rises-again k ∙ repeats-two k .1 (x .1))),
 )
 
--- ---- "may stand several times running": a keyword that stands twice in a part is one of the two, and so is every
--- keyword between. Rules out a reader that lets another repeat, or one of the two stand in two places.
+-- ---- "may stand several times running": a keyword that stands twice in a part is one of the two, and every string
+-- between has it too. Rules out a reader that lets another repeat, or one of the two stand in two places.
 
 pub each-once-but-the-two : (f : List ℕ) (z : ℤ) (ss : List Str) → Lists Strict f z ss → (i j : ℕ) → i < j → j < length ss
     → nthStr ss i .key ≡ nthStr ss j .key
@@ -127,11 +127,11 @@ module _ (key : List ℕ) (two : Geometry key) where
 -- ---- "A crew with six phones per group writes RECEIVER_GEOMETRY six times in one trace block", here -5, -3, -1, 1, 3
 -- and 5: it is written, byte for byte as the list's file, and reads back as six strings
 
-abbrev pub places : List (List ℕ)
-places = (45 ∷ 53 ∷ []) ∷ (45 ∷ 51 ∷ []) ∷ (45 ∷ 49 ∷ []) ∷ (49 ∷ []) ∷ (51 ∷ []) ∷ (53 ∷ []) ∷ []
+abbrev pub positions : List (List ℕ)
+positions = (45 ∷ 53 ∷ []) ∷ (45 ∷ 51 ∷ []) ∷ (45 ∷ 49 ∷ []) ∷ (49 ∷ []) ∷ (51 ∷ []) ∷ (53 ∷ []) ∷ []
 
 abbrev pub phones : List Line
-phones = eachLine receiverGeometry places
+phones = eachLine receiverGeometry positions
 
 abbrev pub group : Trace
 group = record { sheet = sheetOf phones; code = shot .code; samples = shot .samples }
@@ -140,14 +140,14 @@ sized : (length (areaOf false nul lineFeed (sheetOf phones)) ≡ 140) × (traceS
 unfolding sheetOf startSize areaSize sheetStrings sheetLines sheetLinesFrom lineLen lineKeyLen run joined same textSize room needed count fileSize sizes
 sized = (length-area false nul lineFeed (sheetOf phones), refl, refl)
 
-each-good : Each GoodValue places
+each-good : Each GoodValue positions
 unfolding all
 each-good = ((refl, refl), ((refl, refl), ((refl, refl), ((refl, refl), ((refl, refl), ((refl, refl), tt))))))
 
 can-be-written : (xs : List ℕ) → 236 ≤ length xs → Writable xs 0 1 units (group ∷ [])
 can-be-written xs h =
     let s = worked-good .1 .0 .0 in
-    let m = lines-of-the-two receiverGeometry (inl refl) nul lineFeed places each-good .1 (omega (arith, sized .0)) in
+    let m = lines-of-the-two receiverGeometry (inl refl) nul lineFeed positions each-good .1 (omega (arith, sized .0)) in
     record {
       either = omega arith;
       some = omega arith;
@@ -173,5 +173,5 @@ six-receivers xs h =
       rw (worked-sizes .0) at (start-accepted xs 0 1 units (group ∷ []) w),
       rw (worked-sizes .0, sized .1) at (none-refused xs 0 1 units (group ∷ []) w),
       rw n at (is .image),
-      rw (n, lines-of-the-two receiverGeometry (inl refl) nul _ places each-good .0) at r,
+      rw (n, lines-of-the-two receiverGeometry (inl refl) nul _ positions each-good .0) at r,
     )

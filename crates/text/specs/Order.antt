@@ -24,7 +24,7 @@ less [] (y ∷ ys) = true
 less (x ∷ xs) [] = false
 less (x ∷ xs) (y ∷ ys) = pick (ltb x y) true (pick (ltb y x) false (less xs ys))
 
--- whether the keyword p comes before the keyword k
+-- whether the keyword p comes before the keyword k: byte order, and NOTE after all others
 unfoldable pub before : List ℕ → List ℕ → Bool
 before p k = pick (same p note) false (pick (same k note) true (less p k))
 

@@ -96,7 +96,7 @@ pub fn open_end(how: Manner) -> bool
     }
 }
 
-// Whether the keyword p comes before the keyword k.
+// Whether the keyword p comes before the keyword k: byte order, and NOTE after all others.
 fn is_before(p: &[u8], k: &[u8]) -> bool
     ensures { λ r. ⌜ r ≡ before (now (p .entry)) (now (k .entry)) ⌝ }
 {

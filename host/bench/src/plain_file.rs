@@ -228,12 +228,17 @@ fn strings<const HIGH: bool>(
         if !allowed {
             return refused(16);
         }
-        if previous == b"NOTE" || !note && previous >= key {
+        if !note && previous >= key && !again(previous, key) || previous == b"NOTE" {
             return refused(17);
         }
         previous = key;
         rest = next;
     }
+}
+
+/// Whether the keyword is the one before it, and may stand several times running.
+fn again(previous: &[u8], key: &[u8]) -> bool {
+    previous == key && (key == b"RECEIVER_GEOMETRY" || key == b"SOURCE_GEOMETRY")
 }
 
 /// Value characters and whole line terminators, whose characters are none of them.
@@ -505,7 +510,7 @@ fn area_size(sheet: &[u8], string: usize, line: usize) -> Result<usize, Refused>
         if !good || !more && value.first() == Some(&b' ') {
             return Err((25, -1, start));
         }
-        if !more && (previous == b"NOTE" || !note && previous >= key) {
+        if !more && (!note && previous >= key && !again(previous, key) || previous == b"NOTE") {
             return Err((26, -1, start));
         }
         size += match more {

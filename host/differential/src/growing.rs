@@ -241,8 +241,12 @@ fn read_back(
             let what = format!("{count:?} for {} strings", expected.strings.len());
             return Err(pair.differs(length, call, what));
         }
+        let mut places: Vec<[u64; 2]> = Vec::new();
         for (index, (key, value)) in expected.strings.iter().enumerate() {
-            read_string(pair, length, part, index, key, value)?;
+            // "A keyword question answers the first" (document 02, §1)
+            let first = expected.strings.iter().position(|(k, _)| k == key);
+            let first = first.and_then(|i| places.get(i)).copied();
+            places.push(read_string(pair, length, part, index, (key, value), first)?);
         }
         let Some(samples) = &expected.samples else {
             continue;
@@ -259,15 +263,16 @@ fn read_back(
     Ok(())
 }
 
-/// A string by its index, and its value by its keyword.
+/// A string by its index, and the value of its keyword, which is its own where no string
+/// before it has the keyword. Answers where its value stands.
 fn read_string(
     pair: &mut Pair,
     length: usize,
     part: i32,
     index: usize,
-    key: &[u8],
-    value: &[u8],
-) -> Result<(), Difference> {
+    (key, value): (&[u8], &[u8]),
+    first: Option<[u64; 2]>,
+) -> Result<[u64; 2], Difference> {
     let call = Call::String { part, index };
     let [found, at, letters, start, size] = pair.ask(length, call)?.values.map(|v| v as usize);
     pair.lend_key(key);
@@ -276,9 +281,9 @@ fn read_string(
     let right = found == 1
         && &buffer[at..at + letters] == key
         && &buffer[start..start + size] == value
-        && same == Answer::good([start as u64, size as u64]);
+        && same == Answer::good(first.unwrap_or([start as u64, size as u64]));
     match right {
-        true => Ok(()),
+        true => Ok([start as u64, size as u64]),
         false => Err(pair.differs(length, call, "another string than was given".into())),
     }
 }
