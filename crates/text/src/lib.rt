@@ -131,6 +131,12 @@ pub fn following(p: &[u8], k: &[u8], how: Manner) -> bool
     ensures { λ r. ⌜ r ≡ follows how (now (p .entry)) (now (k .entry)) ⌝ }
 {
     match how {
-        Manner::Strict => rising(p, k),
+        Manner::Strict => {
+            // Most keywords come later, and that is settled without a call.
+            if is_before(p, k) {
+                return true;
+            }
+            rising(p, k)
+        }
     }
 }
