@@ -417,7 +417,7 @@ static inline const char *seg2_text(uint32_t number) {
     case SEG2_VALUE_COUNT: return "a location is one value or three: here is another number of values, or the keyword is missing";
     case SEG2_NO_SLOT: return "no trace slot is free: the file has all traces that it was started for";
     case SEG2_SHEET_LINE: return "a line of the sheet is not a keyword, a tab and a value";
-    case SEG2_SHEET_ORDER: return "a line of the sheet is out of order, or its keyword is there twice (only RECEIVER_GEOMETRY and SOURCE_GEOMETRY may repeat)";
+    case SEG2_SHEET_ORDER: return "a line of the sheet is out of order, or its keyword is there twice (only RECEIVER_GEOMETRY, SOURCE_GEOMETRY and NOTE may have several lines)";
     case SEG2_AREA_SIZE: return "the sheet's strings need more than 65,500 bytes";
     case SEG2_ENTRY_CODE: return "the format code does not fit these samples, or their count is no multiple of 4 under code 3";
     case SEG2_SAMPLE_RANGE: return "a sample is outside what the format code can hold";

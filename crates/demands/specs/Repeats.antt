@@ -2,7 +2,7 @@
 -- running, in files and in sheets; all others still rise strictly. A keyword question answers the first. Demands 2 and
 -- 3 read with this order."
 -- Assumes nothing.
-use mathlib.Core.Path.{_≡_, refl, sym, ap, _∙_}
+use mathlib.Core.Path.{_≡_, refl, sym, ap, subst, _∙_}
 use mathlib.Core.Bool.{true, false}
 use mathlib.Core.List.{List, [], _∷_}
 use mathlib.Core.Logic.{_↔_, _⊎_, inl, inr, ⊎-elim}
@@ -84,6 +84,16 @@ the-first-is-answered xs n z ss a key i low has free =
     let v : valueAnswer Strict xs n z key ≡ nthStr ss i .value = ap (valueThere (take n xs)) w ∙ t .2 .value in
     let k : valueOfKey Strict ss key ≡ nthStr ss i .value = sym (a .value key) ∙ v in
     (f, ap yesOrNo w, v, a .number key ∙ ap numberIn k, a .double key ∙ ap doubleOf k, a .location key ∙ ap locationOf k)
+
+-- so every other keyword that stands in a part is answered by its one string
+pub any-other-by-its-own : (xs : List ℕ) (n : ℕ) (z : ℤ) (ss : List Str) → Lists Strict (take n xs) z ss → AnswersBy xs n z ss → (i : ℕ) → i < length ss
+    → (Geometry (nthStr ss i .key) → ⊥)
+    → (findAnswer Strict xs n z (nthStr ss i .key) ≡ nthAnswer Strict xs n z i) × (valueAnswer Strict xs n z (nthStr ss i .key) ≡ nthStr ss i .value)
+any-other-by-its-own xs n z ss l a i low other =
+    let once : (j : ℕ) → j < i → nthStr ss j .key ≡ nthStr ss i .key → ⊥ =
+    λ j b e. other (subst Geometry e (each-once-but-the-two (take n xs) z ss l j i b low e .0)) in
+    let r = the-first-is-answered xs n z ss a (nthStr ss i .key) i low refl once in
+    (r .0, r .2)
 
 -- ---- "in files and in sheets": a line for each value, all of one of the two keywords
 

@@ -134,7 +134,7 @@ const TABLE: &[(u32, &str)] = &[
     (23, "a location is one value or three: here is another number of values, or the keyword is missing"),
     (24, "no trace slot is free: the file has all traces that it was started for"),
     (25, "a line of the sheet is not a keyword, a tab and a value"),
-    (26, "a line of the sheet is out of order, or its keyword is there twice (only RECEIVER_GEOMETRY and SOURCE_GEOMETRY may repeat)"),
+    (26, "a line of the sheet is out of order, or its keyword is there twice (only RECEIVER_GEOMETRY, SOURCE_GEOMETRY and NOTE may have several lines)"),
     (27, "the sheet's strings need more than 65,500 bytes"),
     (28, "the format code does not fit these samples, or their count is no multiple of 4 under code 3"),
     (29, "a sample is outside what the format code can hold"),

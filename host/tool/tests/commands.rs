@@ -448,7 +448,7 @@ fn several_receivers_are_written_and_listed() {
         "{error}"
     );
     assert!(
-        error.contains("(only RECEIVER_GEOMETRY and SOURCE_GEOMETRY may repeat)"),
+        error.contains("(only RECEIVER_GEOMETRY, SOURCE_GEOMETRY and NOTE may have several lines)"),
         "{error}"
     );
     assert!(error.contains(line), "{error}");
