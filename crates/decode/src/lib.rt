@@ -134,7 +134,8 @@ fn sample3(block: &[u8], high: bool, i: usize) -> i32
     group_sample(block, high, at, first, (i % 4) as u16)
 }
 
-// The four samples of group g: all are at hand before one is stored, so that a compiler can work them out together.
+// The four samples of group g. Each exponent is taken from its word when it is needed, and each sample is stored before
+// the next is worked out (document 02, §3).
 fn read_group(block: &[u8], high: bool, g: usize, row: &mut [i32])
     requires { ⌜ (10 * g + 10 ≤ length (now block)) × (4 * g + 4 ≤ length (now row)) ⌝ }
     ensures { λ _. ⌜ now (row .exit) ≡ put (now (row .entry)) (4 * g) (valuesFrom
@@ -142,18 +143,14 @@ fn read_group(block: &[u8], high: bool, g: usize, row: &mut [i32])
 {
     let at = 10 * g;
     let exponents = sample::word_at(block, high, at);
-    let a = group_sample(block, high, at, exponents, 0);
-    let b = group_sample(block, high, at, exponents, 1);
-    let c = group_sample(block, high, at, exponents, 2);
-    let d = group_sample(block, high, at, exponents, 3);
     let i0 = 4 * g;
     let i1 = i0 + 1;
     let i2 = i1 + 1;
     let i3 = i2 + 1;
-    row[i0] = a;
-    row[i1] = b;
-    row[i2] = c;
-    row[i3] = d;
+    row[i0] = group_sample(block, high, at, exponents, 0);
+    row[i1] = group_sample(block, high, at, exponents, 1);
+    row[i2] = group_sample(block, high, at, exponents, 2);
+    row[i3] = group_sample(block, high, at, exponents, 3);
 }
 
 // All groups of a row, low byte first. There is a loop for each order: what is known of the order in its body is

@@ -3,7 +3,7 @@
 -- Assumes nothing.
 use mathlib.Core.Path.{_≡_, refl, sym, ap, ap₂, _∙_}
 use mathlib.Core.Bool.{Bool, true, false, cond}
-use mathlib.Core.List.{List, [], _∷_, _++_, reverse}
+use mathlib.Core.List.{List, [], _∷_, _++_, reverse, append-assoc}
 use Prim.Native.Nat.{ℕ, zero, suc, _+_, _-_, _*_, _/_, _%_, _^_, _≤_, _<_}
 use native.Mathlib.Nat.{le-div-iff-mul-le, div-one, mul-suc, mul-add, mul-one}
 use native.Mathlib.Numerals.{add-one}
@@ -20,7 +20,8 @@ use borrow.Author.Tests.{leb-true, leb-false, ltb-true}
 use Rattle.word.specs.Put.{put, put-none, put-append, length-put}
 use Rattle.word.specs.Round.{round4}
 use Rattle.word.specs.Word.{lowBytes, bytesOf}
-use Rattle.word.specs.WordLaws.{length-bytesOf}
+use Rattle.word.specs.WordLaws.{length-bytesOf, bytesOf-joined}
+use Rattle.sample.specs.Turned.{turned, turned-bytes}
 use Rattle.fit.specs.Unfit.{unfitInteger, unfitIntegers, all-good}
 use Rattle.encode.specs.Write.{flat, residue, mantissaMost, smallest, exponentOf, mantissaOf, onesBits}
 use Rattle.encode.specs.Write.{exponentsOf, wordsOf, groupBytes, groupOf, groups, filledUp}
@@ -173,13 +174,25 @@ coded-plus z e m t r q =
 
 -- ---- a group
 
--- five words, stored one behind the other
-pub put-five : (high : Bool) (w a b c d : ℕ) (xs : List ℕ) (at : ℕ)
-    → put (put (put (put (put xs at (bytesOf 2 high w)) (at + 2) (bytesOf 2 high a)) (at + 2 + 2) (bytesOf 2 high b)) (at + 2 + 2 + 2) (bytesOf 2 high c))
-    (at + 2 + 2 + 2 + 2) (bytesOf 2 high d)
-    ≡ put xs at (wordsOf high w a b c d)
+-- four words as one number of eight bytes, the first lowest
+pub four-words : (a b c d : ℕ) → a < 65536 → b < 65536 → c < 65536 → d < 65536
+    → bytesOf 8 false ((d * 65536 + c) * 4294967296 + (b * 65536 + a))
+    ≡ bytesOf 2 false a ++ (bytesOf 2 false b ++ (bytesOf 2 false c ++ bytesOf 2 false d))
+four-words a b c d ha hb hc hd =
+    bytesOf-joined 4 false (b * 65536 + a) (d * 65536 + c) (omega arith) (omega arith)
+    ∙ ap₂ _++_ (bytesOf-joined 2 false a b ha hb) (bytesOf-joined 2 false c d hc hd)
+    ∙ append-assoc (bytesOf 2 false a) (bytesOf 2 false b) (bytesOf 2 false c ++ bytesOf 2 false d)
+
+-- five words: four of them, turned and joined, and the last behind them
+pub put-five : (high : Bool) (w a b c d r : ℕ) (xs : List ℕ) (at : ℕ)
+    → bytesOf 8 false r ≡ bytesOf 2 false (turned 2 high w) ++ (bytesOf 2 false (turned 2 high a)
+    ++ (bytesOf 2 false (turned 2 high b) ++ bytesOf 2 false (turned 2 high c)))
+    → put (put xs at (bytesOf 8 false r)) (at + 8) (bytesOf 2 high d) ≡ put xs at (wordsOf high w a b c d)
 unfolding wordsOf
-put-five high w a b c d xs at = sym (simp (put-append, length-bytesOf))
+put-five high w a b c d r xs at e =
+    let behind = put-append (bytesOf 8 false r) (bytesOf 2 high d) xs at in
+    sym (rw (length-bytesOf 8 false r) at behind) ∙ ap (put xs at) (ap (λ (bs : List ℕ). bs ++ bytesOf 2 high d) e
+    ∙ simp (turned-bytes, append-assoc))
 
 pub group-words : (high : Bool) (a b c d : ℤ) {ea eb ec ed ma mb mc md : ℕ} (w : ℕ) → Coded a ea ma → Coded b eb mb → Coded c ec mc → Coded d ed md
     → w ≡ ea + 16 * eb + 256 * ec + 4096 * ed → wordsOf high w ma mb mc md ≡ groupBytes high a b c d

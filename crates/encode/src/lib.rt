@@ -4,6 +4,7 @@
 use fit::Fit;
 ghost use mathlib.Core.Path.{_≡_};
 ghost use mathlib.Core.Bool.{true, false};
+ghost use mathlib.Core.List.{_++_};
 ghost use Prim.Native.Nat.{_+_, _*_, _%_, _≤_, _<_};
 ghost use lib.IntN.{natAbs};
 ghost use lib.ListN.{length};
@@ -147,20 +148,30 @@ fn exponents(a: u16, b: u16, c: u16, d: u16) -> u16
     d << 12 | c << 8 | b << 4 | a
 }
 
-// Five words in file order.
+// Four words as one number of eight bytes, the first lowest.
+fn joined(a: u16, b: u16, c: u16, d: u16) -> u64
+    ensures { λ r. ⌜ bytesOf 8 false r ≡ bytesOf 2 false a ++ (bytesOf 2 false b
+        ++ (bytesOf 2 false c ++ bytesOf 2 false d)) ⌝ }
+{
+    let front = b as u64 * 65536 + a as u64;
+    let back = d as u64 * 65536 + c as u64;
+    back * 4294967296 + front
+}
+
+// Five words in file order: four in one piece, then the last. Stored word by word they are ten stores of one byte to a
+// compiler that widens loops, and on Arm it then kept 960 bytes of the stack for them (docs/changes/03-stack.md).
 fn put_words(part: &mut [u8], high: bool, at: usize, w: u16, a: u16, b: u16, c: u16, d: u16)
     requires { ⌜ at + 10 ≤ length (now part) ⌝ }
     ensures { λ _. ⌜ now (part .exit) ≡ put (now (part .entry)) at (wordsOf high w a b c d) ⌝ }
 {
-    let at1 = at + 2;
-    let at2 = at1 + 2;
-    let at3 = at2 + 2;
-    let at4 = at3 + 2;
-    put_word(part, high, at, w);
-    put_word(part, high, at1, a);
-    put_word(part, high, at2, b);
-    put_word(part, high, at3, c);
-    put_word(part, high, at4, d);
+    let front = joined(
+        sample::turned(high, w),
+        sample::turned(high, a),
+        sample::turned(high, b),
+        sample::turned(high, c),
+    );
+    store::put8(part, false, at, front);
+    put_word(part, high, at + 8, d);
 }
 
 // Group g of a row. Each exponent and each mantissa is worked out once.

@@ -1,4 +1,6 @@
--- `encode::put_words` meets its contract. Five words one behind the other. Assumes nothing.
+-- `encode::put_words` meets its contract. Four words, each turned, are stored as one number, the fifth behind them.
+-- Assumes nothing.
+use mathlib.Core.Path.{_∙_}
 use borrow.Author.Needs.{needs}
 use Rattle.encode.specs.WriteLaws.{put-five}
 use Rattle.encode.proofs.put_words.Statement.{statement}
@@ -8,26 +10,27 @@ pub put-words-spec : {M : Type 1} → statement M
 put-words-spec =
     tie.close
     (tie.spec
-    (λ c. search needs)
-    (λ c. search needs)
-    (λ c. search needs)
-    (λ c. search needs)
     (λ c κs. search needs)
     (λ c κs. search needs)
     (λ c κs. search needs)
     (λ c κs. search needs)
+    (λ c κs. search needs)
+    (λ c κs. search needs)
+    (λ c. search needs)
     (λ c κs. search needs)
     (λ c. search needs)
     (λ c.
-    let at-put-word5 = c .before .before in
-    let at-put-word4 = at-put-word5 .before .before .before .before in
-    let at-put-word3 = at-put-word4 .before .before .before .before in
-    let at-put-word2 = at-put-word3 .before .before .before .before in
-    let at-put-word = at-put-word2 .before .before .before .before in
-    rw (
-      at-put-word5 .put-word5 .ensures,
-      at-put-word4 .put-word4 .ensures,
-      at-put-word3 .put-word3 .ensures,
-      at-put-word2 .put-word2 .ensures,
-      at-put-word .put-word .ensures,
-    ) (put-five _ _ _ _ _ _ _ _)))
+    let at-put-word = c .before .before in
+    let at-put8 = at-put-word .before .before .before .before in
+    let at-joined = at-put8 .before .before in
+    let at-turned4 = at-joined .before in
+    let at-turned3 = at-turned4 .before in
+    let at-turned2 = at-turned3 .before in
+    let at-turned = at-turned2 .before in
+    let words = rw (
+      at-turned .turned .ensures,
+      at-turned2 .turned2 .ensures,
+      at-turned3 .turned3 .ensures,
+      at-turned4 .turned4 .ensures,
+    ) at (at-joined .joined .ensures) in
+    at-put-word .put-word .ensures ∙ rw (at-put8 .put8 .ensures) (put-five _ _ _ _ _ _ _ _ _ words)))
