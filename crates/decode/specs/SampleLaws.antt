@@ -45,6 +45,13 @@ pub ones-minus : (m : ℕ) → 32768 ≤ m → ones m ≡ negℤ (pos (65535 - m
 unfolding ones
 ones-minus m h = rw (le-ltb m 32768 h)
 
+-- which is 65535 less than its bits say
+pub ones-less : (m : ℕ) → 32768 ≤ m → m < 65536 → pos m -ℤ pos 65535 ≡ ones m
+ones-less m h l = rw (ones-minus m h) (elim (decLe 65535 m) [
+  | yes k ↦ (let e : m ≡ 65535 = omega arith in rw e)
+  | no k ↦ (let e : 65535 - m ≡ suc (65535 - 1 - m) = omega (arith, lt-of-not-le k) in rw e (minus-more m 65535 (lt-of-not-le k)))
+])
+
 -- 15 bits are left of it
 pub ones-small : (m : ℕ) → natAbs (ones m) < 32768
 ones-small m =

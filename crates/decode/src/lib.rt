@@ -101,7 +101,7 @@ fn ones(mantissa: u16) -> i32
     if mantissa < 32768 {
         mantissa as i32
     } else {
-        -((65535 - mantissa) as i32)
+        mantissa as i32 - 65535
     }
 }
 

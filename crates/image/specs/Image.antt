@@ -13,12 +13,10 @@ use Rattle.refusal.specs.declared.Part.the-variants.{File, Trace}
 use Rattle.refusal.specs.declared.Verdict.{Verdict}
 use Rattle.refusal.specs.declared.Verdict.the-variants.{Accepted}
 use Rattle.refusal.specs.Rows.{pick}
-use Rattle.refusal.specs.Verdicts.{asked, andThen}
+use Rattle.refusal.specs.Verdicts.{andThen}
 use Rattle.refusal.specs.FirstRow.{firstOf}
 use Rattle.text.specs.declared.Manner.{Manner}
 use Rattle.strings.specs.Strings.{stringsOf}
-use Rattle.image.specs.declared.Walked.{Walked}
-use Rattle.image.specs.declared.Walked.the-variants.{Past, Bad}
 use Rattle.block.specs.Block.{pointerOf, blockSize, endAt, pointerRow, blockOf}
 use Rattle.block.specs.BlockLaws.{headAt}
 use Rattle.head.specs.declared.Purpose.{Purpose}
@@ -43,10 +41,6 @@ traceChecks how high t u f k prev =
 
 unfoldable pub traceOf : Manner → Bool → List ℕ → List ℕ → List ℕ → ℕ → ℕ → Verdict
 traceOf how high t u f k prev = firstOf (traceChecks how high t u f k prev)
-
--- what a walk over the traces has of a trace at p: its checks' refusal, or where it ends
-abbrev pub walked : Verdict → Bool → List ℕ → ℕ → Walked
-walked v high f p = asked Bad v (Past (endAt high f p))
 
 -- the traces from k on, so many of them, behind what ends at prev
 unfoldable pub tracesFrom : Manner → Bool → List ℕ → List ℕ → List ℕ → ℕ → ℕ → ℕ → Verdict

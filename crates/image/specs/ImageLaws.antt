@@ -28,16 +28,8 @@ use Rattle.block.specs.declared.TraceBlock.{TraceBlock}
 use Rattle.block.specs.declared.TraceAnswer.the-variants as trace
 use Rattle.block.specs.Block.{pointerOf, blockSize, dataSize, endAt, pointerRow, blockOf, blockIn, blockAnswer}
 use Rattle.block.specs.BlockLaws.{headAt, own-size, own-data, Blocked, blocked, block-size, block-data}
-use Rattle.image.specs.Image.{areaVerdict, blockChecks, traceOf, walked, tracesFrom, restOf, imageOf, badLength}
-
--- ---- what a walk has of a trace
-pub walked-bad : (high : Bool) (f : List ℕ) (p : ℕ) (v : Verdict) (r : Refusal) → walked v high f p ≡ Bad r → v ≡ Refused r
-walked-bad high f p Accepted r e = let z : _≡_ {A = ℕ} 0 1 = cc in absurd (omega arith)
-walked-bad high f p (Refused q) r e = let s : q ≡ r = cc in ap Refused s
-
-pub walked-past : (high : Bool) (f : List ℕ) (p : ℕ) (v : Verdict) (e : ℕ) → walked v high f p ≡ Past e → (v ≡ Accepted) × (endAt high f p ≡ e)
-walked-past high f p Accepted e q = (refl, cc)
-walked-past high f p (Refused r) e q = let z : _≡_ {A = ℕ} 0 1 = cc in absurd (omega arith)
+use Rattle.image.specs.Image.{areaVerdict, blockChecks, restOf, imageOf, badLength}
+use Rattle.image.specs.Walk.{walked}
 
 -- ---- a trace's block: the rows of its first 32 bytes, then its strings
 
@@ -87,83 +79,6 @@ module _ (how : Manner) (high : Bool) (t u f : List ℕ) (k p : ℕ) where
         → Past (p + x .b + x .d) ≡ walked (firstOf (blockChecks how high t u f k p)) high f p
     unfolding endAt
     strings-past h = sym (rw (strings-next, h, rows-size high f k p x e, rows-data high f k p x e))
-
--- ---- a trace: its pointer, then its block
-module _ (how : Manner) (high : Bool) (t u f : List ℕ) (k prev : ℕ) where
-  pub trace-bad : (r : Refusal) → pointerRow (length f) k prev (pointerOf high f k) ≡ Refused r → traceOf how high t u f k prev ≡ Refused r
-  unfolding traceOf andThen
-  trace-bad r h = first-next _ _ ∙ rw h
-
-  -- a trace whose pointer was judged is its other checks
-  pub trace-pointed : pointerRow (length f) k prev (pointerOf high f k) ≡ Accepted
-      → firstOf (blockChecks how high t u f k (pointerOf high f k)) ≡ traceOf how high t u f k prev
-  unfolding traceOf andThen
-  trace-pointed h = sym (first-next _ _ ∙ rw h)
-
--- ---- a turn of the walk over the traces
-module _ (how : Manner) (high : Bool) (t u f : List ℕ) (n k prev : ℕ) (low : k < n) where
-  step : tracesFrom how high t u f (n - k) k prev
-      ≡ andThen (traceOf how high t u f k prev) (tracesFrom how high t u f (n - (k + 1)) (k + 1) (endAt high f (pointerOf high f k)))
-  unfolding tracesFrom
-  step = let e : n - k ≡ suc (n - (k + 1)) = omega arith in rw e
-
-  pub turn-bad : (r : Refusal) → traceOf how high t u f k prev ≡ Refused r → Refused r ≡ tracesFrom how high t u f (n - k) k prev
-  unfolding andThen
-  turn-bad r h = sym (step ∙ rw h)
-
-  pub turn-past : (e : ℕ) → traceOf how high t u f k prev ≡ Accepted → endAt high f (pointerOf high f k) ≡ e
-      → tracesFrom how high t u f (n - (k + 1)) (k + 1) e ≡ tracesFrom how high t u f (n - k) k prev
-  unfolding andThen
-  turn-past e h q = sym (step ∙ rw (h, q))
-
-pub walk-over : (how : Manner) (high : Bool) (t u f : List ℕ) (n k prev : ℕ) → n ≤ k → Accepted ≡ tracesFrom how high t u f (n - k) k prev
-unfolding tracesFrom
-walk-over how high t u f n k prev h = let e : n - k ≡ 0 = omega arith in rw e
-
--- ---- what comes behind rows 2 to 7
-pub rest-none : (how : Manner) (high : Bool) (t u f : List ℕ) (m n : ℕ) → n ≡ 0
-    → areaVerdict how high t u f File (32 + m) (length f) ≡ restOf how high t u f m n
-unfolding restOf
-rest-none how high t u f m n e = rw (eq-eqb n 0 e)
-
--- where there is a trace: p is the first pointer
-module _ (how : Manner) (high : Bool) (t u f : List ℕ) (m n p : ℕ) (some : n ≡ 0 → ⊥) (here : p ≡ pointerOf high f 0) where
-  rest-filled : restOf how high t u f m n
-      ≡ andThen (pointerRow (length f) 0 (32 + m) p) (andThen (areaVerdict how high t u f File (32 + m) p) (tracesFrom how high t u f n 0 (32 + m)))
-  unfolding restOf
-  rest-filled =
-      pick-second (eqb n 0) _ _ (ne-eqb n 0 some)
-      ∙ first-next (pointerRow (length f) 0 (32 + m) (pointerOf high f 0)) _
-      ∙ rw (first-two (areaVerdict how high t u f File (32 + m) (pointerOf high f 0)) (tracesFrom how high t u f n 0 (32 + m)), ← here)
-
-  pub pointer-refused : (r : Refusal) → pointerRow (length f) 0 (32 + m) p ≡ Refused r → Refused r ≡ restOf how high t u f m n
-  unfolding andThen
-  pointer-refused r h = sym (rest-filled ∙ rw h)
-
-  module _ (judged : pointerRow (length f) 0 (32 + m) p ≡ Accepted) where
-    pub strings-refused : (r : Refusal) → areaVerdict how high t u f File (32 + m) p ≡ Refused r → Refused r ≡ restOf how high t u f m n
-    unfolding andThen
-    strings-refused r h = sym (rest-filled ∙ rw (judged, h))
-
-    -- the first trace goes on from the pointer that was judged
-    module _ (strings : areaVerdict how high t u f File (32 + m) p ≡ Accepted) where
-      rest-traces : restOf how high t u f m n ≡ tracesFrom how high t u f (n - 0) 0 (32 + m)
-      unfolding andThen
-      rest-traces = let z : n - 0 ≡ n = omega arith in rest-filled ∙ rw (judged, strings, z)
-
-      first-trace : firstOf (blockChecks how high t u f 0 p) ≡ traceOf how high t u f 0 (32 + m)
-      first-trace = rw here (trace-pointed how high t u f 0 (32 + m) (rw here at judged))
-
-      pub first-refused : (r : Refusal) → walked (firstOf (blockChecks how high t u f 0 p)) high f p ≡ Bad r → Refused r ≡ restOf how high t u f m n
-      first-refused r h =
-          let w : traceOf how high t u f 0 (32 + m) ≡ Refused r = sym first-trace ∙ walked-bad high f p _ r h in
-          turn-bad how high t u f n 0 (32 + m) (omega arith) r w ∙ sym rest-traces
-
-      pub first-past : (e : ℕ) → walked (firstOf (blockChecks how high t u f 0 p)) high f p ≡ Past e
-          → tracesFrom how high t u f (n - 1) 1 e ≡ restOf how high t u f m n
-      first-past e h =
-          let w = walked-past high f p (firstOf (blockChecks how high t u f 0 p)) e h in
-          turn-past how high t u f n 0 (32 + m) (omega arith) e (sym first-trace ∙ w .0) (rw here at (w .1)) ∙ sym rest-traces
 
 -- ---- rows 2 to 7, then the rest
 file-told : (v : Verdict) (y : FileBlock) (r : Refusal) → asked file.Refused v (file.Is y) ≡ file.Refused r → v ≡ Refused r

@@ -1,4 +1,5 @@
 pub mod Image
 pub mod Keeps
+pub mod Walk
 pub mod ImageLaws
 pub mod Accepted

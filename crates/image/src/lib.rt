@@ -16,16 +16,16 @@ ghost use mathlib.Core.Path.{_≡_};
 ghost use Prim.Native.Nat.{_+_, _-_, _*_, _≤_, _<_};
 ghost use lib.ListN.{length};
 ghost use Rattle.refusal.specs.FirstRow.{firstOf};
-ghost use Rattle.block.specs.Block.{pointerOf};
-ghost use Rattle.image.specs.Image.{blockChecks, traceOf, walked, tracesFrom, restOf, imageOf, checkOf};
+ghost use Rattle.image.specs.Image.{blockChecks, restOf, imageOf, checkOf};
+ghost use Rattle.image.specs.Walk.{walked, nextOf, pointedFrom, InWord, Stands};
 
-// Whether a trace was accepted, and where it then ends.
+// A step of the walk over the file: where it goes on, or the refusal.
 pub enum Walked {
     Past(usize),
     Bad(Refusal),
 }
 
-// Rows 9 to 17 of the trace k, whose block begins at p.
+// Rows 9 to 17 of the trace k, whose block begins at p; and where it ends.
 fn block(f: &[u8], high: bool, t: &[u8], u: &[u8], k: u16, p: usize, how: Manner) -> Walked
     requires { ⌜ (p < 4294967296) × (p + 32 ≤ length (now f)) × (0 < length (now u)) ⌝ }
     ensures { λ r. ⌜ r ≡ walked (firstOf (blockChecks how high (now (t .entry)) (now (u .entry)) (now (f .entry)) k p))
@@ -46,36 +46,46 @@ fn block(f: &[u8], high: bool, t: &[u8], u: &[u8], k: u16, p: usize, how: Manner
     }
 }
 
-// Rows 8 to 17 of the trace k, behind what ends at prev.
-fn trace(f: &[u8], high: bool, t: &[u8], u: &[u8], k: u16, prev: usize, how: Manner) -> Walked
-    requires { ⌜ (36 + 4 * k ≤ length (now f)) × (0 < length (now u)) ⌝ }
-    ensures { λ r. ⌜ r ≡ walked (traceOf how high (now (t .entry)) (now (u .entry)) (now (f .entry)) k prev) high
-        (now (f .entry)) (pointerOf high (now (f .entry)) k) ⌝ }
+// Row 8 of the trace k, behind what ends at prev: where its block begins. Behind the last trace it is the image's end.
+fn next(f: &[u8], high: bool, n: u16, k: u16, prev: usize) -> Walked
+    requires { ⌜ 32 + 4 * n ≤ length (now f) ⌝ }
+    ensures { λ r. ⌜ (r ≡ nextOf high (now (f .entry)) n k prev) × (k < n → InWord r) ⌝ }
 {
+    if n <= k {
+        return Walked::Past(f.len());
+    }
     let p = block::pointer(f, high, k);
     let row = block::pointer_row(f.len(), k, prev, p);
     match row {
         Verdict::Refused(r) => Walked::Bad(r),
-        Verdict::Accepted => block(f, high, t, u, k, p, how),
+        Verdict::Accepted => Walked::Past(p),
     }
 }
 
-// Each trace from 1 on, 8 to 17, behind what ends at start.
-fn traces(f: &[u8], high: bool, t: &[u8], u: &[u8], n: u16, start: usize, how: Manner) -> Verdict
-    requires { ⌜ (32 + 4 * n ≤ length (now f)) × (0 < n) × (0 < length (now u)) ⌝ }
-    ensures { λ r. ⌜ r ≡ tracesFrom how high (now (t .entry)) (now (u .entry)) (now (f .entry)) (n - 1) 1 start ⌝ }
+// Each trace, 8 to 17, where row 8 of the first was asked and `first` is where it begins.
+fn traces(f: &[u8], high: bool, t: &[u8], u: &[u8], n: u16, first: usize, how: Manner) -> Verdict
+    requires { ⌜ (32 + 4 * n ≤ length (now f)) × (0 < length (now u)) × Stands high (now f) n 0 first ⌝ }
+    ensures { λ r. ⌜ r ≡ pointedFrom how high (now (t .entry)) (now (u .entry)) (now (f .entry)) n 0 ⌝ }
 {
-    let mut k: u16 = 1;
-    let mut prev = start;
+    let mut k: u16 = 0;
+    let mut p = first;
     while k < n {
-        let w = trace(f, high, t, u, k, prev, how);
+        let w = block(f, high, t, u, k, p, how);
         match w {
             Walked::Bad(r) => {
                 return Verdict::Refused(r);
             }
             Walked::Past(end) => {
-                prev = end;
                 k += 1;
+                let x = next(f, high, n, k, end);
+                match x {
+                    Walked::Bad(r) => {
+                        return Verdict::Refused(r);
+                    }
+                    Walked::Past(q) => {
+                        p = q;
+                    }
+                }
             }
         }
     }
@@ -89,22 +99,16 @@ fn rest(f: &[u8], high: bool, t: &[u8], u: &[u8], m: usize, n: u16, how: Manner)
     ensures { λ r. ⌜ r ≡ restOf how high (now (t .entry)) (now (u .entry)) (now (f .entry)) m n ⌝ }
 {
     let start = 32 + m;
-    if n == 0 {
-        return strings::check(f, start, f.len(), high, t, u, Part::File, how);
-    }
-    let p = block::pointer(f, high, 0);
-    let row = block::pointer_row(f.len(), 0, start, p);
-    if let Verdict::Refused(r) = row {
-        return Verdict::Refused(r);
-    }
-    let strings = strings::check(f, start, p, high, t, u, Part::File, how);
-    if let Verdict::Refused(r) = strings {
-        return Verdict::Refused(r);
-    }
-    let w = block(f, high, t, u, 0, p, how);
-    match w {
+    let x = next(f, high, n, 0, start);
+    match x {
         Walked::Bad(r) => Verdict::Refused(r),
-        Walked::Past(end) => traces(f, high, t, u, n, end, how),
+        Walked::Past(p) => {
+            let strings = strings::check(f, start, p, high, t, u, Part::File, how);
+            match strings {
+                Verdict::Refused(r) => Verdict::Refused(r),
+                Verdict::Accepted => traces(f, high, t, u, n, p, how),
+            }
+        }
     }
 }
 

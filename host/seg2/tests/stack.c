@@ -1,7 +1,8 @@
 /* Every exported function on a stack of 32 KiB with a guard page under it. A thread of its own would have more: the smallest that pthreads gives is
  * 128 KiB on some machines. So the stack is a mapped region that a context switches to, painted before each call; what is no longer painted was used.
  *
- *   stack            prints each function and the most bytes that it used, on a small file and on a large one
+ *   stack            prints each function and the most bytes that it used, on a small file and on a large one; and what a call of nothing uses
+ *   stack samples    prints the bytes that seg2_integers used on a trace of each code of integers, in either order
  *   stack measured   a function that uses 16 KiB, to see that the paint measures
  *   stack deep       a function that uses more than there is, which has to end the program by a signal */
 #define _GNU_SOURCE
@@ -54,7 +55,7 @@ static int32_t integers[SAMPLES];
 static uint64_t patterns[SAMPLES];
 static uint8_t classes[SAMPLES];
 static size_t samples;
-static uint32_t code_of_integers, code_of_bits;
+static uint32_t order = SEG2_HIGH_FIRST, code_of_integers, code_of_bits;
 static int32_t part;
 static const uint8_t key[] = "NOTE";
 static seg2_verdict verdict;
@@ -69,6 +70,7 @@ static struct seg2_double twice;
 static struct seg2_location location;
 static seg2_length written;
 
+static void call_nothing(void) {}
 static void call_check(void) { verdict = seg2_check(buffer, size, length); }
 static void call_file_block(void) { seg2_file_block(&file, buffer, size, length); }
 static void call_trace_block(void) { seg2_trace_block(&trace, buffer, size, length, 0); }
@@ -81,7 +83,7 @@ static void call_double(void) { seg2_double(&twice, buffer, size, length, part, 
 static void call_location(void) { seg2_location(&location, buffer, size, length, part, key, 4); }
 static void call_integers(void) { verdict = seg2_integers(buffer, size, length, 0, integers, samples); }
 static void call_bits(void) { verdict = seg2_bits(buffer, size, length, 1, patterns, samples, classes, samples); }
-static void call_start(void) { seg2_start(&written, buffer, size, SEG2_HIGH_FIRST, TRACES, sheet, sheet_size); }
+static void call_start(void) { seg2_start(&written, buffer, size, order, TRACES, sheet, sheet_size); }
 static void call_add_integers(void) { seg2_add_integers(&written, buffer, size, length, sheet, sheet_size, code_of_integers, integers, samples); }
 static void call_add_bits(void) { seg2_add_bits(&written, buffer, size, length, sheet, sheet_size, code_of_bits, patterns, samples); }
 
@@ -161,6 +163,33 @@ static void whole(uint32_t of_integers, uint32_t of_bits, size_t traces, size_t 
     }
 }
 
+/* The samples of a trace of a code, in one order, behind another trace: written, read, and how much stack the reading used. */
+static size_t read_samples(uint32_t code, uint32_t in_order) {
+    size_t i, used;
+    order = in_order;
+    code_of_integers = code;
+    samples = SAMPLES;
+    sheet_size = (size_t)sprintf((char *)sheet, "NOTE\t1.5\n");
+    for (i = 0; i < samples; i++) {
+        integers[i] = (int32_t)(i * 7919 % 65536) - 32768; /* code 3 holds these, the least of them but for its last bit */
+    }
+    call_start();
+    must(written.number == 0, "the start is refused");
+    for (i = 0; i < 2; i++) {
+        length = written.length;
+        call_add_integers();
+        must(written.number == 0, "an addition is refused");
+    }
+    length = written.length;
+    memset(integers, 0x55, sizeof integers);
+    used = used_by(call_integers);
+    must(verdict.number == 0, "the samples are refused");
+    for (i = 0; i < samples; i++) {
+        must(integers[i] == (int32_t)(i * 7919 % 65536) - 32768, "another sample");
+    }
+    return used;
+}
+
 /* Uses at least so many KiB. */
 static unsigned deep(unsigned kib) {
     volatile uint8_t room[1024];
@@ -192,6 +221,15 @@ int main(int words, char **word) {
     size = LARGE;
     buffer = (uint8_t *)malloc(size);
     must(buffer != NULL, "no memory");
+    if (words == 2 && strcmp(word[1], "samples") == 0) {
+        uint32_t code;
+        for (code = SEG2_FIXED_16; code <= SEG2_FLOAT_20; code++) {
+            printf("%u low %lu\n", (unsigned)code, (unsigned long)read_samples(code, SEG2_LOW_FIRST));
+            printf("%u high %lu\n", (unsigned)code, (unsigned long)read_samples(code, SEG2_HIGH_FIRST));
+        }
+        free(buffer);
+        return 0;
+    }
     whole(SEG2_FIXED_16, SEG2_FLOAT_32, 2, 4, 1);
     whole(SEG2_FIXED_32, SEG2_FLOAT_64, 40, SAMPLES, 3500);
     whole(SEG2_FLOAT_20, SEG2_FLOAT_32, 40, SAMPLES, 3500);
@@ -199,6 +237,7 @@ int main(int words, char **word) {
     for (i = 0; i < sizeof all / sizeof all[0]; i++) {
         printf("%s %lu\n", all[i].name, (unsigned long)all[i].most);
     }
+    printf("nothing %lu\n", (unsigned long)used_by(call_nothing));
     free(buffer);
     return 0;
 }

@@ -1,0 +1,185 @@
+-- The walk over a file as the code goes it: each step answers where it goes on, or the refusal. Row 8 of a trace is asked
+-- at the end of what stands before it, so the first pointer is judged once, where Image has it twice. The laws say that
+-- this is the check of Image.
+-- Assumes nothing.
+use mathlib.Core.Path.{_≡_, refl, sym, ap, _∙_}
+use mathlib.Core.Bool.{Bool, true, false}
+use mathlib.Core.List.{List}
+use Prim.Native.Nat.{ℕ, zero, suc, _+_, _-_, _≤_, _<_}
+use native.Mathlib.Nat.{lt-of-not-le}
+use native.Mathlib.Decide.{decLe}
+use native.Mathlib.Omega.{arith}
+use lib.ListN.{length}
+use lib.Dec.{leb, eqb}
+use borrow.Author.Tests.{leb-true, leb-false, eq-eqb, ne-eqb}
+use Rattle.refusal.specs.Rows.{pick, pick-second}
+use Rattle.refusal.specs.Verdicts.{asked, andThen}
+use Rattle.refusal.specs.FirstRow.{firstOf, first-next, first-two}
+use Rattle.refusal.specs.declared.Part.the-variants.{File}
+use Rattle.refusal.specs.declared.Refusal.{Refusal}
+use Rattle.refusal.specs.declared.Verdict.{Verdict}
+use Rattle.refusal.specs.declared.Verdict.the-variants.{Accepted, Refused}
+use Rattle.text.specs.declared.Manner.{Manner}
+use Rattle.block.specs.Block.{pointerOf, endAt, pointerRow}
+use Rattle.block.specs.BlockLaws.{pointed}
+use Rattle.image.specs.declared.Walked.{Walked}
+use Rattle.image.specs.declared.Walked.the-variants.{Past, Bad}
+use Rattle.image.specs.Image.{areaVerdict, blockChecks, traceOf, tracesFrom, restOf}
+
+-- a trace at p: the refusal of its checks, or where it ends
+abbrev pub walked : Verdict → Bool → List ℕ → ℕ → Walked
+walked v high f p = asked Bad v (Past (endAt high f p))
+
+-- behind what ends at prev: row 8 of the trace k, and where it begins; behind the last of n traces, the image's end
+abbrev pub nextOf : Bool → List ℕ → ℕ → ℕ → ℕ → Walked
+nextOf high f n k prev =
+    pick (leb n k) (Past (length f)) (asked Bad (pointerRow (length f) k prev (pointerOf high f k)) (Past (pointerOf high f k)))
+
+-- the traces from k on, so many of them, where row 8 of the first was asked
+unfoldable pub pointedFrom : Manner → Bool → List ℕ → List ℕ → List ℕ → ℕ → ℕ → Verdict
+pointedFrom how high t u f zero k = Accepted
+pointedFrom how high t u f (suc left) k =
+    andThen (firstOf (blockChecks how high t u f k (pointerOf high f k))) (tracesFrom how high t u f left (k + 1) (endAt high f (pointerOf high f k)))
+
+-- a pointer has 32 bits
+abbrev pub InWord : Walked → Type 0
+InWord (Past p) = p < 4294967296
+InWord (Bad r) = Unit {0}
+
+-- p is where the trace k begins, if there is one, and its first 32 bytes are there
+abbrev pub Stands : Bool → List ℕ → ℕ → ℕ → ℕ → Type 0
+Stands high f n k p = k < n → (p ≡ pointerOf high f k) × (p + 32 ≤ length f) × (p < 4294967296)
+
+-- ---- what a step has shown
+
+pub stopped : (v : Verdict) (p : ℕ) (r : Refusal) → asked Bad v (Past p) ≡ Bad r → v ≡ Refused r
+stopped Accepted p r e = let z : _≡_ {A = ℕ} 0 1 = cc in absurd (omega arith)
+stopped (Refused q) p r e = let s : q ≡ r = cc in ap Refused s
+
+pub went-on : (v : Verdict) (p q : ℕ) → asked Bad v (Past p) ≡ Past q → (v ≡ Accepted) × (p ≡ q)
+went-on Accepted p q e = (refl, cc)
+went-on (Refused r) p q e = let z : _≡_ {A = ℕ} 0 1 = cc in absurd (omega arith)
+
+-- ---- a trace: its pointer, then its block
+module _ (how : Manner) (high : Bool) (t u f : List ℕ) (k prev : ℕ) where
+  trace-bad : (r : Refusal) → pointerRow (length f) k prev (pointerOf high f k) ≡ Refused r → traceOf how high t u f k prev ≡ Refused r
+  unfolding traceOf andThen
+  trace-bad r h = first-next _ _ ∙ rw h
+
+  -- a trace whose pointer was judged is its other checks
+  trace-pointed : pointerRow (length f) k prev (pointerOf high f k) ≡ Accepted
+      → firstOf (blockChecks how high t u f k (pointerOf high f k)) ≡ traceOf how high t u f k prev
+  unfolding traceOf andThen
+  trace-pointed h = sym (first-next _ _ ∙ rw h)
+
+-- ---- where the walk goes on
+module _ (high : Bool) (f : List ℕ) (n k prev : ℕ) where
+  -- row 8 was asked, or there is no trace k
+  next-refused : (r : Refusal) → nextOf high f n k prev ≡ Bad r → (k < n) × (pointerRow (length f) k prev (pointerOf high f k) ≡ Refused r)
+  next-refused r e = go (leb n k) refl e
+    where
+      go : (b : Bool) → leb n k ≡ b
+          → pick b (Past (length f)) (asked Bad (pointerRow (length f) k prev (pointerOf high f k)) (Past (pointerOf high f k))) ≡ Bad r
+          → (k < n) × (pointerRow (length f) k prev (pointerOf high f k) ≡ Refused r)
+      go true q h = let z : _≡_ {A = ℕ} 0 1 = cc in absurd (omega arith)
+      go false q h = (leb-false n k q, stopped _ _ r h)
+
+  next-passed : (p : ℕ) → nextOf high f n k prev ≡ Past p
+      → (k < n → (pointerRow (length f) k prev (pointerOf high f k) ≡ Accepted) × (pointerOf high f k ≡ p)) × (n ≤ k → length f ≡ p)
+  next-passed p e = go (leb n k) refl e
+    where
+      go : (b : Bool) → leb n k ≡ b
+          → pick b (Past (length f)) (asked Bad (pointerRow (length f) k prev (pointerOf high f k)) (Past (pointerOf high f k))) ≡ Past p
+          → (k < n → (pointerRow (length f) k prev (pointerOf high f k) ≡ Accepted) × (pointerOf high f k ≡ p)) × (n ≤ k → length f ≡ p)
+      go true q h = let l = leb-true n k q in ((λ s. absurd (omega arith)), λ _. cc)
+      go false q h = let l = leb-false n k q in ((λ _. went-on _ _ p h), λ s. absurd (omega arith))
+
+  -- so p is where the trace k begins, and no place goes back or beyond the end
+  pub next-stands : (p : ℕ) (x : Walked) → x ≡ nextOf high f n k prev → (k < n → InWord x) → x ≡ Past p → Stands high f n k p
+  next-stands p x e w q l =
+      let s = next-passed p (sym e ∙ q) .0 l in
+      (sym (s .1), rw (s .1) at (pointed _ k prev _ (s .0) .fits), rw q at (w l))
+
+  pub next-within : (p : ℕ) → nextOf high f n k prev ≡ Past p → prev ≤ length f → (prev ≤ p) × (p ≤ length f)
+  next-within p e h =
+      elim (decLe n k) [
+        | yes l ↦ (let z = next-passed p e .1 l in (omega arith, omega arith))
+        | no l ↦
+            (let s = next-passed p e .0 (lt-of-not-le l) in
+            let q = pointed _ k prev _ (s .0) in
+            (omega (arith, q .behind, s .1), omega (arith, q .fits, s .1)))
+      ]
+
+  module _ (how : Manner) (t u : List ℕ) where
+    -- the traces from k on, behind prev: its refusal, or what they are where row 8 of the first was asked
+    pub next-bad : (r : Refusal) → nextOf high f n k prev ≡ Bad r → Refused r ≡ tracesFrom how high t u f (n - k) k prev
+    unfolding tracesFrom andThen
+    next-bad r e =
+        let s = next-refused r e in
+        let z : n - k ≡ suc (n - (k + 1)) = omega (arith, s .0) in
+        sym (rw (z, trace-bad how high t u f k prev r (s .1)))
+
+    pub next-past : (p : ℕ) → nextOf high f n k prev ≡ Past p → pointedFrom how high t u f (n - k) k ≡ tracesFrom how high t u f (n - k) k prev
+    unfolding tracesFrom pointedFrom
+    next-past p e =
+        elim (decLe n k) [
+          | yes l ↦ (let z : n - k ≡ 0 = omega arith in rw z)
+          | no l ↦
+              (let s = next-passed p e .0 (lt-of-not-le l) in
+              let z : n - k ≡ suc (n - (k + 1)) = omega (arith, lt-of-not-le l) in
+              rw (z, trace-pointed how high t u f k prev (s .0)))
+        ]
+
+-- ---- a turn of the walk: the trace k at p, of which row 8 was asked
+module _ (how : Manner) (high : Bool) (t u f : List ℕ) (n k p : ℕ) (low : k < n) (here : p ≡ pointerOf high f k) where
+  turn : pointedFrom how high t u f (n - k) k
+      ≡ andThen (firstOf (blockChecks how high t u f k p)) (tracesFrom how high t u f (n - (k + 1)) (k + 1) (endAt high f p))
+  unfolding pointedFrom
+  turn = let e : n - k ≡ suc (n - (k + 1)) = omega arith in rw (e, here)
+
+  pub turn-bad : (r : Refusal) → walked (firstOf (blockChecks how high t u f k p)) high f p ≡ Bad r
+      → Refused r ≡ pointedFrom how high t u f (n - k) k
+  unfolding andThen
+  turn-bad r h = sym (turn ∙ rw (stopped (firstOf (blockChecks how high t u f k p)) (endAt high f p) r h))
+
+  pub turn-past : (e : ℕ) → walked (firstOf (blockChecks how high t u f k p)) high f p ≡ Past e
+      → tracesFrom how high t u f (n - (k + 1)) (k + 1) e ≡ pointedFrom how high t u f (n - k) k
+  unfolding andThen
+  turn-past e h = let w = went-on (firstOf (blockChecks how high t u f k p)) (endAt high f p) e h in sym (turn ∙ rw (w .0, w .1))
+
+pub walk-over : (how : Manner) (high : Bool) (t u f : List ℕ) (n k : ℕ) → n ≤ k → Accepted ≡ pointedFrom how high t u f (n - k) k
+unfolding pointedFrom
+walk-over how high t u f n k h = let e : n - k ≡ 0 = omega arith in rw e
+
+-- ---- what comes behind rows 2 to 7: p is where the file's strings end
+module _ (how : Manner) (high : Bool) (t u f : List ℕ) (m : ℕ) where
+  rest-filled : (n : ℕ) → restOf how high t u f m (suc n)
+      ≡ andThen (pointerRow (length f) 0 (32 + m) (pointerOf high f 0))
+      (andThen (areaVerdict how high t u f File (32 + m) (pointerOf high f 0)) (tracesFrom how high t u f (suc n) 0 (32 + m)))
+  unfolding restOf
+  rest-filled n =
+      pick-second (eqb (suc n) 0) _ _ (ne-eqb (suc n) 0 (λ z. absurd (omega arith)))
+      ∙ first-next (pointerRow (length f) 0 (32 + m) (pointerOf high f 0)) _
+      ∙ rw (first-two (areaVerdict how high t u f File (32 + m) (pointerOf high f 0)) (tracesFrom how high t u f (suc n) 0 (32 + m)))
+
+  pub rest-pointer : (n : ℕ) (r : Refusal) → nextOf high f n 0 (32 + m) ≡ Bad r → Refused r ≡ restOf how high t u f m n
+  unfolding andThen
+  rest-pointer zero r e = let s = next-refused high f 0 0 (32 + m) r e in absurd (omega (arith, s .0))
+  rest-pointer (suc n) r e = let s = next-refused high f (suc n) 0 (32 + m) r e in sym (rest-filled n ∙ rw (s .1))
+
+  pub rest-strings : (n p : ℕ) (r : Refusal) → nextOf high f n 0 (32 + m) ≡ Past p → areaVerdict how high t u f File (32 + m) p ≡ Refused r
+      → Refused r ≡ restOf how high t u f m n
+  unfolding restOf andThen
+  rest-strings zero p r e h = let s = next-passed high f 0 0 (32 + m) p e .1 (omega arith) in sym (rw (s, h))
+  rest-strings (suc n) p r e h =
+      let s = next-passed high f (suc n) 0 (32 + m) p e .0 (omega arith) in
+      sym (rest-filled n ∙ rw (s .0, s .1, h))
+
+  pub rest-traces : (n p : ℕ) → nextOf high f n 0 (32 + m) ≡ Past p → areaVerdict how high t u f File (32 + m) p ≡ Accepted
+      → pointedFrom how high t u f n 0 ≡ restOf how high t u f m n
+  unfolding restOf pointedFrom andThen
+  rest-traces zero p e h = let s = next-passed high f 0 0 (32 + m) p e .1 (omega arith) in sym (rw (s, h))
+  rest-traces (suc n) p e h =
+      let s = next-passed high f (suc n) 0 (32 + m) p e .0 (omega arith) in
+      let z : suc n - 0 ≡ suc n = omega arith in
+      rw z at (next-past high f (suc n) 0 (32 + m) how t u p e) ∙ sym (rest-filled n ∙ rw (s .0, s .1, h))
