@@ -3,16 +3,15 @@
 use mathlib.Core.Path.{_≡_, refl, sym, ap, _∙_}
 use mathlib.Core.Bool.{Bool, false, _||_}
 use mathlib.Core.List.{List}
-use Prim.Native.Nat.{ℕ, suc, _+_, _-_, _≤_, _<_}
+use Prim.Native.Nat.{ℕ, _+_, _-_, _≤_, _<_}
 use native.Mathlib.Omega.{arith}
 use lib.ListN.{length, take}
-use lib.Dec.{ltb, eqb}
-use borrow.Author.Tests.{le-ltb, ltb-false, eq-eqb, ne-eqb}
+use lib.Dec.{ltb}
+use borrow.Author.Tests.{le-ltb, ltb-false}
 use Rattle.word.specs.Tests.{neither, join-neither}
-use Rattle.refusal.specs.Rows.{pick-second}
 use Rattle.refusal.specs.Verdicts.{asked, andThen}
-use Rattle.refusal.specs.FirstRow.{firstOf, first-next, first-two}
-use Rattle.refusal.specs.declared.Part.the-variants.{File, Trace}
+use Rattle.refusal.specs.FirstRow.{firstOf, first-two}
+use Rattle.refusal.specs.declared.Part.the-variants.{Trace}
 use Rattle.refusal.specs.declared.Refusal.{Refusal}
 use Rattle.refusal.specs.declared.Verdict.{Verdict}
 use Rattle.refusal.specs.declared.Verdict.the-variants.{Accepted, Refused}
@@ -26,7 +25,7 @@ use Rattle.head.specs.Head.{maximum, roomOf, countOf, stringEnd, lineEnd, headO
 use Rattle.head.specs.HeadLaws.{Headed, headed, own-block, block-order, block-room, block-count}
 use Rattle.block.specs.declared.TraceBlock.{TraceBlock}
 use Rattle.block.specs.declared.TraceAnswer.the-variants as trace
-use Rattle.block.specs.Block.{pointerOf, blockSize, dataSize, endAt, pointerRow, blockOf, blockIn, blockAnswer}
+use Rattle.block.specs.Block.{blockSize, dataSize, endAt, blockOf, blockIn, blockAnswer}
 use Rattle.block.specs.BlockLaws.{headAt, own-size, own-data, Blocked, blocked, block-size, block-data}
 use Rattle.image.specs.Image.{areaVerdict, blockChecks, restOf, imageOf, badLength}
 use Rattle.image.specs.Walk.{walked}

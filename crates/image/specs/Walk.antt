@@ -11,7 +11,7 @@ use native.Mathlib.Decide.{decLe}
 use native.Mathlib.Omega.{arith}
 use lib.ListN.{length}
 use lib.Dec.{leb, eqb}
-use borrow.Author.Tests.{leb-true, leb-false, eq-eqb, ne-eqb}
+use borrow.Author.Tests.{leb-true, leb-false, ne-eqb}
 use Rattle.refusal.specs.Rows.{pick, pick-second}
 use Rattle.refusal.specs.Verdicts.{asked, andThen}
 use Rattle.refusal.specs.FirstRow.{firstOf, first-next, first-two}

@@ -1,7 +1,7 @@
-// The check of a whole file (document 01, rows 1 to 17, in the order of its table). Image has the walk, Keeps the rules
-// in no order; Accepted proves that an image is accepted exactly where it keeps the rules. Stands on `head`, `block`,
-// `strings`. f is the image, the first `n` bytes of the lent buffer; t and u are its terminators, `how` is the manner
-// of reading. Each part of the check hands on what it read.
+// The check of a whole file (document 01, rows 1 to 17, in the order of its table). Image has the rows in their order,
+// Walk how the code goes through them, Keeps the rules in no order; Accepted proves that an image is accepted exactly
+// where it keeps the rules. Stands on `head`, `block`, `strings`. f is the image, the first `n` bytes of the lent buffer;
+// t and u are its terminators, `how` is the manner of reading. Each part of the check hands on what it read.
 // The rules in words: docs/FORMAT.md, "Refusal numbers, in order of checking".
 use block::TraceAnswer;
 use head::FileAnswer;

@@ -6,7 +6,7 @@ use borrow.Author.Needs.{needs}
 use lib.IntN.{ℤ, pos, negsuc, natAbs, _-ℤ_}
 use lib.Signed.{mag}
 use mir.Syntax.{w32}
-use mir.Val.{toZ, SFits}
+use mir.Val.{toZ}
 use mir.Facts.{toZ-pos}
 use Rattle.word.specs.Signed.{kept}
 use Rattle.decode.specs.Sample.{ones}

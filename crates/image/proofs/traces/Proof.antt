@@ -1,6 +1,6 @@
 -- `image::traces` meets its contract. The invariant: the check from here answers as the check of all, and p is where the
 -- trace k begins. Assumes nothing.
-use mathlib.Core.Path.{_≡_, refl, sym, _∙_}
+use mathlib.Core.Path.{_≡_, sym, _∙_}
 use Prim.Native.Nat.{_+_, _-_, _≤_}
 use Rattle.image.specs.Walk.{pointedFrom, Stands, next-stands, next-bad, next-past, turn-bad, turn-past, walk-over}
 use borrow.Author.Needs.{needs}
