@@ -113,6 +113,7 @@ fn archive(name: &str, code: &str) -> Temporary {
         .args([
             "-O1",
             "-fno-optimize-sibling-calls",
+            "-fno-stack-protector",
             "-fcf-protection=none",
             "-c",
         ])
