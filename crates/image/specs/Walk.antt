@@ -74,25 +74,23 @@ module _ (how : Manner) (high : Bool) (t u f : List ℕ) (k prev : ℕ) where
 
 -- ---- where the walk goes on
 module _ (high : Bool) (f : List ℕ) (n k prev : ℕ) where
-  -- row 8 was asked, or there is no trace k
+  -- row 8 was asked and refused; or it was passed, or there is no trace k
   next-refused : (r : Refusal) → nextOf high f n k prev ≡ Bad r → (k < n) × (pointerRow (length f) k prev (pointerOf high f k) ≡ Refused r)
-  next-refused r e = go (leb n k) refl e
+  next-refused r e = go (leb n k) _ refl e
     where
-      go : (b : Bool) → leb n k ≡ b
-          → pick b (Past (length f)) (asked Bad (pointerRow (length f) k prev (pointerOf high f k)) (Past (pointerOf high f k))) ≡ Bad r
-          → (k < n) × (pointerRow (length f) k prev (pointerOf high f k) ≡ Refused r)
-      go true q h = let z : _≡_ {A = ℕ} 0 1 = cc in absurd (omega arith)
-      go false q h = (leb-false n k q, stopped _ _ r h)
+      go : (b : Bool) (v : Verdict) → leb n k ≡ b → pick b (Past (length f)) (asked Bad v (Past (pointerOf high f k))) ≡ Bad r
+          → (k < n) × (v ≡ Refused r)
+      go true v q h = let z : _≡_ {A = ℕ} 0 1 = cc in absurd (omega arith)
+      go false v q h = (leb-false n k q, stopped v _ r h)
 
   next-passed : (p : ℕ) → nextOf high f n k prev ≡ Past p
       → (k < n → (pointerRow (length f) k prev (pointerOf high f k) ≡ Accepted) × (pointerOf high f k ≡ p)) × (n ≤ k → length f ≡ p)
-  next-passed p e = go (leb n k) refl e
+  next-passed p e = go (leb n k) _ refl e
     where
-      go : (b : Bool) → leb n k ≡ b
-          → pick b (Past (length f)) (asked Bad (pointerRow (length f) k prev (pointerOf high f k)) (Past (pointerOf high f k))) ≡ Past p
-          → (k < n → (pointerRow (length f) k prev (pointerOf high f k) ≡ Accepted) × (pointerOf high f k ≡ p)) × (n ≤ k → length f ≡ p)
-      go true q h = let l = leb-true n k q in ((λ s. absurd (omega arith)), λ _. cc)
-      go false q h = let l = leb-false n k q in ((λ _. went-on _ _ p h), λ s. absurd (omega arith))
+      go : (b : Bool) (v : Verdict) → leb n k ≡ b → pick b (Past (length f)) (asked Bad v (Past (pointerOf high f k))) ≡ Past p
+          → (k < n → (v ≡ Accepted) × (pointerOf high f k ≡ p)) × (n ≤ k → length f ≡ p)
+      go true v q h = let l = leb-true n k q in ((λ s. absurd (omega arith)), λ _. cc)
+      go false v q h = let l = leb-false n k q in ((λ _. went-on v _ p h), λ s. absurd (omega arith))
 
   -- so p is where the trace k begins, and no place goes back or beyond the end
   pub next-stands : (p : ℕ) (x : Walked) → x ≡ nextOf high f n k prev → (k < n → InWord x) → x ≡ Past p → Stands high f n k p

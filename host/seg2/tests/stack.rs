@@ -147,8 +147,20 @@ fn frames_counts_a_chain_and_refuses_what_it_cannot_count() {
         chain.starts_with("seg2_a ") && chain.contains(", low "),
         "{chain}"
     );
-    // the page has another machine's table, and no call of this name
-    assert!(!frames(&["--check", path(object.path())]).status.success());
+
+    // the page has no call of this name, and fewer bytes for the check
+    let deeper = sound
+        .replace("seg2_a", "seg2_check")
+        .replace("[200]", "[2000]");
+    for (name, code, why) in [
+        ("unknown", sound, "seg2_a is not in the table"),
+        ("deeper", &deeper, "seg2_check needs"),
+    ] {
+        let object = archive(&format!("frames-{name}"), code);
+        let out = frames(&["--check", path(object.path())]);
+        assert!(!out.status.success(), "{name} was let through");
+        assert!(text(&out.stderr).contains(why), "{}", text(&out.stderr));
+    }
 
     for (name, code, why) in [
         (
