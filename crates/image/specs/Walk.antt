@@ -52,11 +52,11 @@ Stands high f n k p = k < n → (p ≡ pointerOf high f k) × (p + 32 ≤ length
 
 -- ---- what a step has shown
 
-pub stopped : (v : Verdict) (p : ℕ) (r : Refusal) → asked Bad v (Past p) ≡ Bad r → v ≡ Refused r
+stopped : (v : Verdict) (p : ℕ) (r : Refusal) → asked Bad v (Past p) ≡ Bad r → v ≡ Refused r
 stopped Accepted p r e = let z : _≡_ {A = ℕ} 0 1 = cc in absurd (omega arith)
 stopped (Refused q) p r e = let s : q ≡ r = cc in ap Refused s
 
-pub went-on : (v : Verdict) (p q : ℕ) → asked Bad v (Past p) ≡ Past q → (v ≡ Accepted) × (p ≡ q)
+went-on : (v : Verdict) (p q : ℕ) → asked Bad v (Past p) ≡ Past q → (v ≡ Accepted) × (p ≡ q)
 went-on Accepted p q e = (refl, cc)
 went-on (Refused r) p q e = let z : _≡_ {A = ℕ} 0 1 = cc in absurd (omega arith)
 
