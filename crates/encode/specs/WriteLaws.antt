@@ -3,7 +3,7 @@
 -- Assumes nothing.
 use mathlib.Core.Path.{_≡_, refl, sym, ap, ap₂, _∙_}
 use mathlib.Core.Bool.{Bool, true, false, cond}
-use mathlib.Core.List.{List, [], _∷_, _++_, reverse, append-assoc}
+use mathlib.Core.List.{List, [], _∷_, _++_, reverse, append-assoc, append-nil}
 use Prim.Native.Nat.{ℕ, zero, suc, _+_, _-_, _*_, _/_, _%_, _^_, _≤_, _<_}
 use native.Mathlib.Nat.{le-div-iff-mul-le, div-one, mul-suc, mul-add, mul-one}
 use native.Mathlib.Numerals.{add-one}
@@ -20,8 +20,7 @@ use borrow.Author.Tests.{leb-true, leb-false, ltb-true}
 use Rattle.word.specs.Put.{put, put-none, put-append, length-put}
 use Rattle.word.specs.Round.{round4}
 use Rattle.word.specs.Word.{lowBytes, bytesOf}
-use Rattle.word.specs.WordLaws.{length-bytesOf, bytesOf-joined}
-use Rattle.sample.specs.Turned.{turned, turned-bytes}
+use Rattle.word.specs.WordLaws.{length-bytesOf}
 use Rattle.fit.specs.Unfit.{unfitInteger, unfitIntegers, all-good}
 use Rattle.encode.specs.Write.{flat, residue, mantissaMost, smallest, exponentOf, mantissaOf, onesBits}
 use Rattle.encode.specs.Write.{exponentsOf, wordsOf, groupBytes, groupOf, groups, filledUp}
@@ -174,41 +173,97 @@ coded-plus z e m t r q =
 
 -- ---- a group
 
--- four words as one number of eight bytes, the first lowest
-pub four-words : (a b c d : ℕ) → a < 65536 → b < 65536 → c < 65536 → d < 65536
-    → bytesOf 8 false ((d * 65536 + c) * 4294967296 + (b * 65536 + a))
-    ≡ bytesOf 2 false a ++ (bytesOf 2 false b ++ (bytesOf 2 false c ++ bytesOf 2 false d))
-four-words a b c d ha hb hc hd =
-    bytesOf-joined 4 false (b * 65536 + a) (d * 65536 + c) (omega arith) (omega arith)
-    ∙ ap₂ _++_ (bytesOf-joined 2 false a b ha hb) (bytesOf-joined 2 false c d hc hd)
-    ∙ append-assoc (bytesOf 2 false a) (bytesOf 2 false b) (bytesOf 2 false c ++ bytesOf 2 false d)
+-- words of two bytes
+abbrev pub Small : ℕ → ℕ → ℕ → ℕ → ℕ → Type 0
+Small w a b c d = (w < 65536) × (a < 65536) × (b < 65536) × (c < 65536) × (d < 65536)
 
--- five words: four of them, turned and joined, and the last behind them
-pub put-five : (high : Bool) (w a b c d r : ℕ) (xs : List ℕ) (at : ℕ)
-    → bytesOf 8 false r ≡ bytesOf 2 false (turned 2 high w) ++ (bytesOf 2 false (turned 2 high a)
-    ++ (bytesOf 2 false (turned 2 high b) ++ bytesOf 2 false (turned 2 high c)))
-    → put (put xs at (bytesOf 8 false r)) (at + 8) (bytesOf 2 high d) ≡ put xs at (wordsOf high w a b c d)
+-- the words of group g of a row
+pub record Words (row : List ℤ) (g w a b c d : ℕ) : Type 0 where
+  pub exponents : w ≡ exponentsOf (getD row (4 * g) (pos 0)) (getD row (4 * g + 1) (pos 0)) (getD row (4 * g + 2) (pos 0)) (getD row (4 * g + 3) (pos 0))
+  pub first : a ≡ onesBits (mantissaOf (getD row (4 * g) (pos 0)))
+  pub second : b ≡ onesBits (mantissaOf (getD row (4 * g + 1) (pos 0)))
+  pub third : c ≡ onesBits (mantissaOf (getD row (4 * g + 2) (pos 0)))
+  pub fourth : d ≡ onesBits (mantissaOf (getD row (4 * g + 3) (pos 0)))
+  pub small : Small w a b c d
+
+pub words-told : (row : List ℤ) (g : ℕ) {ea eb ec ed ma mb mc md : ℕ} (w : ℕ) → Coded (getD row (4 * g) (pos 0)) ea ma
+    → Coded (getD row (4 * g + 1) (pos 0)) eb mb → Coded (getD row (4 * g + 2) (pos 0)) ec mc → Coded (getD row (4 * g + 3) (pos 0)) ed md
+    → w ≡ ea + 16 * eb + 256 * ec + 4096 * ed → ma < 65536 → mb < 65536 → mc < 65536 → md < 65536 → Words row g w ma mb mc md
+unfolding exponentsOf
+words-told row g w ra rb rc rd q ha hb hc hd =
+    record {
+      exponents = rw (q, ra .exponent, rb .exponent, rc .exponent, rd .exponent);
+      first = ra .mantissa;
+      second = rb .mantissa;
+      third = rc .mantissa;
+      fourth = rd .mantissa;
+      small = (omega (arith, ra .small, rb .small, rc .small, rd .small), ha, hb, hc, hd);
+    }
+
+words-group : {row : List ℤ} {g w a b c d : ℕ} (high : Bool) → Words row g w a b c d → wordsOf high w a b c d ≡ groupOf high row g
+unfolding groupOf groupBytes
+words-group high r = rw (r .exponents, r .first, r .second, r .third, r .fourth)
+
+-- a group but for its last word: the code stores the words by pairs
+unfoldable pub frontOf : Bool → ℕ → ℕ → ℕ → ℕ → List ℕ
+frontOf high w a b c = (bytesOf 2 high w ++ bytesOf 2 high a) ++ (bytesOf 2 high b ++ bytesOf 2 high c)
+
+front-last : (high : Bool) (w a b c d : ℕ) → frontOf high w a b c ++ bytesOf 2 high d ≡ wordsOf high w a b c d
+unfolding frontOf wordsOf
+front-last high w a b c d = simp append-assoc
+
+length-front : (high : Bool) (w a b c : ℕ) → length (frontOf high w a b c) ≡ 8
+unfolding frontOf
+length-front high w a b c = simp (length-append, length-bytesOf)
+
+length-pair : (high : Bool) (a b : ℕ) → length (bytesOf 2 high a ++ bytesOf 2 high b) ≡ 4
+length-pair high a b = simp (length-append, length-bytesOf)
+
+-- a piece stored where the piece before it ends
+behind : {n : ℕ} (p q xs : List ℕ) (at : ℕ) → length p ≡ n → put (put xs at p) (at + n) q ≡ put xs at (p ++ q)
+behind p q xs at e = sym (put-append p q xs at ∙ ap (λ (k : ℕ). put (put xs at p) (at + k) q) e)
+
+-- two pairs of words, and three of them behind the last word of the group before
+pub put-four : (high : Bool) (w a b c : ℕ) (xs : List ℕ) (at : ℕ)
+    → put (put xs at (bytesOf 2 high w ++ bytesOf 2 high a)) (at + 4) (bytesOf 2 high b ++ bytesOf 2 high c) ≡ put xs at (frontOf high w a b c)
+unfolding frontOf
+put-four high w a b c xs at = behind (bytesOf 2 high w ++ bytesOf 2 high a) (bytesOf 2 high b ++ bytesOf 2 high c) xs at (length-pair high w a)
+
+pub put-six : (high : Bool) (l w a b c d : ℕ) (xs : List ℕ) (at : ℕ)
+    → put (put (put xs at (bytesOf 2 high l ++ bytesOf 2 high w)) (at + 4) (bytesOf 2 high a ++ bytesOf 2 high b)) (at + 8)
+    (bytesOf 2 high c ++ bytesOf 2 high d)
+    ≡ put xs at (bytesOf 2 high l ++ wordsOf high w a b c d)
 unfolding wordsOf
-put-five high w a b c d r xs at e =
-    let behind = put-append (bytesOf 8 false r) (bytesOf 2 high d) xs at in
-    sym (rw (length-bytesOf 8 false r) at behind) ∙ ap (put xs at) (ap (λ (bs : List ℕ). bs ++ bytesOf 2 high d) e
-    ∙ simp (turned-bytes, append-assoc))
+put-six high l w a b c d xs at =
+    let p = bytesOf 2 high l ++ bytesOf 2 high w in
+    let q = bytesOf 2 high a ++ bytesOf 2 high b in
+    let n : length (p ++ q) ≡ 8 = simp (length-append, length-bytesOf) in
+    ap (λ (ys : List ℕ). put ys (at + 8) (bytesOf 2 high c ++ bytesOf 2 high d)) (behind p q xs at (length-pair high l w))
+    ∙ behind (p ++ q) (bytesOf 2 high c ++ bytesOf 2 high d) xs at n ∙ ap (put xs at) (simp append-assoc)
 
-pub group-words : (high : Bool) (a b c d : ℤ) {ea eb ec ed ma mb mc md : ℕ} (w : ℕ) → Coded a ea ma → Coded b eb mb → Coded c ec mc → Coded d ed md
-    → w ≡ ea + 16 * eb + 256 * ec + 4096 * ed → wordsOf high w ma mb mc md ≡ groupBytes high a b c d
-unfolding groupBytes exponentsOf
-group-words high a b c d w ra rb rc rd q =
-    rw (q, ra .exponent, rb .exponent, rc .exponent, rd .exponent, ra .mantissa, rb .mantissa, rc .mantissa, rd .mantissa)
+-- the last word stored behind the front makes the group; with the next group behind it, the two
+pub put-one : {row : List ℤ} {g w a b c d : ℕ} (high : Bool) (xs : List ℕ) (at : ℕ) → Words row g w a b c d
+    → put (put xs at (frontOf high w a b c)) (at + 8) (bytesOf 2 high d) ≡ put xs at (groupOf high row g)
+put-one {w = w} {a} {b} {c} {d} high xs at r =
+    behind (frontOf high w a b c) (bytesOf 2 high d) xs at (length-front high w a b c) ∙ ap (put xs at) (front-last high w a b c d ∙ words-group high r)
+
+pub put-two : {row : List ℤ} {g h w a b c d w' a' b' c' d' : ℕ} (high : Bool) (xs : List ℕ) (at : ℕ) → Words row g w a b c d → Words row h w' a' b' c' d'
+    → put (put xs at (frontOf high w a b c)) (at + 8) (bytesOf 2 high d ++ wordsOf high w' a' b' c' d')
+    ≡ put xs at (groupOf high row g ++ groupOf high row h)
+put-two {row} {g} {h} {w} {a} {b} {c} {d} {w'} {a'} {b'} {c'} {d'} high xs at r s =
+    behind (frontOf high w a b c) (bytesOf 2 high d ++ wordsOf high w' a' b' c' d') xs at (length-front high w a b c)
+    ∙ ap (put xs at) (sym (append-assoc (frontOf high w a b c) (bytesOf 2 high d) (wordsOf high w' a' b' c' d'))
+    ∙ ap₂ _++_ (front-last high w a b c d ∙ words-group high r) (words-group high s))
 
 or-at : (a k b x : ℕ) → x ≡ a * 2 ^ k → b < 2 ^ k → bitOr x b ≡ x + b
 or-at a k b x e h = rw e (or-shifted a k b h)
 
 pub placed : (a b c d : ℕ) → a < 16 → b < 16 → c < 16 → d < 16
-    → bitOr (bitOr (bitOr (d * 4096 % 65536) (c * 256 % 65536)) (b * 16 % 65536)) a ≡ a + 16 * b + 256 * c + 4096 * d
+    → bitOr (bitOr (bitOr (d * 4096 % 4294967296) (c * 256 % 4294967296)) (b * 16 % 4294967296)) a ≡ a + 16 * b + 256 * c + 4096 * d
 placed a b c d ha hb hc hd =
-    let ed : d * 4096 % 65536 ≡ d * 4096 = omega arith in
-    let ec : c * 256 % 65536 ≡ c * 256 = omega arith in
-    let eb : b * 16 % 65536 ≡ b * 16 = omega arith in
+    let ed : d * 4096 % 4294967296 ≡ d * 4096 = omega arith in
+    let ec : c * 256 % 4294967296 ≡ c * 256 = omega arith in
+    let eb : b * 16 % 4294967296 ≡ b * 16 = omega arith in
     rw (ed, ec, eb, or-at d 12 (c * 256) (d * 4096) refl (omega arith), or-at (d * 16 + c) 8 (b * 16) (d * 4096 + c * 256) (omega arith) (omega arith))
     (or-at (d * 256 + c * 16 + b) 4 a (d * 4096 + c * 256 + b * 16) (omega arith) (omega arith) ∙ omega arith)
 
@@ -324,3 +379,46 @@ groups-turn high xs g h =
 pub groups-over : (high : Bool) (xs : List ℤ) (g : ℕ) → length xs ≤ 4 * g → groups high (drop (4 * g) xs) ≡ []
 unfolding groups
 groups-over high xs g h = rw (drop-of-length-le xs {i = 4 * g} h)
+
+-- ---- two groups at a time
+
+-- what is left to write behind k pairs of groups
+unfoldable pub pairsFrom : Bool → List ℤ → ℕ → List ℕ
+pairsFrom high row k = groups high (drop (8 * k) row)
+
+pub pairs-all : (high : Bool) (row : List ℤ) → pairsFrom high row 0 ≡ groups high row
+unfolding pairsFrom
+pairs-all high row = refl
+
+pub pairs-turn : (high : Bool) (row : List ℤ) (k : ℕ) → 8 * k + 8 ≤ length row
+    → pairsFrom high row k ≡ (groupOf high row (2 * k) ++ groupOf high row (2 * k + 1)) ++ pairsFrom high row (k + 1)
+unfolding pairsFrom
+pairs-turn high row k h =
+    let a : 8 * k ≡ 4 * (2 * k) = omega arith in
+    let b : 4 * (2 * k + 1 + 1) ≡ 8 * (k + 1) = omega arith in
+    ap (λ (n : ℕ). groups high (drop n row)) a ∙ groups-turn high row (2 * k) (omega arith)
+    ∙ ap (λ (bs : List ℕ). groupOf high row (2 * k) ++ bs) (groups-turn high row (2 * k + 1) (omega arith)
+    ∙ ap (λ (n : ℕ). groupOf high row (2 * k + 1) ++ groups high (drop n row)) b)
+    ∙ sym (append-assoc (groupOf high row (2 * k)) (groupOf high row (2 * k + 1)) (groups high (drop (8 * (k + 1)) row)))
+
+pub length-two : (high : Bool) (row : List ℤ) (g h : ℕ) → length (groupOf high row g ++ groupOf high row h) ≡ 20
+length-two high row g h = length-append (groupOf high row g) (groupOf high row h) ∙ ap₂ _+_ (length-groupOf high row g) (length-groupOf high row h)
+
+-- one group behind them, or none
+pub one-left : (n k : ℕ) → 8 * k < n → n % 4 ≡ 0 → 4 * (2 * k) + 4 ≤ n
+one-left n k h m = omega arith
+
+pub pairs-one : (high : Bool) (row : List ℤ) (k : ℕ) → 8 * k < length row → length row < 8 * k + 8 → length row % 4 ≡ 0
+    → pairsFrom high row k ≡ groupOf high row (2 * k)
+unfolding pairsFrom
+pairs-one high row k h l m =
+    let a : 8 * k ≡ 4 * (2 * k) = omega arith in
+    ap (λ (n : ℕ). groups high (drop n row)) a ∙ groups-turn high row (2 * k) (omega arith)
+    ∙ ap (λ (bs : List ℕ). groupOf high row (2 * k) ++ bs) (groups-over high row (2 * k + 1) (omega arith))
+    ∙ append-nil (groupOf high row (2 * k))
+
+pub pairs-none : (high : Bool) (row : List ℤ) (k : ℕ) → length row ≤ 8 * k → pairsFrom high row k ≡ []
+unfolding pairsFrom
+pairs-none high row k h =
+    let a : 8 * k ≡ 4 * (2 * k) = omega arith in
+    ap (λ (n : ℕ). groups high (drop n row)) a ∙ groups-over high row (2 * k) (omega arith)

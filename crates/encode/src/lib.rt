@@ -5,15 +5,15 @@ use fit::Fit;
 ghost use mathlib.Core.Path.{_≡_};
 ghost use mathlib.Core.Bool.{true, false};
 ghost use mathlib.Core.List.{_++_};
-ghost use Prim.Native.Nat.{_+_, _*_, _%_, _≤_, _<_};
+ghost use Prim.Native.Nat.{_+_, _*_, _/_, _%_, _≤_, _<_};
 ghost use lib.IntN.{natAbs};
 ghost use lib.ListN.{length};
 ghost use Rattle.word.specs.Put.{put};
-ghost use Rattle.word.specs.Word.{bytesOf};
+ghost use Rattle.word.specs.Word.{joined, bytesOf};
 ghost use Rattle.sample.specs.Needed.{room};
 ghost use Rattle.fit.specs.Unfit.{unfitIntegers};
-ghost use Rattle.encode.specs.WriteLaws.{Told, Coded};
-ghost use Rattle.encode.specs.Write.{residue, wordsOf, groupOf, groups, integersData, bitsData};
+ghost use Rattle.encode.specs.WriteLaws.{Told, Coded, Words, Small, Writing, frontOf, pairsFrom};
+ghost use Rattle.encode.specs.Write.{residue, wordsOf, groups, integersData, bitsData};
 
 // The two bytes of a number, stored at a place.
 fn put_word(part: &mut [u8], high: bool, at: usize, n: u16)
@@ -115,7 +115,7 @@ fn exponent(n: u32) -> u32
 
 // A sample of code 3, as it is written.
 struct Float20 {
-    exponent: u16,
+    exponent: u32,
     mantissa: u16,
 }
 
@@ -129,86 +129,106 @@ fn float20_of(v: i32) -> Float20
     let t = (n >> e) as u16;
     if v < 0 {
         Float20 {
-            exponent: e as u16,
+            exponent: e,
             mantissa: 65535 - t,
         }
     } else {
         Float20 {
-            exponent: e as u16,
+            exponent: e,
             mantissa: t,
         }
     }
 }
 
 // The exponents of four samples in one word, that of sample 0 in bits 0-3.
-fn exponents(a: u16, b: u16, c: u16, d: u16) -> u16
+fn exponents(a: u32, b: u32, c: u32, d: u32) -> u32
     requires { ⌜ (a < 16) × (b < 16) × (c < 16) × (d < 16) ⌝ }
     ensures { λ r. ⌜ r ≡ a + 16 * b + 256 * c + 4096 * d ⌝ }
 {
     d << 12 | c << 8 | b << 4 | a
 }
 
-// Four words as one number of eight bytes, the first lowest.
-fn joined(a: u16, b: u16, c: u16, d: u16) -> u64
-    ensures { λ r. ⌜ bytesOf 8 false r ≡ bytesOf 2 false a ++ (bytesOf 2 false b
-        ++ (bytesOf 2 false c ++ bytesOf 2 false d)) ⌝ }
+// Two words, one behind the other, as one number of four bytes.
+fn pair(high: bool, a: u32, b: u32) -> u32
+    requires { ⌜ (a < 65536) × (b < 65536) ⌝ }
+    ensures { λ r. ⌜ r ≡ joined 65536 high a b ⌝ }
 {
-    let front = b as u64 * 65536 + a as u64;
-    let back = d as u64 * 65536 + c as u64;
-    back * 4294967296 + front
+    if high { a * 65536 + b } else { b * 65536 + a }
 }
 
-// Five words in file order: four in one piece, then the last. Stored word by word they are ten stores of one byte to a
-// compiler that widens loops, and on Arm it then kept 960 bytes of the stack for them (docs/changes/03-stack.md).
-fn put_words(part: &mut [u8], high: bool, at: usize, w: u16, a: u16, b: u16, c: u16, d: u16)
-    requires { ⌜ at + 10 ≤ length (now part) ⌝ }
-    ensures { λ _. ⌜ now (part .exit) ≡ put (now (part .entry)) at (wordsOf high w a b c d) ⌝ }
+// Two words, each in file order, stored at a place. Groups are stored by pairs of words, and so two groups at a time: a
+// compiler makes one store of four bytes, and widens a loop over such stores that are a multiple of 4 apart. Of two
+// bytes it makes one on some machines only, and ten bytes are no such multiple (docs/PERFORMANCE.md).
+fn put_pair(part: &mut [u8], high: bool, at: usize, a: u32, b: u32)
+    requires { ⌜ (at + 4 ≤ length (now part)) × (a < 65536) × (b < 65536) ⌝ }
+    ensures { λ _. ⌜ now (part .exit) ≡ put (now (part .entry)) at (bytesOf 2 high a ++ bytesOf 2 high b) ⌝ }
 {
-    let front = joined(
-        sample::turned(high, w),
-        sample::turned(high, a),
-        sample::turned(high, b),
-        sample::turned(high, c),
-    );
-    store::put8(part, false, at, front);
-    put_word(part, high, at + 8, d);
+    put_word4(part, high, at, pair(high, a, b));
+}
+
+// The words of a group: its exponents, and the mantissas of its four samples.
+struct Group {
+    w: u32,
+    a: u32,
+    b: u32,
+    c: u32,
+    d: u32,
 }
 
 // Group g of a row. Each exponent and each mantissa is worked out once.
-fn write_group(row: &[i32], high: bool, g: usize, part: &mut [u8])
-    requires { ⌜ (4 * g + 4 ≤ length (now row)) × (10 * g + 10 ≤ length (now part))
-        × (unfitIntegers 3 (now row) ≡ Fit.All) ⌝ }
-    ensures { λ _. ⌜ now (part .exit) ≡ put (now (part .entry)) (10 * g) (groupOf high (now (row .entry)) g) ⌝ }
+fn group_of(row: &[i32], g: usize) -> Group
+    requires { ⌜ (4 * g + 4 ≤ length (now row)) × (unfitIntegers 3 (now row) ≡ Fit.All) ⌝ }
+    ensures { λ r. ⌜ Words (now (row .entry)) g (r .w) (r .a) (r .b) (r .c) (r .d) ⌝ }
 {
     let i = 4 * g;
     let a = float20_of(row[i]);
     let b = float20_of(row[i + 1]);
     let c = float20_of(row[i + 2]);
     let d = float20_of(row[i + 3]);
-    let w = exponents(a.exponent, b.exponent, c.exponent, d.exponent);
-    put_words(
-        part,
-        high,
-        10 * g,
-        w,
-        a.mantissa,
-        b.mantissa,
-        c.mantissa,
-        d.mantissa,
-    );
+    Group {
+        w: exponents(a.exponent, b.exponent, c.exponent, d.exponent),
+        a: a.mantissa as u32,
+        b: b.mantissa as u32,
+        c: c.mantissa as u32,
+        d: d.mantissa as u32,
+    }
 }
 
-// The groups of a row, low byte first. There is a loop for each order, as `decode` has it.
+// A group but for its last word, which goes with the group behind it.
+fn put_front(part: &mut [u8], high: bool, at: usize, p: Group)
+    requires { ⌜ (at + 8 ≤ length (now part)) × Small (p .w) (p .a) (p .b) (p .c) (p .d) ⌝ }
+    ensures { λ _. ⌜ now (part .exit) ≡ put (now (part .entry)) at (frontOf high (p .w) (p .a) (p .b) (p .c)) ⌝ }
+{
+    put_pair(part, high, at, p.w, p.a);
+    put_pair(part, high, at + 4, p.b, p.c);
+}
+
+// The last word of a group, and the group behind it.
+fn put_back(part: &mut [u8], high: bool, at: usize, last: u32, q: Group)
+    requires { ⌜ (at + 12 ≤ length (now part)) × (last < 65536) × Small (q .w) (q .a) (q .b) (q .c) (q .d) ⌝ }
+    ensures { λ _. ⌜ now (part .exit) ≡ put (now (part .entry)) at (bytesOf 2 high last
+        ++ wordsOf high (q .w) (q .a) (q .b) (q .c) (q .d)) ⌝ }
+{
+    put_pair(part, high, at, last, q.w);
+    put_pair(part, high, at + 4, q.a, q.b);
+    put_pair(part, high, at + 8, q.c, q.d);
+}
+
+// The pairs of groups of a row, low byte first. There is a loop for each order, as `decode` has it.
 fn write_low(row: &[i32], part: &mut [u8])
     requires { ⌜ (room 3 (length (now row)) ≤ length (now part)) × (length (now row) % 4 ≡ 0)
         × (unfitIntegers 3 (now row) ≡ Fit.All) ⌝ }
-    ensures { λ _. ⌜ now (part .exit) ≡ put (now (part .entry)) 0 (groups false (now (row .entry))) ⌝ }
+    ensures { λ _. ⌜ Writing (pairsFrom false (now (row .entry))) 20 (now (part .entry)) (length (now (row .entry)) / 8)
+        (now (part .exit)) ⌝ }
 {
-    let count = row.len() / 4;
-    let mut g = 0;
-    while g < count {
-        write_group(row, false, g, part);
-        g += 1;
+    let pairs = row.len() / 8;
+    let mut k = 0;
+    while k < pairs {
+        let p = group_of(row, 2 * k);
+        put_front(part, false, 20 * k, p);
+        let q = group_of(row, 2 * k + 1);
+        put_back(part, false, 20 * k + 8, p.d, q);
+        k += 1;
     }
 }
 
@@ -216,26 +236,56 @@ fn write_low(row: &[i32], part: &mut [u8])
 fn write_high(row: &[i32], part: &mut [u8])
     requires { ⌜ (room 3 (length (now row)) ≤ length (now part)) × (length (now row) % 4 ≡ 0)
         × (unfitIntegers 3 (now row) ≡ Fit.All) ⌝ }
-    ensures { λ _. ⌜ now (part .exit) ≡ put (now (part .entry)) 0 (groups true (now (row .entry))) ⌝ }
+    ensures { λ _. ⌜ Writing (pairsFrom true (now (row .entry))) 20 (now (part .entry)) (length (now (row .entry)) / 8)
+        (now (part .exit)) ⌝ }
 {
-    let count = row.len() / 4;
-    let mut g = 0;
-    while g < count {
-        write_group(row, true, g, part);
-        g += 1;
+    let pairs = row.len() / 8;
+    let mut k = 0;
+    while k < pairs {
+        let p = group_of(row, 2 * k);
+        put_front(part, true, 20 * k, p);
+        let q = group_of(row, 2 * k + 1);
+        put_back(part, true, 20 * k + 8, p.d, q);
+        k += 1;
     }
 }
 
-fn write_groups(row: &[i32], high: bool, part: &mut [u8])
+fn write_pairs(row: &[i32], high: bool, part: &mut [u8])
     requires { ⌜ (room 3 (length (now row)) ≤ length (now part)) × (length (now row) % 4 ≡ 0)
         × (unfitIntegers 3 (now row) ≡ Fit.All) ⌝ }
-    ensures { λ _. ⌜ now (part .exit) ≡ put (now (part .entry)) 0 (groups high (now (row .entry))) ⌝ }
+    ensures { λ _. ⌜ Writing (pairsFrom high (now (row .entry))) 20 (now (part .entry)) (length (now (row .entry)) / 8)
+        (now (part .exit)) ⌝ }
 {
     if high {
         write_high(row, part);
         return;
     }
     write_low(row, part);
+}
+
+// What is left of a row behind so many pairs of groups: one group, or nothing.
+fn write_rest(row: &[i32], high: bool, pairs: usize, part: &mut [u8])
+    requires { ⌜ (8 * pairs ≤ length (now row)) × (length (now row) < 8 * pairs + 8)
+        × (room 3 (length (now row)) ≤ length (now part)) × (length (now row) % 4 ≡ 0)
+        × (unfitIntegers 3 (now row) ≡ Fit.All) ⌝ }
+    ensures { λ _. ⌜ now (part .exit) ≡ put (now (part .entry)) (20 * pairs) (pairsFrom high (now (row .entry)) pairs) ⌝ }
+{
+    if 8 * pairs < row.len() {
+        let at = 20 * pairs;
+        let p = group_of(row, 2 * pairs);
+        put_front(part, high, at, p);
+        put_word(part, high, at + 8, p.d as u16);
+    }
+}
+
+// The groups of a row.
+fn write_groups(row: &[i32], high: bool, part: &mut [u8])
+    requires { ⌜ (room 3 (length (now row)) ≤ length (now part)) × (length (now row) % 4 ≡ 0)
+        × (unfitIntegers 3 (now row) ≡ Fit.All) ⌝ }
+    ensures { λ _. ⌜ now (part .exit) ≡ put (now (part .entry)) 0 (groups high (now (row .entry))) ⌝ }
+{
+    write_pairs(row, high, part);
+    write_rest(row, high, row.len() / 8, part);
 }
 
 // The data block of code 3: the groups, and zeros up to a multiple of 4.

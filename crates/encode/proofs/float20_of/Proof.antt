@@ -22,8 +22,6 @@ float20-of-spec =
     (λ c. search needs)
     (λ c. search needs)
     (λ c. search needs)
-    (λ c. search needs)
-    (λ c. search needs)
     (λ c.
     let at-exponent = c .before in
     let at-magnitude = at-exponent .before in

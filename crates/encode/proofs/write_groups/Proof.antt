@@ -1,5 +1,8 @@
--- `encode::write_groups` meets its contract. Each order is written by itself. Assumes nothing.
+-- `encode::write_groups` meets its contract. What is left behind the pairs, written, makes the whole. Assumes nothing.
+use mathlib.Core.Path.{ap, _∙_}
 use borrow.Author.Needs.{needs}
+use Rattle.word.specs.Put.{put}
+use Rattle.encode.specs.WriteLaws.{pairs-all}
 use Rattle.encode.proofs.write_groups.Statement.{statement}
 use Rattle.encode.proofs.write_groups.Tie as tie
 
@@ -8,14 +11,9 @@ write-groups-spec =
     tie.close
     (tie.spec
     (λ c κs. search needs)
-    (λ c. search needs)
-    (λ c.
-    let at-write-high = c .before .before in
-    let at-if1 = at-write-high .before .before in
-    rw (at-if1 .if1 .taken) (at-write-high .write-high .ensures))
     (λ c κs. search needs)
     (λ c. search needs)
     (λ c.
-    let at-write-low = c .before .before in
-    let at-if1 = at-write-low .before .before in
-    rw (at-if1 .if1 .left) (at-write-low .write-low .ensures)))
+    let at-write-rest = c .before .before in
+    let at-write-pairs = at-write-rest .before .before .before .before in
+    at-write-rest .write-rest .ensures ∙ at-write-pairs .write-pairs .ensures .rest ∙ ap (put _ 0) (pairs-all _ _)))

@@ -1,22 +1,23 @@
 -- `encode::write_low` meets its contract. The invariant: what is left to write, written, makes the whole. Assumes
 -- nothing.
 use mathlib.Core.Bool.{false}
-use Prim.Native.Nat.{ℕ, _-_, _*_, _/_}
+use mathlib.Core.Path.{_≡_, _∙_}
+use mathlib.Core.List.{_++_}
+use Prim.Native.Nat.{_+_, _-_, _*_, _/_, _≤_}
 use native.Mathlib.Omega.{arith}
-use lib.ListN.{length, drop}
+use lib.ListN.{length}
 use borrow.Author.Needs.{needs}
 use Rattle.sample.specs.Needed.{needed, room}
-use Rattle.encode.specs.Write.{groupOf, groups}
-use Rattle.encode.specs.WriteLaws.{Writing, write-start, write-turn, write-over, groups-turn, groups-over}
-use Rattle.encode.specs.WriteLaws.{length-groupOf}
+use Rattle.encode.specs.Write.{groupOf}
+use Rattle.encode.specs.WriteLaws.{Writing, write-start, write-turn, put-two, pairsFrom, pairs-turn, length-two}
 use Rattle.encode.proofs.write_low.Statement.{statement}
 use Rattle.encode.proofs.write_low.Tie as tie
 
 abbrev Inv-loop : tie.InvT-loop
-Inv-loop row part₀ count g₀ part g = Writing (λ (k : ℕ). groups false (drop (4 * k) row)) 10 part₀ g part
+Inv-loop row part₀ pairs k₀ part k = (k ≤ length row / 8) × Writing (pairsFrom false row) 20 part₀ k part
 
 abbrev μ-loop : tie.MeasureT-loop
-μ-loop row part₀ count g₀ part g = length row / 4 - g
+μ-loop row part₀ pairs k₀ part k = length row / 8 - k
 
 pub write-low-spec : {M : Type 1} → statement M
 unfolding room needed
@@ -25,19 +26,38 @@ write-low-spec =
     (tie.spec
     Inv-loop
     μ-loop
-    (λ c. write-start _ _ _)
-    (λ c κs. (omega arith, omega arith, c .before .before .before .before .pre .2))
+    (λ c. (omega arith, write-start _ _ _))
+    (λ c. search needs)
+    (λ c κs. (omega arith, c .before .before .before .pre .2))
+    (λ c. search needs)
+    (λ c κs. (omega arith, c .before .group-of .ensures .small))
+    (λ c. search needs)
+    (λ c. search needs)
+    (λ c κs. (omega arith, c .before .before .before .before .before .before .before .before .pre .2))
+    (λ c. search needs)
+    (λ c. search needs)
+    (λ c κs.
+    let p = c .before .before .before .before .before .before .group-of .ensures .small in
+    let q = c .before .group-of2 .ensures .small in
+    (omega arith, omega (arith, p, q), q))
     (λ c. search needs)
     (λ c. search needs)
     (λ c.
-    let at-write-group = c .before .before in
-    let at-loop2 = at-write-group .before .before .before in
-    let start = at-loop2 .before .before in
-    let at-loop = at-loop2 .loop in
-    let row = start .args .row .now in
-    write-turn (groupOf _ row (at-loop .g)) (at-loop .inv) (groups-turn _ row (at-loop .g) (omega arith)) (length-groupOf _ _ _)
-    (at-write-group .write-group .ensures))
+    let at-put-back = c .before .before in
+    let at-group-of2 = at-put-back .before .before in
+    let at-put-front = at-group-of2 .before .before .before in
+    let at-group-of = at-put-front .before .before in
+    let at-loop = at-group-of .before .before in
+    let row = at-loop .before .before .args .row .now in
+    let k = at-loop .loop .k in (
+      omega arith,
+      write-turn (groupOf _ row (2 * k) ++ groupOf _ row (2 * k + 1)) (at-loop .loop .inv .1) (pairs-turn _ row k (omega arith))
+          (length-two _ row (2 * k) (2 * k + 1)) (at-put-back .put-back .ensures ∙ rw (at-put-front .put-front .ensures)
+          (put-two _ _ _ (at-group-of .group-of .ensures) (at-group-of2 .group-of2 .ensures))),
+    ))
     (λ c. search needs)
     (λ c.
-    let at-loop = c .before .loop in
-    write-over (at-loop .inv) (groups-over _ (c .before .before .before .args .row .now) (at-loop .g) (omega arith))))
+    let at-loop = c .before in
+    let row = at-loop .before .before .args .row .now in
+    let e : length row / 8 ≡ at-loop .loop .k = omega arith in
+    rw e (at-loop .loop .inv .1)))
