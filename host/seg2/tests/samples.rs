@@ -321,6 +321,27 @@ fn integers_written() {
     met.both_ways(1..=3);
 }
 
+/// Every number of groups up to five turns of the loop that writes eight at a time where
+/// the compiler widens it: pairs of groups, and one alone.
+#[test]
+fn code_3_of_every_length() {
+    let mut rng = Rng::new(55);
+    for groups in 0..=41 {
+        let row: Vec<i32> = (0..4 * groups)
+            .map(|_| random_sample(&mut rng, 3).clamp(-1_073_741_823, 1_073_741_823))
+            .collect();
+        for order in ORDERS {
+            let data = encode_integers(3, order, &row).expect("every sample fits");
+            let (mut buffer, start) = started(order, BLOCK + data.len() + 9);
+            let answer = calls::add_integers(&mut buffer, start, b"", 3, &row);
+            let end = start + BLOCK + data.len();
+            assert_eq!(answer, added(Ok(end)), "{groups}");
+            assert_eq!(buffer[end - data.len()..end], data, "{groups} {order:?}");
+            assert!(buffer[end..].iter().all(|&b| b == 0xEE), "{groups}");
+        }
+    }
+}
+
 #[test]
 fn bits_written() {
     let mut rng = Rng::new(54);
