@@ -247,7 +247,7 @@ pub put-one : {row : List ℤ} {g w a b c d : ℕ} (high : Bool) (xs : List ℕ)
 put-one {w = w} {a} {b} {c} {d} high xs at r =
     behind (frontOf high w a b c) (bytesOf 2 high d) xs at (length-front high w a b c) ∙ ap (put xs at) (front-last high w a b c d ∙ words-group high r)
 
-pub put-two : {row : List ℤ} {g h w a b c d w' a' b' c' d' : ℕ} (high : Bool) (xs : List ℕ) (at : ℕ) → Words row g w a b c d → Words row h w' a' b' c' d'
+put-two : {row : List ℤ} {g h w a b c d w' a' b' c' d' : ℕ} (high : Bool) (xs : List ℕ) (at : ℕ) → Words row g w a b c d → Words row h w' a' b' c' d'
     → put (put xs at (frontOf high w a b c)) (at + 8) (bytesOf 2 high d ++ wordsOf high w' a' b' c' d')
     ≡ put xs at (groupOf high row g ++ groupOf high row h)
 put-two {row} {g} {h} {w} {a} {b} {c} {d} {w'} {a'} {b'} {c'} {d'} high xs at r s =
@@ -390,7 +390,7 @@ pub pairs-all : (high : Bool) (row : List ℤ) → pairsFrom high row 0 ≡ grou
 unfolding pairsFrom
 pairs-all high row = refl
 
-pub pairs-turn : (high : Bool) (row : List ℤ) (k : ℕ) → 8 * k + 8 ≤ length row
+pairs-turn : (high : Bool) (row : List ℤ) (k : ℕ) → 8 * k + 8 ≤ length row
     → pairsFrom high row k ≡ (groupOf high row (2 * k) ++ groupOf high row (2 * k + 1)) ++ pairsFrom high row (k + 1)
 unfolding pairsFrom
 pairs-turn high row k h =
@@ -401,8 +401,17 @@ pairs-turn high row k h =
     ∙ ap (λ (n : ℕ). groupOf high row (2 * k + 1) ++ groups high (drop n row)) b)
     ∙ sym (append-assoc (groupOf high row (2 * k)) (groupOf high row (2 * k + 1)) (groups high (drop (8 * (k + 1)) row)))
 
-pub length-two : (high : Bool) (row : List ℤ) (g h : ℕ) → length (groupOf high row g ++ groupOf high row h) ≡ 20
+length-two : (high : Bool) (row : List ℤ) (g h : ℕ) → length (groupOf high row g ++ groupOf high row h) ≡ 20
 length-two high row g h = length-append (groupOf high row g) (groupOf high row h) ∙ ap₂ _+_ (length-groupOf high row g) (length-groupOf high row h)
+
+-- a pair more is written: the front of its first group, and the rest of the two behind it
+pub pair-turn : (high : Bool) {row : List ℤ} {old part front new : List ℕ} {k w a b c d w' a' b' c' d' : ℕ}
+    → Writing (pairsFrom high row) 20 old k part → 8 * k + 8 ≤ length row → Words row (2 * k) w a b c d → Words row (2 * k + 1) w' a' b' c' d'
+    → front ≡ put part (20 * k) (frontOf high w a b c) → new ≡ put front (20 * k + 8) (bytesOf 2 high d ++ wordsOf high w' a' b' c' d')
+    → Writing (pairsFrom high row) 20 old (k + 1) new
+pair-turn high {row} {part = part} {k = k} r h p q e f =
+    write-turn (groupOf high row (2 * k) ++ groupOf high row (2 * k + 1)) r (pairs-turn high row k h) (length-two high row (2 * k) (2 * k + 1))
+    (f ∙ rw e (put-two high part (20 * k) p q))
 
 -- one group behind them, or none
 pub one-left : (n k : ℕ) → 8 * k < n → n % 4 ≡ 0 → 4 * (2 * k) + 4 ≤ n

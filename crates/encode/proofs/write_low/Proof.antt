@@ -1,15 +1,13 @@
 -- `encode::write_low` meets its contract. The invariant: what is left to write, written, makes the whole. Assumes
 -- nothing.
 use mathlib.Core.Bool.{false}
-use mathlib.Core.Path.{_≡_, _∙_}
-use mathlib.Core.List.{_++_}
-use Prim.Native.Nat.{_+_, _-_, _*_, _/_, _≤_}
+use mathlib.Core.Path.{_≡_}
+use Prim.Native.Nat.{_-_, _/_, _≤_}
 use native.Mathlib.Omega.{arith}
 use lib.ListN.{length}
 use borrow.Author.Needs.{needs}
 use Rattle.sample.specs.Needed.{needed, room}
-use Rattle.encode.specs.Write.{groupOf}
-use Rattle.encode.specs.WriteLaws.{Writing, write-start, write-turn, put-two, pairsFrom, pairs-turn, length-two}
+use Rattle.encode.specs.WriteLaws.{Writing, write-start, pairsFrom, pair-turn}
 use Rattle.encode.proofs.write_low.Statement.{statement}
 use Rattle.encode.proofs.write_low.Tie as tie
 
@@ -47,13 +45,10 @@ write-low-spec =
     let at-group-of2 = at-put-back .before .before in
     let at-put-front = at-group-of2 .before .before .before in
     let at-group-of = at-put-front .before .before in
-    let at-loop = at-group-of .before .before in
-    let row = at-loop .before .before .args .row .now in
-    let k = at-loop .loop .k in (
+    let at-loop = at-group-of .before .before in (
       omega arith,
-      write-turn (groupOf _ row (2 * k) ++ groupOf _ row (2 * k + 1)) (at-loop .loop .inv .1) (pairs-turn _ row k (omega arith))
-          (length-two _ row (2 * k) (2 * k + 1)) (at-put-back .put-back .ensures ∙ rw (at-put-front .put-front .ensures)
-          (put-two _ _ _ (at-group-of .group-of .ensures) (at-group-of2 .group-of2 .ensures))),
+      pair-turn _ (at-loop .loop .inv .1) (omega arith) (at-group-of .group-of .ensures) (at-group-of2 .group-of2 .ensures) (at-put-front .put-front .ensures)
+          (at-put-back .put-back .ensures),
     ))
     (λ c. search needs)
     (λ c.
