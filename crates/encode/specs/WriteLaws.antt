@@ -173,9 +173,9 @@ coded-plus z e m t r q =
 
 -- ---- a group
 
--- words of two bytes
-abbrev pub Small : ℕ → ℕ → ℕ → ℕ → ℕ → Type 0
-Small w a b c d = (w < 65536) × (a < 65536) × (b < 65536) × (c < 65536) × (d < 65536)
+-- words that two bytes hold
+abbrev pub TwoBytes : ℕ → ℕ → ℕ → ℕ → ℕ → Type 0
+TwoBytes w a b c d = (w < 65536) × (a < 65536) × (b < 65536) × (c < 65536) × (d < 65536)
 
 -- the words of group g of a row
 pub record Words (row : List ℤ) (g w a b c d : ℕ) : Type 0 where
@@ -184,7 +184,7 @@ pub record Words (row : List ℤ) (g w a b c d : ℕ) : Type 0 where
   pub second : b ≡ onesBits (mantissaOf (getD row (4 * g + 1) (pos 0)))
   pub third : c ≡ onesBits (mantissaOf (getD row (4 * g + 2) (pos 0)))
   pub fourth : d ≡ onesBits (mantissaOf (getD row (4 * g + 3) (pos 0)))
-  pub small : Small w a b c d
+  pub small : TwoBytes w a b c d
 
 pub words-told : (row : List ℤ) (g : ℕ) {ea eb ec ed ma mb mc md : ℕ} (w : ℕ) → Coded (getD row (4 * g) (pos 0)) ea ma
     → Coded (getD row (4 * g + 1) (pos 0)) eb mb → Coded (getD row (4 * g + 2) (pos 0)) ec mc → Coded (getD row (4 * g + 3) (pos 0)) ed md
@@ -220,14 +220,14 @@ length-pair : (high : Bool) (a b : ℕ) → length (bytesOf 2 high a ++ bytesOf 
 length-pair high a b = simp (length-append, length-bytesOf)
 
 -- a piece stored where the piece before it ends
-behind : {n : ℕ} (p q xs : List ℕ) (at : ℕ) → length p ≡ n → put (put xs at p) (at + n) q ≡ put xs at (p ++ q)
-behind p q xs at e = sym (put-append p q xs at ∙ ap (λ (k : ℕ). put (put xs at p) (at + k) q) e)
+put-next : {n : ℕ} (p q xs : List ℕ) (at : ℕ) → length p ≡ n → put (put xs at p) (at + n) q ≡ put xs at (p ++ q)
+put-next p q xs at e = sym (put-append p q xs at ∙ ap (λ (k : ℕ). put (put xs at p) (at + k) q) e)
 
 -- two pairs of words, and three of them behind the last word of the group before
 pub put-four : (high : Bool) (w a b c : ℕ) (xs : List ℕ) (at : ℕ)
     → put (put xs at (bytesOf 2 high w ++ bytesOf 2 high a)) (at + 4) (bytesOf 2 high b ++ bytesOf 2 high c) ≡ put xs at (frontOf high w a b c)
 unfolding frontOf
-put-four high w a b c xs at = behind (bytesOf 2 high w ++ bytesOf 2 high a) (bytesOf 2 high b ++ bytesOf 2 high c) xs at (length-pair high w a)
+put-four high w a b c xs at = put-next (bytesOf 2 high w ++ bytesOf 2 high a) (bytesOf 2 high b ++ bytesOf 2 high c) xs at (length-pair high w a)
 
 pub put-six : (high : Bool) (l w a b c d : ℕ) (xs : List ℕ) (at : ℕ)
     → put (put (put xs at (bytesOf 2 high l ++ bytesOf 2 high w)) (at + 4) (bytesOf 2 high a ++ bytesOf 2 high b)) (at + 8)
@@ -238,20 +238,20 @@ put-six high l w a b c d xs at =
     let p = bytesOf 2 high l ++ bytesOf 2 high w in
     let q = bytesOf 2 high a ++ bytesOf 2 high b in
     let n : length (p ++ q) ≡ 8 = simp (length-append, length-bytesOf) in
-    ap (λ (ys : List ℕ). put ys (at + 8) (bytesOf 2 high c ++ bytesOf 2 high d)) (behind p q xs at (length-pair high l w))
-    ∙ behind (p ++ q) (bytesOf 2 high c ++ bytesOf 2 high d) xs at n ∙ ap (put xs at) (simp append-assoc)
+    ap (λ (ys : List ℕ). put ys (at + 8) (bytesOf 2 high c ++ bytesOf 2 high d)) (put-next p q xs at (length-pair high l w))
+    ∙ put-next (p ++ q) (bytesOf 2 high c ++ bytesOf 2 high d) xs at n ∙ ap (put xs at) (simp append-assoc)
 
 -- the last word stored behind the front makes the group; with the next group behind it, the two
 pub put-one : {row : List ℤ} {g w a b c d : ℕ} (high : Bool) (xs : List ℕ) (at : ℕ) → Words row g w a b c d
     → put (put xs at (frontOf high w a b c)) (at + 8) (bytesOf 2 high d) ≡ put xs at (groupOf high row g)
 put-one {w = w} {a} {b} {c} {d} high xs at r =
-    behind (frontOf high w a b c) (bytesOf 2 high d) xs at (length-front high w a b c) ∙ ap (put xs at) (front-last high w a b c d ∙ words-group high r)
+    put-next (frontOf high w a b c) (bytesOf 2 high d) xs at (length-front high w a b c) ∙ ap (put xs at) (front-last high w a b c d ∙ words-group high r)
 
 put-two : {row : List ℤ} {g h w a b c d w' a' b' c' d' : ℕ} (high : Bool) (xs : List ℕ) (at : ℕ) → Words row g w a b c d → Words row h w' a' b' c' d'
     → put (put xs at (frontOf high w a b c)) (at + 8) (bytesOf 2 high d ++ wordsOf high w' a' b' c' d')
     ≡ put xs at (groupOf high row g ++ groupOf high row h)
 put-two {row} {g} {h} {w} {a} {b} {c} {d} {w'} {a'} {b'} {c'} {d'} high xs at r s =
-    behind (frontOf high w a b c) (bytesOf 2 high d ++ wordsOf high w' a' b' c' d') xs at (length-front high w a b c)
+    put-next (frontOf high w a b c) (bytesOf 2 high d ++ wordsOf high w' a' b' c' d') xs at (length-front high w a b c)
     ∙ ap (put xs at) (sym (append-assoc (frontOf high w a b c) (bytesOf 2 high d) (wordsOf high w' a' b' c' d'))
     ∙ ap₂ _++_ (front-last high w a b c d ∙ words-group high r) (words-group high s))
 
@@ -390,16 +390,20 @@ pub pairs-all : (high : Bool) (row : List ℤ) → pairsFrom high row 0 ≡ grou
 unfolding pairsFrom
 pairs-all high row = refl
 
+-- by groups, of which each pair has two
+pairs-groups : (high : Bool) (row : List ℤ) (k : ℕ) → pairsFrom high row k ≡ groups high (drop (4 * (2 * k)) row)
+unfolding pairsFrom
+pairs-groups high row k = let a : 8 * k ≡ 4 * (2 * k) = omega arith in ap (λ (n : ℕ). groups high (drop n row)) a
+
 pairs-turn : (high : Bool) (row : List ℤ) (k : ℕ) → 8 * k + 8 ≤ length row
     → pairsFrom high row k ≡ (groupOf high row (2 * k) ++ groupOf high row (2 * k + 1)) ++ pairsFrom high row (k + 1)
-unfolding pairsFrom
 pairs-turn high row k h =
-    let a : 8 * k ≡ 4 * (2 * k) = omega arith in
-    let b : 4 * (2 * k + 1 + 1) ≡ 8 * (k + 1) = omega arith in
-    ap (λ (n : ℕ). groups high (drop n row)) a ∙ groups-turn high row (2 * k) (omega arith)
+    let b : 2 * k + 1 + 1 ≡ 2 * (k + 1) = omega arith in
+    pairs-groups high row k ∙ groups-turn high row (2 * k) (omega arith)
     ∙ ap (λ (bs : List ℕ). groupOf high row (2 * k) ++ bs) (groups-turn high row (2 * k + 1) (omega arith)
-    ∙ ap (λ (n : ℕ). groupOf high row (2 * k + 1) ++ groups high (drop n row)) b)
-    ∙ sym (append-assoc (groupOf high row (2 * k)) (groupOf high row (2 * k + 1)) (groups high (drop (8 * (k + 1)) row)))
+    ∙ ap (λ (g : ℕ). groupOf high row (2 * k + 1) ++ groups high (drop (4 * g) row)) b
+    ∙ ap (λ (bs : List ℕ). groupOf high row (2 * k + 1) ++ bs) (sym (pairs-groups high row (k + 1))))
+    ∙ sym (append-assoc (groupOf high row (2 * k)) (groupOf high row (2 * k + 1)) (pairsFrom high row (k + 1)))
 
 length-two : (high : Bool) (row : List ℤ) (g h : ℕ) → length (groupOf high row g ++ groupOf high row h) ≡ 20
 length-two high row g h = length-append (groupOf high row g) (groupOf high row h) ∙ ap₂ _+_ (length-groupOf high row g) (length-groupOf high row h)
@@ -419,15 +423,10 @@ one-left n k h m = omega arith
 
 pub pairs-one : (high : Bool) (row : List ℤ) (k : ℕ) → 8 * k < length row → length row < 8 * k + 8 → length row % 4 ≡ 0
     → pairsFrom high row k ≡ groupOf high row (2 * k)
-unfolding pairsFrom
 pairs-one high row k h l m =
-    let a : 8 * k ≡ 4 * (2 * k) = omega arith in
-    ap (λ (n : ℕ). groups high (drop n row)) a ∙ groups-turn high row (2 * k) (omega arith)
+    pairs-groups high row k ∙ groups-turn high row (2 * k) (one-left (length row) k h m)
     ∙ ap (λ (bs : List ℕ). groupOf high row (2 * k) ++ bs) (groups-over high row (2 * k + 1) (omega arith))
     ∙ append-nil (groupOf high row (2 * k))
 
 pub pairs-none : (high : Bool) (row : List ℤ) (k : ℕ) → length row ≤ 8 * k → pairsFrom high row k ≡ []
-unfolding pairsFrom
-pairs-none high row k h =
-    let a : 8 * k ≡ 4 * (2 * k) = omega arith in
-    ap (λ (n : ℕ). groups high (drop n row)) a ∙ groups-over high row (2 * k) (omega arith)
+pairs-none high row k h = pairs-groups high row k ∙ groups-over high row (2 * k) (omega arith)

@@ -1,5 +1,6 @@
-// The five sample codes written, on a data block alone (document 01, "Samples"). Write has the definitions; Back and Cut
-// say what is read back: the samples, or code 3's nearest towards 0. Stands on `fit`, `decode`, `sample`, `word`.
+// The five sample codes written, on a data block alone (document 01, "Samples"). Write has the definitions; Back and
+// Cut say what is read back: the samples, or code 3's nearest towards 0. Stands on `fit`, `decode`, `sample`, `store`,
+// `word`.
 // The rules in words: docs/FORMAT.md, "Samples".
 use fit::Fit;
 ghost use mathlib.Core.Path.{_≡_};
@@ -12,7 +13,7 @@ ghost use Rattle.word.specs.Put.{put};
 ghost use Rattle.word.specs.Word.{joined, bytesOf};
 ghost use Rattle.sample.specs.Needed.{room};
 ghost use Rattle.fit.specs.Unfit.{unfitIntegers};
-ghost use Rattle.encode.specs.WriteLaws.{Told, Coded, Words, Small, Writing, frontOf, pairsFrom};
+ghost use Rattle.encode.specs.WriteLaws.{Told, Coded, Words, TwoBytes, Writing, frontOf, pairsFrom};
 ghost use Rattle.encode.specs.Write.{residue, wordsOf, groups, integersData, bitsData};
 
 // The two bytes of a number, stored at a place.
@@ -196,7 +197,7 @@ fn group_of(row: &[i32], g: usize) -> Group
 
 // A group but for its last word, which goes with the group behind it.
 fn put_front(part: &mut [u8], high: bool, at: usize, p: Group)
-    requires { ⌜ (at + 8 ≤ length (now part)) × Small (p .w) (p .a) (p .b) (p .c) (p .d) ⌝ }
+    requires { ⌜ (at + 8 ≤ length (now part)) × TwoBytes (p .w) (p .a) (p .b) (p .c) (p .d) ⌝ }
     ensures { λ _. ⌜ now (part .exit) ≡ put (now (part .entry)) at (frontOf high (p .w) (p .a) (p .b) (p .c)) ⌝ }
 {
     put_pair(part, high, at, p.w, p.a);
@@ -205,7 +206,7 @@ fn put_front(part: &mut [u8], high: bool, at: usize, p: Group)
 
 // The last word of a group, and the group behind it.
 fn put_back(part: &mut [u8], high: bool, at: usize, last: u32, q: Group)
-    requires { ⌜ (at + 12 ≤ length (now part)) × (last < 65536) × Small (q .w) (q .a) (q .b) (q .c) (q .d) ⌝ }
+    requires { ⌜ (at + 12 ≤ length (now part)) × (last < 65536) × TwoBytes (q .w) (q .a) (q .b) (q .c) (q .d) ⌝ }
     ensures { λ _. ⌜ now (part .exit) ≡ put (now (part .entry)) at (bytesOf 2 high last
         ++ wordsOf high (q .w) (q .a) (q .b) (q .c) (q .d)) ⌝ }
 {
@@ -268,7 +269,8 @@ fn write_rest(row: &[i32], high: bool, pairs: usize, part: &mut [u8])
     requires { ⌜ (8 * pairs ≤ length (now row)) × (length (now row) < 8 * pairs + 8)
         × (room 3 (length (now row)) ≤ length (now part)) × (length (now row) % 4 ≡ 0)
         × (unfitIntegers 3 (now row) ≡ Fit.All) ⌝ }
-    ensures { λ _. ⌜ now (part .exit) ≡ put (now (part .entry)) (20 * pairs) (pairsFrom high (now (row .entry)) pairs) ⌝ }
+    ensures { λ _. ⌜ now (part .exit) ≡ put (now (part .entry)) (20 * pairs)
+        (pairsFrom high (now (row .entry)) pairs) ⌝ }
 {
     if 8 * pairs < row.len() {
         let at = 20 * pairs;

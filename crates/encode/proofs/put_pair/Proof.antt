@@ -1,6 +1,5 @@
 -- `encode::put_pair` meets its contract. Two words are one of four bytes. Assumes nothing.
 use mathlib.Core.Path.{ap, _∙_}
-use native.Mathlib.Omega.{arith}
 use borrow.Author.Needs.{needs}
 use Rattle.word.specs.Put.{put}
 use Rattle.word.specs.Word.{bytesOf}
