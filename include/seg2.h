@@ -18,14 +18,18 @@
  *
  * `buffer` and `size` are the lent memory, `length` says how many of its first bytes are
  * the file; any length may be given, and one over `size` is refused by 1. A `part` is -1
- * for the file itself, else a trace, counted from 0. Every question checks the whole file
- * first, so its refusal may be any row from 1 to 17 before one of its own.
+ * for the file itself, else a trace, counted from 0. Every question about a file checks the
+ * whole file first, so its refusal may be any row from 1 to 17 before one of its own.
  *
  * An answer begins with the refusal: `number` 0, `part` -1 and `place` 0 where there is
  * none. After a refusal the rest of the answer is 0 and no lent byte has changed. An answer
  * of more than 16 bytes is written to `answer`, which comes first; the functions whose name
  * ends in _of return it instead. Six answers share their name with the function that gives
- * them, so they are written with the word struct, as in C's own `struct stat`. */
+ * them, so they are written with the word struct, as in C's own `struct stat`.
+ *
+ * Since numbers have their own decimals (document 02, section 4), struct seg2_number and
+ * struct seg2_location have counts behind their older fields. Both are longer than before:
+ * a host that was compiled with an older header has to be compiled again with this one. */
 #ifndef SEG2_H
 #define SEG2_H
 
@@ -52,6 +56,8 @@ extern "C" {
 #define SEG2_MAXIMUM_AREA 65500
 /* A new file has at most this many pointer slots. */
 #define SEG2_MAXIMUM_SLOTS 16383
+/* The text of a number is at most this long where we write it: -1.23456789012345678E-99. */
+#define SEG2_MAXIMUM_NUMBER_TEXT 24
 
 /* The refusal table, in its order of checking. Beside each row: what `place` is. seg2_text has the words. */
 enum seg2_refusal {
@@ -77,8 +83,8 @@ enum seg2_refusal {
     /* questions; the part is -1 */
     SEG2_NO_TRACE = 18,      /* 0 */
     SEG2_INPUT_SIZE = 19,    /* 0; given by the listing program alone */
-    SEG2_NO_NUMBER = 20,     /* a byte of the value */
-    SEG2_DIGITS = 21,        /* a byte of the value */
+    SEG2_NO_NUMBER = 20,     /* a byte of the value; 0 for a text by itself and for a number to be written */
+    SEG2_DIGITS = 21,        /* the same */
     SEG2_NO_DOUBLE = 22,     /* a byte of the value */
     SEG2_VALUE_COUNT = 23,   /* 0 */
     /* writing; the part is -1 */
@@ -188,7 +194,8 @@ struct seg2_value {
     size_t value_length;
 };
 
-/* A number: coefficient as written, times ten to the power, negated where minus. Zero has no minus. */
+/* A number: coefficient as written, times ten to the power, negated where minus. Zero has no minus. `decimals` tells
+ * the precision that was typed: 0.250 has 3 and 0.25 has 2, 12 has 0, 2.50E-3 has 2. */
 struct seg2_number {
     uint32_t number;
     int32_t part;
@@ -196,6 +203,7 @@ struct seg2_number {
     uint32_t minus; /* 1 minus, 0 plus */
     int32_t power;
     uint64_t coefficient;
+    uint32_t decimals; /* how many digits stood after the point */
 };
 
 /* A double. */
@@ -206,7 +214,7 @@ struct seg2_double {
     double value;
 };
 
-/* A location: one value or three; absent ones are 0. */
+/* A location: one value or three, each with how many digits stood after its point; all of absent ones is 0. */
 struct seg2_location {
     uint32_t number;
     int32_t part;
@@ -215,9 +223,12 @@ struct seg2_location {
     double x;
     double y;
     double z;
+    uint32_t x_decimals;
+    uint32_t y_decimals;
+    uint32_t z_decimals;
 };
 
-/* The length of the image after a start or an addition. */
+/* The length of the image after a start or an addition; of the text after a number was written. */
 typedef struct seg2_length {
     uint32_t number;
     int32_t part;
@@ -282,6 +293,23 @@ seg2_verdict seg2_integers(const uint8_t *buffer, size_t size, size_t length, in
  * a refusal both rows are as they were. */
 seg2_verdict seg2_bits(const uint8_t *buffer, size_t size, size_t length, int32_t trace, uint64_t *row, size_t row_size,
                        uint8_t *classes, size_t classes_size);
+
+/* ---- a number and its text (document 02, section 4): no file is lent, so no row of its check comes first */
+
+/* A text as a number: what a user typed, before it goes into a sheet. Any bytes may be given. The answer is the one that
+ * seg2_number gives where a keyword's value is this text. 20 where it is no number, 21 where it has too many digits;
+ * place 0. */
+void seg2_read_number(struct seg2_number *answer, const uint8_t *text, size_t size);
+
+/* Writes a number as text, as a value of a sheet has it, at the start of the lent `size` bytes, and answers the text's
+ * length: exactly `decimals` digits after the point, at least one before it and otherwise no zero in front, then E with
+ * the power plus the decimals where this is not 0. `minus` is 0 or not. What seg2_number or seg2_read_number has answered
+ * is written as a text that reads back as the same answer, and SEG2_MAXIMUM_NUMBER_TEXT bytes are room enough for it; any
+ * other numbers may be given too. Refusals in order, place 0: 20 for zero with a minus, 21 for more than 18 digits before
+ * E or more than 2 after it, 30 where the text is longer than `size`. A refusal has changed no byte; bytes past the text
+ * stay as they were. */
+void seg2_write_number(seg2_length *answer, uint8_t *text, size_t size, uint32_t minus, uint64_t coefficient,
+                       int32_t power, uint32_t decimals);
 
 /* ---- writing: a refusal has changed no byte; bytes past the answered length stay as they were
  *
@@ -365,6 +393,19 @@ static inline struct seg2_location seg2_location_of(const uint8_t *buffer, size_
     return answer;
 }
 
+static inline struct seg2_number seg2_read_number_of(const uint8_t *text, size_t size) {
+    struct seg2_number answer;
+    seg2_read_number(&answer, text, size);
+    return answer;
+}
+
+static inline seg2_length seg2_write_number_of(uint8_t *text, size_t size, uint32_t minus, uint64_t coefficient,
+                                               int32_t power, uint32_t decimals) {
+    seg2_length answer;
+    seg2_write_number(&answer, text, size, minus, coefficient, power, decimals);
+    return answer;
+}
+
 static inline seg2_length seg2_start_of(uint8_t *buffer, size_t size, uint32_t order, uint32_t slots,
                                         const uint8_t *sheet, size_t sheet_size) {
     seg2_length answer;
@@ -411,7 +452,7 @@ static inline const char *seg2_text(uint32_t number) {
     case SEG2_KEYWORD_ORDER: return "the keyword is out of order, or there twice (only RECEIVER_GEOMETRY and SOURCE_GEOMETRY may repeat)";
     case SEG2_NO_TRACE: return "the file has no such part; traces count from 0";
     case SEG2_INPUT_SIZE: return "the listing program's input is longer than 65,536 bytes";
-    case SEG2_NO_NUMBER: return "this is not a number, or the keyword is missing";
+    case SEG2_NO_NUMBER: return "this is not a number, the keyword is missing, or a zero to be written has a minus";
     case SEG2_DIGITS: return "the number has too many digits";
     case SEG2_NO_DOUBLE: return "the number is too long, too large or too small to be taken as a double";
     case SEG2_VALUE_COUNT: return "a location is one value or three: here is another number of values, or the keyword is missing";

@@ -25,12 +25,12 @@ _Static_assert(sizeof(seg2_count) == 24, "count");
 _Static_assert(sizeof(struct seg2_string) == 56 && offsetof(struct seg2_string, key_start) == 24, "string");
 _Static_assert(sizeof(struct seg2_keyword) == 24, "keyword");
 _Static_assert(sizeof(struct seg2_value) == 32, "value");
-_Static_assert(sizeof(struct seg2_number) == 32 && offsetof(struct seg2_number, coefficient) == 24, "number");
+_Static_assert(sizeof(struct seg2_number) == 40 && offsetof(struct seg2_number, coefficient) == 24 && offsetof(struct seg2_number, decimals) == 32, "number");
 _Static_assert(sizeof(struct seg2_double) == 24, "double");
-_Static_assert(sizeof(struct seg2_location) == 48 && offsetof(struct seg2_location, x) == 24, "location");
+_Static_assert(sizeof(struct seg2_location) == 64 && offsetof(struct seg2_location, x) == 24 && offsetof(struct seg2_location, x_decimals) == 48, "location");
 _Static_assert(sizeof(seg2_length) == 24, "length");
 
-enum { STACK = 32768, ROOM = 1 << 20, FIELDS = 5 };
+enum { STACK = 32768, ROOM = 1 << 20, FIELDS = 7 };
 
 /* The functions by the numbers that vectors.rs gives them; NEW_BUFFER is none, but tells the buffer of the vectors behind it. */
 enum {
@@ -47,9 +47,11 @@ enum {
     LOCATION,
     INTEGERS,
     BITS,
+    READ_NUMBER,
     START,
     ADD_INTEGERS,
     ADD_BITS,
+    WRITE_NUMBER,
     FUNCTIONS
 };
 
@@ -69,11 +71,14 @@ static const struct {
     [LOCATION] = {"seg2_location", sizeof(struct seg2_location)},
     [INTEGERS] = {"seg2_integers", sizeof(seg2_verdict)},
     [BITS] = {"seg2_bits", sizeof(seg2_verdict)},
+    [READ_NUMBER] = {"seg2_read_number", sizeof(struct seg2_number)},
     [START] = {"seg2_start", sizeof(seg2_length)},
     [ADD_INTEGERS] = {"seg2_add_integers", sizeof(seg2_length)},
     [ADD_BITS] = {"seg2_add_bits", sizeof(seg2_length)},
+    [WRITE_NUMBER] = {"seg2_write_number", sizeof(seg2_length)},
 };
 
+/* These write the buffer; of a number it is the room for its text. */
 static int is_writer(uint64_t function) {
     return function >= START;
 }
@@ -160,6 +165,9 @@ typedef struct call {
     size_t text_size;
     uint32_t code; /* or the byte order */
     uint32_t slots;
+    uint32_t minus, decimals;
+    int32_t power;
+    uint64_t coefficient;
     void *row;
     size_t row_size;
     uint8_t *classes;
@@ -184,9 +192,11 @@ __attribute__((noinline)) static void perform(call *c) {
         *(seg2_verdict *)c->answer =
             seg2_bits(c->buffer, c->size, c->length, c->part, c->row, c->row_size, c->classes, c->classes_size);
         break;
+    case READ_NUMBER: seg2_read_number(c->answer, c->text, c->text_size); break;
     case START: seg2_start(c->answer, c->buffer, c->size, c->code, c->slots, c->text, c->text_size); break;
     case ADD_INTEGERS: seg2_add_integers(c->answer, c->buffer, c->size, c->length, c->text, c->text_size, c->code, c->row, c->row_size); break;
     case ADD_BITS: seg2_add_bits(c->answer, c->buffer, c->size, c->length, c->text, c->text_size, c->code, c->row, c->row_size); break;
+    case WRITE_NUMBER: seg2_write_number(c->answer, c->buffer, c->size, c->minus, c->coefficient, c->power, c->decimals); break;
     default: abort();
     }
 }
@@ -246,20 +256,23 @@ static size_t fields_of(uint64_t function, const void *answer, uint64_t *f) {
     }
     case KEYWORD: f[0] = ((const struct seg2_keyword *)answer)->found; return 1;
     case VALUE: f[0] = ((const struct seg2_value *)answer)->value_start, f[1] = ((const struct seg2_value *)answer)->value_length; return 2;
-    case NUMBER: {
+    case NUMBER:
+    case READ_NUMBER: {
         const struct seg2_number *a = answer;
-        f[0] = a->minus, f[1] = (uint64_t)(int64_t)a->power, f[2] = a->coefficient;
-        return 3;
+        f[0] = a->minus, f[1] = (uint64_t)(int64_t)a->power, f[2] = a->coefficient, f[3] = a->decimals;
+        return 4;
     }
     case DOUBLE: memcpy(f, &((const struct seg2_double *)answer)->value, 8); return 1;
     case LOCATION: {
         const struct seg2_location *a = answer;
         f[0] = a->count, memcpy(f + 1, &a->x, 8), memcpy(f + 2, &a->y, 8), memcpy(f + 3, &a->z, 8);
-        return 4;
+        f[4] = a->x_decimals, f[5] = a->y_decimals, f[6] = a->z_decimals;
+        return 7;
     }
     case START:
     case ADD_INTEGERS:
-    case ADD_BITS: f[0] = ((const seg2_length *)answer)->length; return 1;
+    case ADD_BITS:
+    case WRITE_NUMBER: f[0] = ((const seg2_length *)answer)->length; return 1;
     default: return 0;
     }
 }
@@ -318,6 +331,9 @@ static call question(uint64_t function, bytes buffer, size_t length) {
     case START: c.code = (uint32_t)number(), c.slots = (uint32_t)number(); break;
     case ADD_INTEGERS:
     case ADD_BITS: c.code = (uint32_t)number(), lend_row(&c); break;
+    case WRITE_NUMBER:
+        c.minus = (uint32_t)number(), c.coefficient = number(), c.power = (int32_t)(int64_t)number(), c.decimals = (uint32_t)number();
+        break;
     case INTEGERS:
     case BITS: lend_painted_rows(&c); break;
     default: break;

@@ -6,10 +6,10 @@
 
 use seg2_reference as reference;
 use reference::generate::{
-    addition_case, damaged, location_case, mutated, number_case, sample_case, several_damages, start_case, Model, Rng,
-    SampleQuestion, WAYS,
+    addition_case, damaged, forged_number, location_case, mutated, number_case, number_edges, sample_case,
+    several_damages, start_case, Model, Rng, SampleQuestion, WAYS,
 };
-use reference::{Order, Refusal, Row, TraceGiven};
+use reference::{Number, Order, Refusal, Row, TraceGiven};
 use std::io::{BufWriter, Write};
 
 /// The exported functions by the numbers that replay.c knows them by. NEW_BUFFER is none, but tells the buffer of the
@@ -27,9 +27,11 @@ const DOUBLE: u64 = 9;
 const LOCATION: u64 = 10;
 const INTEGERS: u64 = 11;
 const BITS: u64 = 12;
-const START: u64 = 13;
-const ADD_INTEGERS: u64 = 14;
-const ADD_BITS: u64 = 15;
+const READ_NUMBER: u64 = 13;
+const START: u64 = 14;
+const ADD_INTEGERS: u64 = 15;
+const ADD_BITS: u64 = 16;
+const WRITE_NUMBER: u64 = 17;
 const END: u64 = u64::MAX;
 
 type Answer = Result<Vec<u64>, Refusal>;
@@ -138,15 +140,18 @@ fn keyword(out: &mut Out, buffer: &[u8], length: usize, part: i32, key: &[u8]) {
     out.ask(VALUE, part, 0, key);
     out.told(2, there.map(|_| vec![range.start as u64, range.len() as u64]));
     out.ask(NUMBER, part, 0, key);
-    out.told(3, there.and_then(|_| reference::number(text)).map(|n| {
-        vec![u64::from(n.minus), n.power as i64 as u64, n.coefficient]
-    }));
+    out.told(4, there.and_then(|_| reference::number(text)).map(number_fields));
     out.ask(DOUBLE, part, 0, key);
     out.told(1, there.and_then(|_| reference::double(text)).map(|d| vec![d.to_bits()]));
     out.ask(LOCATION, part, 0, key);
-    out.told(4, there.and_then(|_| reference::location(text)).map(|l| {
-        vec![u64::from(l.count), l.x.to_bits(), l.y.to_bits(), l.z.to_bits()]
+    out.told(7, there.and_then(|_| reference::location(text)).map(|l| {
+        let values = [u64::from(l.count), l.x.to_bits(), l.y.to_bits(), l.z.to_bits()];
+        [&values[..], &l.decimals.map(u64::from)].concat()
     }));
+}
+
+fn number_fields(n: Number) -> Vec<u64> {
+    vec![u64::from(n.minus), n.power as i64 as u64, n.coefficient, u64::from(n.decimals)]
 }
 
 /// Every question of every part, and of parts that there are not.
@@ -263,6 +268,53 @@ fn numbers(out: &mut Out, rng: &mut Rng) {
     }
 }
 
+/// A text as a number, any bytes; and its number written back.
+fn typed(out: &mut Out, rng: &mut Rng, text: &[u8]) {
+    let read = reference::number(text);
+    out.buffer(b"", 0);
+    out.ask(READ_NUMBER, 0, 0, text);
+    out.told(4, read.map(number_fields));
+    if let Ok(number) = read {
+        write_number(out, rng, number, 24);
+        write_number(out, rng, number, text.len());
+    }
+}
+
+/// A number written in a room of so many bytes; any minus that is not 0 is one.
+fn write_number(out: &mut Out, rng: &mut Rng, number: Number, room: usize) {
+    let mut bytes = rng.junk(room);
+    let minus = rng.pick(&[1, 2, u32::MAX]) * u32::from(number.minus);
+    out.buffer(&bytes, 0);
+    out.ask(WRITE_NUMBER, 0, 0, b"");
+    out.number(u64::from(minus));
+    out.number(number.coefficient);
+    out.number(number.power as i64 as u64);
+    out.number(u64::from(number.decimals));
+    out.told(1, reference::write_number(&mut bytes, number).map(|n| vec![n as u64]));
+    out.bytes(&bytes);
+}
+
+/// Document 02, §4: texts that are typed, and numbers that no text gives.
+fn texts_of_numbers(out: &mut Out, rng: &mut Rng) {
+    for _ in 0..1500 {
+        let text = number_case(rng).text;
+        typed(out, rng, &text);
+        let size = rng.between(0, 12);
+        let any: Vec<u8> = (0..size).map(|_| rng.pick(b"-.E0123456789 0E.-\xFF")).collect();
+        typed(out, rng, &any);
+    }
+    for number in number_edges() {
+        let room = rng.between(0, 30);
+        write_number(out, rng, number, room);
+    }
+    for _ in 0..1500 {
+        let number = forged_number(rng);
+        for room in [0, 30, rng.between(0, 30)] {
+            write_number(out, rng, number, room);
+        }
+    }
+}
+
 fn samples(out: &mut Out, rng: &mut Rng) {
     for _ in 0..2500 {
         let case = sample_case(rng);
@@ -307,7 +359,10 @@ fn additions(out: &mut Out, rng: &mut Rng) {
 fn main() {
     let mut out = Out { file: BufWriter::new(std::io::stdout()), vectors: 0 };
     let mut rng = Rng::new(20_261_115);
-    for part in [valid_files, damaged_files, broken_files, any_bytes, numbers, samples, starts, additions] {
+    let parts = [
+        valid_files, damaged_files, broken_files, any_bytes, numbers, texts_of_numbers, samples, starts, additions,
+    ];
+    for part in parts {
         part(&mut out, &mut rng);
     }
     out.number(END);

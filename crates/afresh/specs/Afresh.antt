@@ -16,8 +16,8 @@ use Rattle.sheet.specs.declared.Measured.the-variants.{Size}
 use Rattle.refusal.specs.declared.Verdict.the-variants.{Accepted}
 use Rattle.image.specs.Image.{checkOf}
 use Rattle.head.specs.Head.{maximum, roomOf, countOf, stringEnd, lineEnd}
-use Rattle.start.specs.declared.Written.{Written}
-use Rattle.start.specs.declared.Written.the-variants.{To, Refused}
+use Rattle.refusal.specs.declared.Written.{Written}
+use Rattle.refusal.specs.declared.Written.the-variants.{To, Refused}
 use Rattle.layout.specs.Layout.{slotsMost, nul, lineFeed, startSize, Trace, traceSize}
 use Rattle.start.specs.Start.{startAnswer, startLeft}
 use Rattle.writer.specs.Answers.{addAnswer, addLeft}

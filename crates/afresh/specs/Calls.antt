@@ -10,10 +10,11 @@ use lib.ListN.{length, take, drop}
 use lib.Seq.{drop-drop}
 use lib.Dec.{eqb}
 use Rattle.refusal.specs.declared.Refusal.{Refusal}
-use Rattle.start.specs.declared.Written.{Written}
-use Rattle.start.specs.declared.Written.the-variants.{To, Refused}
+use Rattle.refusal.specs.declared.Written.{Written}
+use Rattle.refusal.specs.declared.Written.the-variants.{To, Refused}
 use Rattle.layout.specs.Layout.{Trace}
-use Rattle.start.specs.Start.{startAnswer, startLeft, onWritten}
+use Rattle.refusal.specs.Writing.{onWritten}
+use Rattle.start.specs.Start.{startAnswer, startLeft}
 use Rattle.writer.specs.Answers.{addAnswer, addLeft}
 use Rattle.afresh.specs.FileOf.{fileOf, fileSize}
 use Rattle.writer.specs.Shown.{add-refused}

@@ -23,7 +23,7 @@ use Rattle.head.specs.Head.{known, revisionOf, roomOf, countOf, headOf, badRoom
 use Rattle.head.specs.HeadLaws.{own-known, own-revision, own-room, own-count}
 use Rattle.image.specs.Image.{imageOf, checkOf}
 use Rattle.image.specs.ImageLaws.{length-accepts}
-use Rattle.start.specs.declared.Written.the-variants.{To}
+use Rattle.refusal.specs.declared.Written.the-variants.{To}
 use Rattle.layout.specs.Layout.{nul, lineFeed}
 use Rattle.start.specs.Start.{startAnswer, startLeft}
 use Rattle.start.specs.StartShown.{started}

@@ -14,7 +14,7 @@ use Rattle.word.specs.Word.{bytesOf}
 use Rattle.word.specs.WordLaws.{length-bytesOf}
 use Rattle.sheet.specs.Area.{areaOf, areaSize}
 use Rattle.head.specs.Head.{roomOf, countOf}
-use Rattle.start.specs.declared.Written.the-variants.{To}
+use Rattle.refusal.specs.declared.Written.the-variants.{To}
 use Rattle.layout.specs.Layout.{slotsMost, plainEnds, nul, lineFeed, fileBlock, startImage, startSize, Trace, traceSize}
 use Rattle.layout.specs.Layout.{traceBytes}
 use Rattle.start.specs.Start.{startAnswer, startLeft}

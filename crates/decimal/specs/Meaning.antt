@@ -55,6 +55,8 @@ pub record Means (n : Decimal) (p : Parts) : Type 0 where
   pub value : numerator n * under p ≡ over p * denominator n
   -- "zero has sign plus"
   pub sign : n .minus ≡ p .minus && ltb 0 (n .coefficient)
+  -- "how many digits stood after the point" (document 02 §4)
+  pub decimals : n .decimals ≡ length (p .decimals)
 
 -- ---- digits, one by one, are digits by their places
 
@@ -68,7 +70,7 @@ value-placed v (d ∷ ds) h =
     value-placed (v * 10 + worth d) ds (h .1)
     ∙ rw (worth-digit d (h .0) .0, pow-succ' 10 (length ds)) (shift v (d - 48) (10 ^ length ds) (placed ds))
 
-placed-is : (ds : List ℕ) → All digit ds → value 0 ds ≡ placed ds
+pub placed-is : (ds : List ℕ) → All digit ds → value 0 ds ≡ placed ds
 placed-is ds h = value-placed 0 ds h ∙ rw (zero-mul (10 ^ length ds)) (zero-add (placed ds))
 
 pub placed-append : (xs ys : List ℕ) → placed (xs ++ ys) ≡ placed xs * 10 ^ length ys + placed ys
@@ -130,6 +132,7 @@ means p t h =
           (length (p .decimals)) (pick (p .down) (placed (p .exponent)) 0) (pick (p .down) 0 (placed (p .exponent)))
           (lower (powerOf (p .down) (placed (p .exponent)) (length (p .decimals)))) (tens (p .down) (placed (p .exponent)) (length (p .decimals))));
       sign = refl;
+      decimals = refl;
     }
 
 -- an answer that is a number means the value of its text, whose parts are unique (`parts-unique`)

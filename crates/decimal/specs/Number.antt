@@ -62,7 +62,8 @@ past-same b r = past-has b (b ∷ r) (has-same b r)
 
 -- ---- the answer
 
--- "sign, coefficient as written and power of ten; zero has sign plus"
+-- "sign, coefficient as written and power of ten; zero has sign plus", and "how many digits stood after the point"
+-- (document 02 §4)
 abbrev pub signed : Bool → ℕ → ℤ
 signed true n = negℤ (pos n)
 signed false n = pos n
@@ -75,6 +76,7 @@ decimalOf p = record {
   minus = p .minus && ltb 0 (value (value 0 (p .whole)) (p .decimals));
   coefficient = value (value 0 (p .whole)) (p .decimals);
   power = powerOf (p .down) (value 0 (p .exponent)) (length (p .decimals));
+  decimals = length (p .decimals);
 }
 
 -- a lone number's refusals have place 0; whoever asks for a number inside a text puts the place in

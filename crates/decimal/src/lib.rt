@@ -12,12 +12,14 @@ ghost use Rattle.word.specs.Part.{PartOf, RestOf};
 ghost use Rattle.decimal.specs.Number.{has, past, signed, powerOf, partsAre, decimalOf, noNumber, tooLong};
 ghost use Rattle.decimal.specs.Number.{judged, tailOf, numberIn};
 
-// The answer to the number question: sign, coefficient as written and power of ten; zero has sign plus. (It is no
-// `Number`: a struct and a function of one module may not differ only in the case of their letters.)
+// The answer to the number question: sign, coefficient as written and power of ten; zero has sign plus; and how many
+// digits stood after the point (document 02 §4). (It is no `Number`: a struct and a function of one module may not
+// differ only in the case of their letters.)
 pub struct Decimal {
     pub minus: bool,
     pub coefficient: u64,
     pub power: i32,
+    pub decimals: u32,
 }
 
 pub enum NumberAnswer {
@@ -88,11 +90,13 @@ fn made(minus: bool, whole: &[u8], decimals: &[u8], down: bool, exponent: &[u8])
 {
     let w = digits::value(0, whole);
     let c = digits::value(w, decimals);
-    let e = digits::value(0, exponent);
+    let e = digits::value(0, exponent) as u32;
+    let n = decimals.len() as u32;
     Decimal {
         minus: minus & (0 < c),
         coefficient: c,
-        power: power(down, e as u32, decimals.len() as u32),
+        power: power(down, e, n),
+        decimals: n,
     }
 }
 

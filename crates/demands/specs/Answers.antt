@@ -18,7 +18,7 @@ use Rattle.refusal.specs.declared.Verdict.the-variants.{Accepted, Refused}
 use Rattle.image.specs.Image.{checkOf}
 use Rattle.reader.specs.Questions.{integersAnswer, bitsAnswer, integersLeft, patternsLeft, classesLeft}
 use Rattle.reader.specs.Answers.{integers-kept, bits-kept}
-use Rattle.start.specs.declared.Written.the-variants as written
+use Rattle.refusal.specs.declared.Written.the-variants as written
 use Rattle.layout.specs.Layout.{startSize, Trace}
 use Rattle.start.specs.Start.{startAnswer, startLeft}
 use Rattle.append.specs.Grown.{newLength}
@@ -50,7 +50,7 @@ refused-met : (v : Verdict) (end : ℕ) (r : Refusal) → asked written.Refused 
 refused-met Accepted end r e = absurd (not-refused r end (sym e))
 refused-met (Refused q) end r e = let s : q ≡ r = cc in ap Refused s
 
-writes : (vs : List Verdict) (end : ℕ) (a : written.the-data) → a ≡ asked written.Refused (firstOf vs) (written.To end)
+pub writes : (vs : List Verdict) (end : ℕ) (a : written.the-data) → a ≡ asked written.Refused (firstOf vs) (written.To end)
     → ((r : Refusal) → (a ≡ written.Refused r) ↔ Met vs r) × ((a ≡ written.To end) ↔ NoneMet vs)
 writes vs end a e = (
   λ r. (

@@ -26,7 +26,7 @@ use Rattle.image.specs.Image.{checkOf}
 use Rattle.head.specs.declared.FileAnswer.{FileAnswer}
 use Rattle.head.specs.declared.FileAnswer.the-variants as file
 use Rattle.reader.specs.Questions.{fileAnswer}
-use Rattle.start.specs.declared.Written.the-variants.{To}
+use Rattle.refusal.specs.declared.Written.the-variants.{To}
 use Rattle.layout.specs.Layout.{nul, lineFeed, startSize, Trace, count, traceSize}
 use Rattle.layout.specs.LayoutLaws.{Stands}
 use Rattle.start.specs.Start.{startAnswer, startLeft}

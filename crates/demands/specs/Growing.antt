@@ -29,9 +29,9 @@ use Rattle.head.specs.declared.FileAnswer.the-variants as file
 use Rattle.reader.specs.Questions.{fileAnswer, traceAnswer, countAnswer, nthAnswer, findAnswer, keywordAnswer}
 use Rattle.reader.specs.Questions.{valueAnswer, numberAnswer, doubleAnswer, locationAnswer, integersAnswer, bitsAnswer}
 use Rattle.reader.specs.Questions.{integersLeft, patternsLeft, classesLeft}
-use Rattle.start.specs.declared.Written.{Written}
-use Rattle.start.specs.declared.Written.the-variants as written
-use Rattle.start.specs.declared.Written.the-variants.{To}
+use Rattle.refusal.specs.declared.Written.{Written}
+use Rattle.refusal.specs.declared.Written.the-variants as written
+use Rattle.refusal.specs.declared.Written.the-variants.{To}
 use Rattle.layout.specs.Layout.{slotsMost, startSize, Trace, traceBytes}
 use Rattle.start.specs.Start.{startAnswer, startLeft}
 use Rattle.append.specs.Grown.{newBytes}

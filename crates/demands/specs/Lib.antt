@@ -16,3 +16,4 @@ pub mod Exported
 pub mod Notes
 pub mod Ignored
 pub mod Repeats
+pub mod Decimals

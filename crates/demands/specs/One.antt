@@ -11,7 +11,9 @@ use denote.Ref.{RefT}
 use Rattle.text.specs.declared.Manner.the-variants.{Strict}
 use Rattle.word.specs.Part.{PartOf}
 use Rattle.refusal.specs.declared.Verdict.{Verdict}
-use Rattle.start.specs.declared.Written.{Written}
+use Rattle.refusal.specs.declared.Written.{Written}
+use Rattle.decimal.specs.declared.Decimal.{Decimal}
+use Rattle.numeral.specs.Numeral.{numeralAnswer, numeralLeft}
 use Rattle.layout.specs.Layout.{Trace}
 use Rattle.start.specs.Start.{startAnswer, startLeft}
 use Rattle.writer.specs.Answers.{addAnswer, addLeft}
@@ -34,6 +36,10 @@ one-start xs order slots sheet r s ys zs h k = (one-outcome _ r s (h .0) (k .0),
 pub one-addition : (xs : List ℕ) (n : ℕ) (x : Trace) (r s : Written) (ys zs : List ℕ)
     → (r ≡ addAnswer xs n x) × (ys ≡ addLeft xs n x) → (s ≡ addAnswer xs n x) × (zs ≡ addLeft xs n x) → (r ≡ s) × (ys ≡ zs)
 one-addition xs n x r s ys zs h k = (one-outcome _ r s (h .0) (k .0), one-outcome _ ys zs (h .1) (k .1))
+
+pub one-number-written : (xs : List ℕ) (n : Decimal) (r s : Written) (ys zs : List ℕ) → (r ≡ numeralAnswer (length xs) n) × (ys ≡ numeralLeft xs n)
+    → (s ≡ numeralAnswer (length xs) n) × (zs ≡ numeralLeft xs n) → (r ≡ s) × (ys ≡ zs)
+one-number-written xs n r s ys zs h k = (one-outcome _ r s (h .0) (k .0), one-outcome _ ys zs (h .1) (k .1))
 
 pub one-row-of-integers : (xs : List ℕ) (n : ℕ) (z : ℤ) (row : List ℤ) (r s : Verdict) (ys zs : List ℤ)
     → (r ≡ integersAnswer Strict xs n z (length row)) × (ys ≡ integersLeft Strict xs n z row)

@@ -11,7 +11,6 @@ use lib.IntN.{ℤ, pos, negsuc, natAbs}
 use lib.Signed.{ltZ}
 use lib.ListN.{length, take}
 use lib.Dec.{ltb, eqb}
-use lib.Ieee.{Float}
 use native.Mathlib.Omega.{arith}
 use borrow.Author.Tests.{ne-eqb}
 use Rattle.head.specs.declared.Purpose.the-variants.{Read}
@@ -32,12 +31,13 @@ use Rattle.strings.specs.Strings.{nthOf, findOf, valueFound}
 use Rattle.decimal.specs.declared.Decimal.{Decimal}
 use Rattle.decimal.specs.declared.NumberAnswer.the-variants as number
 use Rattle.double.specs.declared.DoubleAnswer.the-variants as double
+use Rattle.double.specs.declared.Coordinate.{Coordinate}
 use Rattle.double.specs.declared.LocationAnswer.{LocationAnswer}
 use Rattle.double.specs.declared.LocationAnswer.the-variants as location
 use Rattle.decimal.specs.Number.{decimalOf, limits, judged, shapeRows, partsOf, numberIn}
 use Rattle.double.specs.Double.{scaledOf, withSign, noDouble, doubleFrom, onNumber, doubleOf}
 use Rattle.double.specs.Values.{Value, valuesOf}
-use Rattle.double.specs.Location.{valueCount, absent, coordinates, onDouble, oneOf, threeOf, located, locationOf}
+use Rattle.double.specs.Location.{valueCount, coordinateOf, alone, together, onCoordinate, oneOf, threeOf, located, locationOf}
 use Rattle.head.specs.Head.{fileBlockOf, highFirst, countOf}
 use Rattle.block.specs.Block.{traceBlockOf}
 use Rattle.image.specs.Image.{checkOf}
@@ -239,15 +239,15 @@ unfolding doubleOf onNumber
 double-refused-before t r e = rw e
 
 -- value by value: the first that is no double refuses, at its own start
-unfoldable pub inTurn : List Value → (List Float → LocationAnswer) → LocationAnswer
+unfoldable pub inTurn : List Value → (List Coordinate → LocationAnswer) → LocationAnswer
 inTurn [] done = done []
-inTurn (v ∷ vs) done = onDouble (v .0) (doubleOf (v .1)) (λ x. inTurn vs (λ xs. done (x ∷ xs)))
+inTurn (v ∷ vs) done = onCoordinate (v .0) (coordinateOf (v .1)) (λ x. inTurn vs (λ xs. done (x ∷ xs)))
 
-abbrev pub oneOrThree : List Float → LocationAnswer
+abbrev pub oneOrThree : List Coordinate → LocationAnswer
 oneOrThree [] = valueCount
-oneOrThree (x ∷ []) = coordinates x absent absent 1
+oneOrThree (x ∷ []) = location.Is (alone x)
 oneOrThree (x ∷ y ∷ []) = valueCount
-oneOrThree (x ∷ y ∷ z ∷ []) = coordinates x y z 3
+oneOrThree (x ∷ y ∷ z ∷ []) = location.Is (together x y z)
 oneOrThree (x ∷ y ∷ z ∷ w ∷ xs) = valueCount
 
 pub location-refused-first : (t : List ℕ)

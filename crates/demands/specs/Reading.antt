@@ -51,7 +51,7 @@ use Rattle.reader.specs.Questions.{integersAnswer, bitsAnswer, integersLeft, pa
 use Rattle.reader.specs.Questions.{doubleAnswer, locationAnswer}
 use Rattle.reader.specs.Listed.{Lists, file-lists, trace-lists, lists-once}
 use Rattle.reader.specs.Answers.{integers-read, bits-read}
-use Rattle.start.specs.declared.Written.the-variants.{To}
+use Rattle.refusal.specs.declared.Written.the-variants.{To}
 use Rattle.layout.specs.Layout.{nul, lineFeed, Trace}
 use Rattle.start.specs.Start.{startAnswer, startLeft}
 use Rattle.writer.specs.Answers.{addAnswer, addLeft}

@@ -32,7 +32,7 @@ use Rattle.reader.specs.declared.KeywordAnswer.the-variants.{Yes}
 use Rattle.reader.specs.Questions.{yesOrNo, valueThere, nthAnswer, findAnswer, keywordAnswer, valueAnswer, numberAnswer}
 use Rattle.reader.specs.Questions.{doubleAnswer, locationAnswer}
 use Rattle.reader.specs.Listed.{Lists}
-use Rattle.start.specs.declared.Written.the-variants.{To}
+use Rattle.refusal.specs.declared.Written.the-variants.{To}
 use Rattle.layout.specs.Layout.{nul, lineFeed, startSize, Trace, count, traceSize}
 use Rattle.start.specs.Start.{startAnswer, startLeft}
 use Rattle.growth.specs.Answered.{AnswersBy}

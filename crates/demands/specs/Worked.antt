@@ -1,5 +1,5 @@
 -- Document 01, "Worked values": "Marked * are the ones to prove, as a single statement over a table." The table has
--- every marked value, and the numbers of "Numbers in values" beside them.
+-- every marked value, and the numbers of "Numbers in values" and of document 02 §4 beside them.
 -- Assumes nothing.
 use mathlib.Core.Path.{_≡_, refl}
 use mathlib.Core.Bool.{Bool, true, false}
@@ -10,6 +10,8 @@ use lib.ListN.{length, replicate}
 use Rattle.word.specs.Word.{lowFirst, valueOf, wordAt, lowBytes, bytesOf}
 use Rattle.refusal.specs.declared.Verdict.{Verdict}
 use Rattle.refusal.specs.declared.Verdict.the-variants as verdict
+use Rattle.refusal.specs.declared.Written.{Written}
+use Rattle.refusal.specs.declared.Written.the-variants as written
 use Rattle.refusal.specs.Table as refusals
 use Rattle.sample.specs.Needed.{needed, width}
 use Rattle.sample.specs.Run as samples
@@ -23,6 +25,9 @@ use Rattle.decimal.specs.declared.NumberAnswer.the-variants as answer
 use Rattle.chars.specs.Runs.{run}
 use Rattle.decimal.specs.Number.{has, past, powerOf, decimalOf, judged, partsOf, numberIn}
 use Rattle.digits.specs.Value.{worth, value}
+use Rattle.digits.specs.Digits.{onto, digits}
+use Rattle.numeral.specs.LastDigits.{lastDigits}
+use Rattle.numeral.specs.Numeral.{partsFor, signText, pointText, powerText, spelling, numeralOf, numeralAnswer}
 use Rattle.layout.specs.Layout.{Samples.integers, fitting, unfit}
 use Rattle.writer.specs.Answers.{samplesVerdict}
 
@@ -33,8 +38,10 @@ pub data Case : Type 0 where
   stands : ℕ → Bool → List ℤ → List ℕ → Case  -- under a code, in an order, these samples are written as these bytes
   becomes : ℤ → ℤ → Case  -- written under code 3, in either order, this sample reads back as that one
   unwritten : ℕ → List ℤ → ℕ → ℕ → Case  -- these samples are refused under a code, by a number at a place
-  number : List ℕ → Bool → ℕ → ℤ → Case  -- this text is a number: minus, coefficient, power
+  number : List ℕ → Bool → ℕ → ℤ → ℕ → Case  -- this text is a number: minus, coefficient, power, digits after the point
   unread : List ℕ → ℕ → Case  -- this text is refused by a number
+  shown : Bool → ℕ → ℤ → ℕ → List ℕ → Case  -- this number, so given, is written as this text
+  unshown : Bool → ℕ → ℤ → ℕ → ℕ → Case  -- this number is refused by a number, whatever the room
 
 unfoldable pub row-of : ℕ → List ℤ
 row-of n = replicate n (pos 0)
@@ -43,6 +50,10 @@ row-of n = replicate n (pos 0)
 abbrev refusedBy : Verdict → ℕ × ℕ
 refusedBy verdict.Accepted = (0, 0)
 refusedBy (verdict.Refused r) = (refusals.numberOf (r .rule), r .place)
+
+abbrev unwrittenBy : Written → ℕ × ℕ
+unwrittenBy (written.To size) = (0, 0)
+unwrittenBy (written.Refused r) = (refusals.numberOf (r .rule), r .place)
 
 abbrev unreadBy : NumberAnswer → ℕ × ℕ
 unreadBy (answer.Is n) = (0, 0)
@@ -57,12 +68,27 @@ CaseHolds (becomes z v) =
     (integersRead 3 false (integersData 3 false (z ∷ row-of 3)) (row-of 4) ≡ v ∷ row-of 3)
     × (integersRead 3 true (integersData 3 true (z ∷ row-of 3)) (row-of 4) ≡ v ∷ row-of 3)
 CaseHolds (unwritten code row r at) = refusedBy (samplesVerdict code (integers row)) ≡ (r, at)
-CaseHolds (number t m c p) = numberIn t ≡ answer.Is (record { minus = m; coefficient = c; power = p })
+CaseHolds (number t m c p d) = numberIn t ≡ answer.Is (record { minus = m; coefficient = c; power = p; decimals = d })
 CaseHolds (unread t r) = unreadBy (numberIn t) ≡ (r, 0)
+CaseHolds (shown m c p d t) = numeralOf (record { minus = m; coefficient = c; power = p; decimals = d }) ≡ t
+CaseHolds (unshown m c p d r) = unwrittenBy (numeralAnswer 24 (record { minus = m; coefficient = c; power = p; decimals = d })) ≡ (r, 0)
 
 unfoldable pub AllHold : List Case → Type 0
 AllHold [] = Unit {0}
 AllHold (c ∷ cs) = CaseHolds c × AllHold cs
+
+-- document 02 §4: these are written as they were typed; zero keeps its decimals; a zero with minus is 20, 19 digits
+-- before E are 21 and so is a power of 100
+unfoldable pub writtenCases : List Case
+writtenCases =
+    shown false 250 (negsuc 2) 3 (48 ∷ 46 ∷ 50 ∷ 53 ∷ 48 ∷ [])
+    ∷ shown false 12 (pos 0) 0 (49 ∷ 50 ∷ [])
+    ∷ shown false 250 (negsuc 4) 2 (50 ∷ 46 ∷ 53 ∷ 48 ∷ 69 ∷ 45 ∷ 51 ∷ [])
+    ∷ shown false 0 (negsuc 1) 2 (48 ∷ 46 ∷ 48 ∷ 48 ∷ [])
+    ∷ unshown true 0 (negsuc 1) 2 20
+    ∷ unshown false 5 (negsuc 17) 18 21
+    ∷ unshown false 1 (pos 100) 0 21
+    ∷ []
 
 unfoldable pub table : List Case
 table =
@@ -87,18 +113,26 @@ table =
     -- *1073741824: refusal 29, here the second of four samples
     ∷ unwritten 3 (pos 1073741823 ∷ pos 1073741824 ∷ pos 0 ∷ pos 0 ∷ []) 29 1
     -- *`0.020`: coefficient 20, power -3
-    ∷ number (48 ∷ 46 ∷ 48 ∷ 50 ∷ 48 ∷ []) false 20 (negsuc 2)
+    ∷ number (48 ∷ 46 ∷ 48 ∷ 50 ∷ 48 ∷ []) false 20 (negsuc 2) 3
     -- *`0,020`: refusal 20. *`12.`: refusal 20
     ∷ unread (48 ∷ 44 ∷ 48 ∷ 50 ∷ 48 ∷ []) 20
     ∷ unread (49 ∷ 50 ∷ 46 ∷ []) 20
     -- *`-34.6` is coefficient 346, power -1, minus
-    ∷ number (45 ∷ 51 ∷ 52 ∷ 46 ∷ 54 ∷ []) true 346 (negsuc 0)
+    ∷ number (45 ∷ 51 ∷ 52 ∷ 46 ∷ 54 ∷ []) true 346 (negsuc 0) 1
     -- `-2.3E6` is minus 23 and power 5; `1.345E24` is a number; zero has sign plus; three digits behind E: refusal 21
-    ∷ number (45 ∷ 50 ∷ 46 ∷ 51 ∷ 69 ∷ 54 ∷ []) true 23 (pos 5)
-    ∷ number (49 ∷ 46 ∷ 51 ∷ 52 ∷ 53 ∷ 69 ∷ 50 ∷ 52 ∷ []) false 1345 (pos 21)
-    ∷ number (45 ∷ 48 ∷ []) false 0 (pos 0)
+    ∷ number (45 ∷ 50 ∷ 46 ∷ 51 ∷ 69 ∷ 54 ∷ []) true 23 (pos 5) 1
+    ∷ number (49 ∷ 46 ∷ 51 ∷ 52 ∷ 53 ∷ 69 ∷ 50 ∷ 52 ∷ []) false 1345 (pos 21) 3
+    ∷ number (45 ∷ 48 ∷ []) false 0 (pos 0) 0
     ∷ unread (49 ∷ 69 ∷ 49 ∷ 48 ∷ 48 ∷ []) 21
-    ∷ []
+    -- document 02 §4: "`0.250` gives 3, `12` gives 0, `2.50E-3` gives 2"
+    ∷ number (48 ∷ 46 ∷ 50 ∷ 53 ∷ 48 ∷ []) false 250 (negsuc 2) 3
+    ∷ number (49 ∷ 50 ∷ []) false 12 (pos 0) 0
+    ∷ number (50 ∷ 46 ∷ 53 ∷ 48 ∷ 69 ∷ 45 ∷ 51 ∷ []) false 250 (negsuc 4) 2
+    ∷ writtenCases
+
+written-values : AllHold writtenCases
+unfolding AllHold CaseHolds writtenCases numeralOf numeralAnswer partsFor spelling signText pointText powerText lastDigits digits onto
+written-values = (refl, (refl, (refl, (refl, (refl, (refl, (refl, tt)))))))
 
 -- Rules out a library that is right in its laws and wrong in a constant.
 pub worked-values : AllHold table
@@ -123,7 +157,7 @@ worked-values = (
                 refl,
                 (
                   (refl, refl),
-                  ((refl, refl), (refl, (refl, (refl, (refl, (refl, (refl, (refl, (refl, (refl, tt)))))))))),
+                  ((refl, refl), (refl, (refl, (refl, (refl, (refl, (refl, (refl, (refl, (refl, (refl, (refl, (refl, written-values))))))))))))),
                 ),
               ),
             ),

@@ -27,8 +27,8 @@ use Rattle.sheet.specs.Lines.{lineLen, lineOf, lineKeyLen, lineRows, lineJudged
 use Rattle.sheet.specs.Lines.{checkFrom, linesVerdict}
 use Rattle.sheet.specs.Area.{areaMost, areaSize, measuredOf}
 use Rattle.head.specs.Head.{maximum, roomOf, countOf, stringEnd, lineEnd}
-use Rattle.start.specs.declared.Written.{Written}
-use Rattle.start.specs.declared.Written.the-variants as written
+use Rattle.refusal.specs.declared.Written.{Written}
+use Rattle.refusal.specs.declared.Written.the-variants as written
 use Rattle.layout.specs.Layout.{nul, lineFeed, startSize, Trace, Samples, Samples.integers, Samples.patterns, fitting}
 use Rattle.layout.specs.Layout.{unfit}
 use Rattle.start.specs.Start.{onMeasured, badStart, startAnswer}

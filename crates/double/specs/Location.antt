@@ -13,13 +13,20 @@ use lib.Ieee.{Float, fin}
 use Rattle.refusal.specs.declared.Rule.the-variants.{NoNumber, ValueCount}
 use Rattle.refusal.specs.declared.Part.the-variants.{File}
 use Rattle.refusal.specs.Table.{refusal}
+use Rattle.decimal.specs.declared.NumberAnswer.{NumberAnswer}
+use Rattle.decimal.specs.declared.NumberAnswer.the-variants as number
 use Rattle.double.specs.declared.DoubleAnswer.{DoubleAnswer}
 use Rattle.double.specs.declared.DoubleAnswer.the-variants as double
+use Rattle.double.specs.declared.Coordinate.{Coordinate}
+use Rattle.double.specs.declared.CoordinateAnswer.{CoordinateAnswer}
+use Rattle.double.specs.declared.CoordinateAnswer.the-variants as coordinate
+use Rattle.double.specs.declared.Coordinates.{Coordinates}
 use Rattle.double.specs.declared.LocationAnswer.{LocationAnswer}
 use Rattle.double.specs.declared.LocationAnswer.the-variants.{Is, Refused}
 use Rattle.chars.specs.Chars.{blank, solid}
 use Rattle.chars.specs.Runs.{run, Stops, run-stops}
 use Rattle.decimal.specs.Run.{front, behind}
+use Rattle.decimal.specs.Number.{numberIn}
 use Rattle.double.specs.Double.{doubleOf}
 use Rattle.double.specs.Values.{Value, valuesFrom, valuesOf, blanks-passed, value-first, values-none}
 
@@ -30,25 +37,63 @@ valueCount = Refused (refusal ValueCount File 0)
 abbrev pub absent : Float
 absent = fin false 0 (pos 0)
 
-abbrev pub coordinates : Float → Float → Float → ℕ → LocationAnswer
-coordinates x y z n = Is (record { x = x; y = y; z = z; count = n })
+-- ---- a value: "as doubles", and the count of digits after its point (document 02 §4: "Locations then keep this count
+-- for each value")
+
+-- how many digits stood after the point of a number
+abbrev pub decimalsOf : NumberAnswer → ℕ
+decimalsOf (number.Is n) = n .decimals
+decimalsOf (number.Refused r) = 0
+
+-- a double beside the count; a refusal is passed up
+abbrev pub counted : ℕ → DoubleAnswer → CoordinateAnswer
+counted d (double.Is x) = coordinate.Is (record { value = x; decimals = d })
+counted d (double.Refused r) = coordinate.Refused r
+
+unfoldable pub coordinateOf : List ℕ → CoordinateAnswer
+coordinateOf t = counted (decimalsOf (numberIn t)) (doubleOf t)
+
+-- ---- a location
+
+-- absent y and z are 0, and so are their counts
+abbrev pub alone : Coordinate → Coordinates
+alone x = record {
+  x = x .value;
+  y = absent;
+  z = absent;
+  count = 1;
+  «x_decimals» = x .decimals;
+  «y_decimals» = 0;
+  «z_decimals» = 0;
+}
+
+abbrev pub together : Coordinate → Coordinate → Coordinate → Coordinates
+together x y z = record {
+  x = x .value;
+  y = y .value;
+  z = z .value;
+  count = 3;
+  «x_decimals» = x .decimals;
+  «y_decimals» = y .decimals;
+  «z_decimals» = z .decimals;
+}
 
 -- a double goes on; a refusal is passed up, and its place is the value's start
-abbrev pub onDouble : ℕ → DoubleAnswer → (Float → LocationAnswer) → LocationAnswer
-onDouble at (double.Is x) k = k x
-onDouble at (double.Refused r) k = Refused (refusal (r .rule) (r .part) at)
+abbrev pub onCoordinate : ℕ → CoordinateAnswer → (Coordinate → LocationAnswer) → LocationAnswer
+onCoordinate at (coordinate.Is x) k = k x
+onCoordinate at (coordinate.Refused r) k = Refused (refusal (r .rule) (r .part) at)
 
 -- what is passed up of an answer that is no double; of a double it is not asked
-abbrev pub passed : ℕ → DoubleAnswer → LocationAnswer
-passed at a = onDouble at a (λ x. Refused (refusal NoNumber File at))
+abbrev pub passed : ℕ → CoordinateAnswer → LocationAnswer
+passed at a = onCoordinate at a (λ x. Refused (refusal NoNumber File at))
 
 unfoldable pub oneOf : Value → LocationAnswer
-oneOf v = onDouble (v .0) (doubleOf (v .1)) (λ x. coordinates x absent absent 1)
+oneOf v = onCoordinate (v .0) (coordinateOf (v .1)) (λ x. Is (alone x))
 
 unfoldable pub threeOf : Value → Value → Value → LocationAnswer
 threeOf u v w =
-    onDouble (u .0) (doubleOf (u .1))
-    (λ x. onDouble (v .0) (doubleOf (v .1)) (λ y. onDouble (w .0) (doubleOf (w .1)) (λ z. coordinates x y z 3)))
+    onCoordinate (u .0) (coordinateOf (u .1))
+    (λ x. onCoordinate (v .0) (coordinateOf (v .1)) (λ y. onCoordinate (w .0) (coordinateOf (w .1)) (λ z. Is (together x y z))))
 
 unfoldable pub located : List Value → LocationAnswer
 located [] = valueCount

@@ -11,6 +11,9 @@ use Rattle.decimal.specs.declared.NumberAnswer.{NumberAnswer}
 use Rattle.decimal.specs.declared.NumberAnswer.the-variants as number
 use Rattle.double.specs.declared.DoubleAnswer.{DoubleAnswer}
 use Rattle.double.specs.declared.DoubleAnswer.the-variants as double
+use Rattle.double.specs.declared.Coordinate.{Coordinate}
+use Rattle.double.specs.declared.CoordinateAnswer.{CoordinateAnswer}
+use Rattle.double.specs.declared.CoordinateAnswer.the-variants as coordinate
 use Rattle.double.specs.declared.Coordinates.{Coordinates}
 use Rattle.double.specs.declared.LocationAnswer.{LocationAnswer}
 use Rattle.double.specs.declared.LocationAnswer.the-variants.{Is}
@@ -24,7 +27,7 @@ use Rattle.refusal.specs.declared.Part.the-variants.{File}
 use Rattle.refusal.specs.Table.{refusal}
 use Rattle.double.specs.Double.{onNumber, doubleOf}
 use Rattle.double.specs.Values.{Value, valuesOf, Parted, Parted.blanks, Parted.value, parted}
-use Rattle.double.specs.Location.{onDouble, oneOf, threeOf, located, locationOf}
+use Rattle.double.specs.Location.{decimalsOf, counted, coordinateOf, onCoordinate, oneOf, threeOf, located, locationOf}
 
 -- a comma is in no double
 pub comma-double : (before after : List ℕ) → doubleOf (before ++ 44 ∷ after) ≡ double.Refused (refusal NoNumber File 0)
@@ -47,14 +50,22 @@ double-marks t x e = go (numberIn t) refl e
     go (number.Is n) f g = let w = is-number t n .0 f in written-marks (w .0) t (w .1)
     go (number.Refused r) f g = let z : _≡_ {A = ℕ} 0 1 = cc in absurd (omega arith)
 
--- a value whose double went on
-went-on : (at : ℕ) (t : List ℕ) (k : Float → LocationAnswer) (l : Coordinates) → onDouble at (doubleOf t) k ≡ Is l
-    → All mark t × ((x : Float) × (k x ≡ Is l))
-went-on at t k l e = go (doubleOf t) refl e
+coordinate-marks : (t : List ℕ) (x : Coordinate) → coordinateOf t ≡ coordinate.Is x → All mark t
+unfolding coordinateOf
+coordinate-marks t x e = go (doubleOf t) refl e
   where
-    go : (a : DoubleAnswer) → doubleOf t ≡ a → onDouble at a k ≡ Is l → All mark t × ((x : Float) × (k x ≡ Is l))
-    go (double.Is x) f g = (double-marks t x f, (x, g))
+    go : (a : DoubleAnswer) → doubleOf t ≡ a → counted (decimalsOf (numberIn t)) a ≡ coordinate.Is x → All mark t
+    go (double.Is y) f g = double-marks t y f
     go (double.Refused r) f g = let z : _≡_ {A = ℕ} 0 1 = cc in absurd (omega arith)
+
+-- a value whose double went on
+went-on : (at : ℕ) (t : List ℕ) (k : Coordinate → LocationAnswer) (l : Coordinates) → onCoordinate at (coordinateOf t) k ≡ Is l
+    → All mark t × ((x : Coordinate) × (k x ≡ Is l))
+went-on at t k l e = go (coordinateOf t) refl e
+  where
+    go : (a : CoordinateAnswer) → coordinateOf t ≡ a → onCoordinate at a k ≡ Is l → All mark t × ((x : Coordinate) × (k x ≡ Is l))
+    go (coordinate.Is x) f g = (coordinate-marks t x f, (x, g))
+    go (coordinate.Refused r) f g = let z : _≡_ {A = ℕ} 0 1 = cc in absurd (omega arith)
 
 located-marks : (vs : List Value) (l : Coordinates) → located vs ≡ Is l → Marked vs
 unfolding located oneOf threeOf

@@ -15,7 +15,8 @@ ghost use lib.ListN.{length};
 ghost use lib.Signed.{ltZ};
 ghost use Rattle.chars.specs.Chars.{isOf};
 ghost use Rattle.double.specs.Double.{exact, scaledOf, withSign, noDouble, doubleFrom, refusalOf, doubleOf};
-ghost use Rattle.double.specs.Location.{valueCount, passed, oneOf, threeOf, over, locationOf};
+ghost use Rattle.double.specs.Location.{counted, coordinateOf, valueCount, passed, oneOf, threeOf, over};
+ghost use Rattle.double.specs.Location.{locationOf};
 
 // The double nearest to a number within the double case.
 pub enum DoubleAnswer {
@@ -23,12 +24,27 @@ pub enum DoubleAnswer {
     Refused(Refusal),
 }
 
-// A location: x alone or x, y and z, and how many there were; absent ones are 0.
+// A value of a location: its double, and how many digits stood after its point (document 02 §4).
+pub struct Coordinate {
+    pub value: f64,
+    pub decimals: u32,
+}
+
+pub enum CoordinateAnswer {
+    Is(Coordinate),
+    Refused(Refusal),
+}
+
+// A location: x alone or x, y and z, how many there were, and of each how many digits stood after its point; absent
+// ones are 0, and so are their counts.
 pub struct Coordinates {
     pub x: f64,
     pub y: f64,
     pub z: f64,
     pub count: u32,
+    pub x_decimals: u32,
+    pub y_decimals: u32,
+    pub z_decimals: u32,
 }
 
 pub enum LocationAnswer {
@@ -145,6 +161,28 @@ pub fn double(text: &[u8]) -> DoubleAnswer
     double_from(n)
 }
 
+// The double of a number, beside the count of its decimals.
+fn coordinate_from(n: Decimal) -> CoordinateAnswer
+    ensures { λ r. ⌜ r ≡ counted (n .decimals) (doubleFrom n) ⌝ }
+{
+    let decimals = n.decimals;
+    match double_from(n) {
+        DoubleAnswer::Is(value) => CoordinateAnswer::Is(Coordinate { value, decimals }),
+        DoubleAnswer::Refused(r) => CoordinateAnswer::Refused(r),
+    }
+}
+
+// The double that a text is, beside the count of its decimals: the text is read once for both.
+fn coordinate_in(text: &[u8]) -> CoordinateAnswer
+    ensures { λ r. ⌜ r ≡ coordinateOf (now (text .entry)) ⌝ }
+{
+    let answer = decimal::number(text);
+    let NumberAnswer::Is(n) = answer else {
+        return CoordinateAnswer::Refused(refusal_of(answer));
+    };
+    coordinate_from(n)
+}
+
 // Refusal 23: neither one nor three values.
 fn value_count() -> LocationAnswer
     ensures { λ r. ⌜ r ≡ valueCount ⌝ }
@@ -158,16 +196,16 @@ fn value_count() -> LocationAnswer
 
 // The refusal of an answer that is no double, passed up with the place where the value starts. (Of a double it is never
 // asked.)
-fn passed(at: usize, answer: DoubleAnswer) -> LocationAnswer
+fn passed(at: usize, answer: CoordinateAnswer) -> LocationAnswer
     ensures { λ r. ⌜ r ≡ passed at answer ⌝ }
 {
     match answer {
-        DoubleAnswer::Is(_) => LocationAnswer::Refused(Refusal {
+        CoordinateAnswer::Is(_) => LocationAnswer::Refused(Refusal {
             rule: Rule::NoNumber,
             part: Part::File,
             place: at,
         }),
-        DoubleAnswer::Refused(r) => {
+        CoordinateAnswer::Refused(r) => {
             let rule = r.rule;
             let part = r.part;
             LocationAnswer::Refused(Refusal {
@@ -183,15 +221,18 @@ fn passed(at: usize, answer: DoubleAnswer) -> LocationAnswer
 fn one(a: usize, x: &[u8]) -> LocationAnswer
     ensures { λ r. ⌜ r ≡ oneOf (a, now (x .entry)) ⌝ }
 {
-    let first = double(x);
-    let DoubleAnswer::Is(u) = first else {
+    let first = coordinate_in(x);
+    let CoordinateAnswer::Is(u) = first else {
         return passed(a, first);
     };
     LocationAnswer::Is(Coordinates {
-        x: u,
+        x: u.value,
         y: 0.0,
         z: 0.0,
         count: 1,
+        x_decimals: u.decimals,
+        y_decimals: 0,
+        z_decimals: 0,
     })
 }
 
@@ -199,23 +240,26 @@ fn one(a: usize, x: &[u8]) -> LocationAnswer
 fn three(a: usize, x: &[u8], b: usize, y: &[u8], c: usize, z: &[u8]) -> LocationAnswer
     ensures { λ r. ⌜ r ≡ threeOf (a, now (x .entry)) (b, now (y .entry)) (c, now (z .entry)) ⌝ }
 {
-    let first = double(x);
-    let DoubleAnswer::Is(u) = first else {
+    let first = coordinate_in(x);
+    let CoordinateAnswer::Is(u) = first else {
         return passed(a, first);
     };
-    let second = double(y);
-    let DoubleAnswer::Is(v) = second else {
+    let second = coordinate_in(y);
+    let CoordinateAnswer::Is(v) = second else {
         return passed(b, second);
     };
-    let third = double(z);
-    let DoubleAnswer::Is(w) = third else {
+    let third = coordinate_in(z);
+    let CoordinateAnswer::Is(w) = third else {
         return passed(c, third);
     };
     LocationAnswer::Is(Coordinates {
-        x: u,
-        y: v,
-        z: w,
+        x: u.value,
+        y: v.value,
+        z: w.value,
         count: 3,
+        x_decimals: u.decimals,
+        y_decimals: v.decimals,
+        z_decimals: w.decimals,
     })
 }
 

@@ -5,12 +5,14 @@
 use mathlib.Core.Bool.{Bool}
 use Prim.Native.Nat.{ℕ, _-_}
 use lib.IntN.{ℤ, pos, negsuc}
+use lib.Dec.{ltb}
 use Rattle.refusal.specs.declared.Refusal.{Refusal}
 use Rattle.refusal.specs.declared.Verdict.{Verdict}
 use Rattle.refusal.specs.declared.Verdict.the-variants.{Accepted, Refused}
 use Rattle.refusal.specs.Rows.{pick}
 use Rattle.refusal.specs.Table.{numberOf, partOf}
 use Rattle.double.specs.Location.{absent}
+use Rattle.decimal.specs.declared.Decimal.{Decimal}
 use Rattle.decimal.specs.declared.NumberAnswer.{NumberAnswer}
 use Rattle.decimal.specs.declared.NumberAnswer.the-variants as number
 use Rattle.double.specs.declared.DoubleAnswer.{DoubleAnswer}
@@ -27,8 +29,8 @@ use Rattle.reader.specs.declared.StringAnswer.{StringAnswer}
 use Rattle.reader.specs.declared.StringAnswer.the-variants as string
 use Rattle.reader.specs.declared.KeywordAnswer.{KeywordAnswer}
 use Rattle.reader.specs.declared.KeywordAnswer.the-variants as keyword
-use Rattle.start.specs.declared.Written.{Written}
-use Rattle.start.specs.declared.Written.the-variants as written
+use Rattle.refusal.specs.declared.Written.{Written}
+use Rattle.refusal.specs.declared.Written.the-variants as written
 use Rattle.face.specs.declared.Seg2Verdict.{Seg2Verdict}
 use Rattle.face.specs.declared.Seg2File.{Seg2File}
 use Rattle.face.specs.declared.Seg2Trace.{Seg2Trace}
@@ -164,15 +166,28 @@ asNumber (number.Is n) =
       minus = flag (n .minus);
       power = n .power;
       coefficient = n .coefficient;
+      decimals = n .decimals;
     }
-asNumber (number.Refused r) = record { number = asRow r; part = asPart r; place = r .place; minus = 0; power = pos 0; coefficient = 0 }
+asNumber (number.Refused r) = record { number = asRow r; part = asPart r; place = r .place; minus = 0; power = pos 0; coefficient = 0; decimals = 0 }
 
 unfoldable pub asDouble : DoubleAnswer → Seg2Double
 asDouble (double.Is x) = record { number = 0; part = negsuc 0; place = 0; value = x }
 asDouble (double.Refused r) = record { number = asRow r; part = asPart r; place = r .place; value = absent }
 
 unfoldable pub asLocation : LocationAnswer → Seg2Location
-asLocation (location.Is c) = record { number = 0; part = negsuc 0; place = 0; count = c .count; x = c .x; y = c .y; z = c .z }
+asLocation (location.Is c) =
+    record {
+      number = 0;
+      part = negsuc 0;
+      place = 0;
+      count = c .count;
+      x = c .x;
+      y = c .y;
+      z = c .z;
+      «x_decimals» = c .«x_decimals»;
+      «y_decimals» = c .«y_decimals»;
+      «z_decimals» = c .«z_decimals»;
+    }
 asLocation (location.Refused r) =
     record {
       number = asRow r;
@@ -182,8 +197,15 @@ asLocation (location.Refused r) =
       x = absent;
       y = absent;
       z = absent;
+      «x_decimals» = 0;
+      «y_decimals» = 0;
+      «z_decimals» = 0;
     }
 
 unfoldable pub asLength : Written → Seg2Length
 asLength (written.To n) = record { number = 0; part = negsuc 0; place = 0; length = n }
 asLength (written.Refused r) = record { number = asRow r; part = asPart r; place = r .place; length = 0 }
+
+-- a number as it comes back: minus is 0 or not
+abbrev pub asGiven : ℕ → ℕ → ℤ → ℕ → Decimal
+asGiven minus coefficient power decimals = record { minus = ltb 0 minus; coefficient = coefficient; power = power; decimals = decimals }

@@ -1,9 +1,10 @@
 // The answers as they cross to another language: C structs of numbers, each beginning with the refusal's number in
 // document 01's table (0: none), its part (-1 for the file, else the trace) and its place. Face has the definitions;
 // include/seg2.h declares the structs, with the same fields in the same order, to which a host test holds both.
-// Stands on `reader`, `start`, `double` and what they stand on.
+// Stands on `reader`, `double` and what they stand on.
 // The rules in words: docs/FORMAT.md, "Refusal numbers, in order of checking".
 use block::TraceAnswer;
+use decimal::Decimal;
 use decimal::NumberAnswer;
 use double::DoubleAnswer;
 use double::LocationAnswer;
@@ -12,11 +13,11 @@ use reader::CountAnswer;
 use reader::KeywordAnswer;
 use reader::StringAnswer;
 use refusal::Verdict;
-use start::Written;
+use refusal::Written;
 ghost use mathlib.Core.Path.{_≡_};
 ghost use Prim.Native.Nat.{_-_};
 ghost use Rattle.face.specs.Face.{flag, asVerdict, asFile, asTrace, asCount, asString, asKeyword, asValue};
-ghost use Rattle.face.specs.Face.{asNumber, asDouble, asLocation, asLength};
+ghost use Rattle.face.specs.Face.{asNumber, asDouble, asLocation, asLength, asGiven};
 
 #[repr(C)]
 pub struct Seg2Verdict {
@@ -91,7 +92,7 @@ pub struct Seg2Value {
     pub value_length: usize,
 }
 
-// Sign (1: minus), coefficient as written and power of ten.
+// Sign (1: minus), coefficient as written, power of ten, and how many digits stood after the point.
 #[repr(C)]
 pub struct Seg2Number {
     pub number: u32,
@@ -100,6 +101,7 @@ pub struct Seg2Number {
     pub minus: u32,
     pub power: i32,
     pub coefficient: u64,
+    pub decimals: u32,
 }
 
 #[repr(C)]
@@ -110,7 +112,7 @@ pub struct Seg2Double {
     pub value: f64,
 }
 
-// How many values there were, and the values; absent ones are 0.
+// How many values there were, the values, and of each how many digits stood after its point; absent ones are 0.
 #[repr(C)]
 pub struct Seg2Location {
     pub number: u32,
@@ -120,9 +122,12 @@ pub struct Seg2Location {
     pub x: f64,
     pub y: f64,
     pub z: f64,
+    pub x_decimals: u32,
+    pub y_decimals: u32,
+    pub z_decimals: u32,
 }
 
-// The image's new length.
+// The image's new length, or the length of the text that a number was written as.
 #[repr(C)]
 pub struct Seg2Length {
     pub number: u32,
@@ -145,6 +150,20 @@ fn span(a: usize, e: usize) -> usize
         return 0;
     }
     e - a
+}
+
+// ---- a number as it comes back from another language
+
+// Its sign is a number there: 0 for plus, any other for minus.
+pub fn number_given(minus: u32, coefficient: u64, power: i32, decimals: u32) -> Decimal
+    ensures { λ r. ⌜ r ≡ asGiven minus coefficient power decimals ⌝ }
+{
+    Decimal {
+        minus: 0 < minus,
+        coefficient,
+        power,
+        decimals,
+    }
 }
 
 // ---- answers as they cross to another language
@@ -362,6 +381,7 @@ pub fn number_told(a: NumberAnswer) -> Seg2Number
             minus: one_if(n.minus),
             power: n.power,
             coefficient: n.coefficient,
+            decimals: n.decimals,
         },
         NumberAnswer::Refused(r) => {
             let t = told(Verdict::Refused(r));
@@ -372,6 +392,7 @@ pub fn number_told(a: NumberAnswer) -> Seg2Number
                 minus: 0,
                 power: 0,
                 coefficient: 0,
+                decimals: 0,
             }
         }
     }
@@ -411,6 +432,9 @@ pub fn location_told(a: LocationAnswer) -> Seg2Location
             x: c.x,
             y: c.y,
             z: c.z,
+            x_decimals: c.x_decimals,
+            y_decimals: c.y_decimals,
+            z_decimals: c.z_decimals,
         },
         LocationAnswer::Refused(r) => {
             let t = told(Verdict::Refused(r));
@@ -422,6 +446,9 @@ pub fn location_told(a: LocationAnswer) -> Seg2Location
                 x: 0.0,
                 y: 0.0,
                 z: 0.0,
+                x_decimals: 0,
+                y_decimals: 0,
+                z_decimals: 0,
             }
         }
     }

@@ -2,3 +2,4 @@ pub mod Table
 pub mod Rows
 pub mod Verdicts
 pub mod FirstRow
+pub mod Writing

@@ -1,6 +1,6 @@
-// The answers that all crates share: a refusal with its rule, part and place, and the verdict of a check. Document 01,
-// "Refusal numbers, in order of checking": Table has the numbers, Rows how the first row met answers. Stands on
-// nothing.
+// The answers that all crates share: a refusal with its rule, part and place, the verdict of a check, and what a writing
+// answers. Document 01, "Refusal numbers, in order of checking": Table has the numbers, Rows how the first row met
+// answers, Writing what is left of lent memory. Stands on nothing.
 // The rules in words: docs/FORMAT.md, "Refusal numbers, in order of checking".
 ghost use mathlib.Core.Path.{_≡_};
 ghost use Rattle.refusal.specs.Table.{numberOf, Numbered, partOf, refusal};
@@ -58,6 +58,13 @@ pub struct Refusal {
 
 pub enum Verdict {
     Accepted,
+    Refused(Refusal),
+}
+
+// The length that a writing made (of the image after a start or an addition, of a number's text), or the refusal, which
+// has changed nothing.
+pub enum Written {
+    To(usize),
     Refused(Refusal),
 }
 

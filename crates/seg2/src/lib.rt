@@ -1,6 +1,6 @@
 // The face for other languages: thin functions on numbers and byte slices, each with a whole promise and no `requires`.
-// include/seg2.h declares them. The answers are those of `image`, `reader`, `samples`, `start` and `writer`, as `face`
-// hands them over. Strings are read in the strict manner.
+// include/seg2.h declares them. The answers are those of `image`, `reader`, `samples`, `start`, `writer`, `decimal` and
+// `numeral`, as `face` hands them over. Strings are read in the strict manner.
 // The rules in words: docs/FORMAT.md, "Refusal numbers, in order of checking".
 use face::Seg2Count;
 use face::Seg2Double;
@@ -19,6 +19,8 @@ ghost use mathlib.Core.Path.{_≡_};
 ghost use lib.ListN.{length};
 ghost use Rattle.text.specs.declared.Manner.the-variants.{Strict};
 ghost use Rattle.head.specs.declared.Purpose.the-variants.{Read};
+ghost use Rattle.decimal.specs.Number.{numberIn};
+ghost use Rattle.numeral.specs.Numeral.{numeralAnswer, numeralLeft};
 ghost use Rattle.image.specs.Image.{checkOf};
 ghost use Rattle.reader.specs.Questions.{fileAnswer, traceAnswer, countAnswer, nthAnswer, findAnswer, keywordAnswer};
 ghost use Rattle.reader.specs.Questions.{numberAnswer, doubleAnswer, locationAnswer, integersAnswer, integersLeft};
@@ -27,7 +29,7 @@ ghost use Rattle.layout.specs.Layout.{integersTrace, patternsTrace};
 ghost use Rattle.start.specs.Start.{startAnswer, startLeft};
 ghost use Rattle.writer.specs.Answers.{addAnswer, addLeft};
 ghost use Rattle.face.specs.Face.{asVerdict, asFile, asTrace, asCount, asString, asKeyword, asValue, asNumber};
-ghost use Rattle.face.specs.Face.{asDouble, asLocation, asLength};
+ghost use Rattle.face.specs.Face.{asDouble, asLocation, asLength, asGiven};
 
 // ---- questions
 
@@ -184,4 +186,32 @@ pub extern "C" fn seg2_add_bits(
         ≡ addLeft (now (buffer .entry)) n (patternsTrace (now (sheet .entry)) code (now (row .entry))) ⌝ }
 {
     face::length_told(writer::add_bits(buffer, n, sheet, code, row))
+}
+
+// ---- a number by itself
+
+// The number that a text is: what a user typed, before it goes into a sheet.
+#[no_mangle]
+pub extern "C" fn seg2_read_number(text: &[u8]) -> Seg2Number
+    ensures { λ r. ⌜ r ≡ asNumber (numberIn (now (text .entry))) ⌝ }
+{
+    face::number_told(decimal::number(text))
+}
+
+// A number as text with its own decimals, at the start of the lent bytes: minus is 0 or not.
+#[no_mangle]
+pub extern "C" fn seg2_write_number(
+    text: &mut [u8],
+    minus: u32,
+    coefficient: u64,
+    power: i32,
+    decimals: u32,
+) -> Seg2Length
+    ensures answer { λ r. ⌜ r ≡ asLength (numeralAnswer (length (now (text .entry)))
+        (asGiven minus coefficient power decimals)) ⌝ }
+    ensures left { λ _. ⌜ now (text .exit) ≡ numeralLeft (now (text .entry))
+        (asGiven minus coefficient power decimals) ⌝ }
+{
+    let n = face::number_given(minus, coefficient, power, decimals);
+    face::length_told(numeral::write(text, n))
 }

@@ -7,22 +7,16 @@ use Prim.Native.Nat.{ℕ}
 use lib.ListN.{length}
 use lib.Dec.{ltb, eqb}
 use Rattle.word.specs.Put.{put}
-use Rattle.refusal.specs.declared.Rule.{Rule}
 use Rattle.refusal.specs.declared.Rule.the-variants.{NoRoom, StartValues}
-use Rattle.refusal.specs.declared.Part.the-variants.{File}
-use Rattle.refusal.specs.Table.{refusal}
 use Rattle.refusal.specs.Rows.{pick}
+use Rattle.refusal.specs.Writing.{refuse, onWritten}
 use Rattle.head.specs.Head.{maximum}
 use Rattle.sheet.specs.declared.Measured.{Measured}
 use Rattle.sheet.specs.declared.Measured.the-variants as measured
 use Rattle.sheet.specs.Area.{measuredOf}
-use Rattle.start.specs.declared.Written.{Written}
-use Rattle.start.specs.declared.Written.the-variants.{To, Refused}
+use Rattle.refusal.specs.declared.Written.{Written}
+use Rattle.refusal.specs.declared.Written.the-variants.{To, Refused}
 use Rattle.layout.specs.Layout.{nul, lineFeed, slotsMost, startImage, startSize}
-
--- a row from 24 on: part -1
-abbrev pub refuse : Rule → ℕ → Written
-refuse r at = Refused (refusal r File at)
 
 -- 30 "new length over the buffer or the maximum", else the new length
 abbrev pub within : ℕ → ℕ → Written
@@ -42,11 +36,6 @@ unfoldable pub startAnswer : List ℕ → ℕ → ℕ → List ℕ → Written
 startAnswer xs order slots sheet =
     pick (badStart order slots) (refuse StartValues 0)
     (onMeasured (measuredOf nul lineFeed sheet) (within (length xs) (startSize slots sheet)))
-
--- a lent buffer at the end: the new one where a length is answered, else as it was
-abbrev pub onWritten : {A : Type 0} → Written → A → A → A
-onWritten (To end) new old = new
-onWritten (Refused r) new old = old
 
 unfoldable pub startLeft : List ℕ → ℕ → ℕ → List ℕ → List ℕ
 startLeft xs order slots sheet = onWritten (startAnswer xs order slots sheet) (put xs 0 (startImage (eqb order 1) slots sheet)) xs

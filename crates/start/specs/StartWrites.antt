@@ -17,10 +17,11 @@ use Rattle.head.specs.Head.{maximum}
 use Rattle.sheet.specs.declared.Measured.the-variants as measured
 use Rattle.sheet.specs.Area.{areaMost, areaSize, measuredOf}
 use Rattle.area.specs.Spelling.{measured-size}
-use Rattle.start.specs.declared.Written.{Written}
-use Rattle.start.specs.declared.Written.the-variants.{To, Refused}
+use Rattle.refusal.specs.declared.Written.{Written}
+use Rattle.refusal.specs.declared.Written.the-variants.{To, Refused}
 use Rattle.layout.specs.Layout.{nul, lineFeed, slotsMost, startImage, startSize}
-use Rattle.start.specs.Start.{refuse, within, onWritten, badStart, startAnswer, startLeft}
+use Rattle.refusal.specs.Writing.{refuse, onWritten}
+use Rattle.start.specs.Start.{within, badStart, startAnswer, startLeft}
 
 module _ (xs : List ℕ) (order slots : ℕ) (sheet : List ℕ) where
   pub start-bad : badStart order slots ≡ true → (refuse StartValues 0 ≡ startAnswer xs order slots sheet) × (xs ≡ startLeft xs order slots sheet)

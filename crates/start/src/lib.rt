@@ -2,8 +2,8 @@
 // byte is written. Start has the definitions, StartShown the second view: a file is started exactly where no row is
 // met. Stands on `layout`, `head`, `sheet`.
 // The rules in words: docs/FORMAT.md, "What we write".
-use refusal::Refusal;
 use refusal::Rule;
+use refusal::Written;
 use sheet::Measured;
 ghost use mathlib.Core.Path.{_≡_};
 ghost use Prim.Native.Nat.{_≤_};
@@ -11,13 +11,8 @@ ghost use lib.ListN.{length};
 ghost use Rattle.word.specs.Put.{put};
 ghost use Rattle.sheet.specs.Area.{measuredOf};
 ghost use Rattle.layout.specs.Layout.{nul, lineFeed, slotsMost, startImage, startSize};
-ghost use Rattle.start.specs.Start.{refuse, within, onWritten, badStart, startAnswer, startLeft};
-
-// The image's length after a start or an addition, or the refusal, which has changed nothing.
-pub enum Written {
-    To(usize),
-    Refused(Refusal),
-}
+ghost use Rattle.refusal.specs.Writing.{refuse, onWritten};
+ghost use Rattle.start.specs.Start.{within, badStart, startAnswer, startLeft};
 
 // A row from 24 on: the part is the file's.
 pub fn refusing(rule: Rule, place: usize) -> Written

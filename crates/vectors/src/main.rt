@@ -11,7 +11,7 @@ use fit::Fit;
 use head::Purpose;
 use refusal::Part;
 use refusal::Verdict;
-use start::Written;
+use refusal::Written;
 use strings::Found;
 use text::Manner;
 

@@ -22,10 +22,11 @@ use Rattle.sheet.specs.declared.Measured.the-variants as measured
 use Rattle.sheet.specs.Area.{measuredOf}
 use Rattle.head.specs.Head.{roomOf, countOf, stringEnd, lineEnd}
 use Rattle.image.specs.Image.{checkOf}
-use Rattle.start.specs.declared.Written.{Written}
-use Rattle.start.specs.declared.Written.the-variants.{Refused}
+use Rattle.refusal.specs.declared.Written.{Written}
+use Rattle.refusal.specs.declared.Written.the-variants.{Refused}
 use Rattle.layout.specs.Layout.{Trace, Samples, fitting, unfit}
-use Rattle.start.specs.Start.{within, onMeasured, onWritten}
+use Rattle.refusal.specs.Writing.{onWritten}
+use Rattle.start.specs.Start.{within, onMeasured}
 use Rattle.append.specs.Grown.{newLength, grown}
 
 -- ---- adding: "1 to 17, then 24 no free slot (place 0), 25 bad sheet line, 26 sheet order, 27 area too large (0)"

@@ -31,8 +31,8 @@ use Rattle.head.specs.declared.Purpose.the-variants.{Grow}
 use Rattle.image.specs.Image.{imageOf, badLength, checkOf}
 use Rattle.image.specs.ImageLaws.{long-enough}
 use Rattle.image.specs.Accepted.{image-headed}
-use Rattle.start.specs.declared.Written.{Written}
-use Rattle.start.specs.declared.Written.the-variants.{To, Refused}
+use Rattle.refusal.specs.declared.Written.{Written}
+use Rattle.refusal.specs.declared.Written.the-variants.{To, Refused}
 use Rattle.layout.specs.Layout.{Trace, Samples, fitting, unfit}
 use Rattle.start.specs.Start.{within}
 use Rattle.append.specs.Grown.{newLength, grown}

@@ -30,9 +30,10 @@ use Rattle.text.specs.declared.Manner.the-variants.{Strict}
 use Rattle.head.specs.declared.Purpose.the-variants.{Grow}
 use Rattle.image.specs.Image.{checkOf}
 use Rattle.head.specs.declared.FileBlock.{FileBlock}
-use Rattle.start.specs.declared.Written.{Written}
-use Rattle.start.specs.declared.Written.the-variants.{To, Refused}
-use Rattle.start.specs.Start.{refuse, within, onMeasured}
+use Rattle.refusal.specs.declared.Written.{Written}
+use Rattle.refusal.specs.declared.Written.the-variants.{To, Refused}
+use Rattle.refusal.specs.Writing.{refuse}
+use Rattle.start.specs.Start.{within, onMeasured}
 use Rattle.layout.specs.Layout.{Trace, Samples, count, fitting, unfit}
 use Rattle.layout.specs.LayoutLaws.{Kinded, kinded, room-enough}
 use Rattle.layout.specs.Stores.{Held}

@@ -3,7 +3,7 @@
 use seg2::raw;
 
 /// How many values the longest answer has beside its refusal.
-pub const VALUES: usize = 5;
+pub const VALUES: usize = 7;
 
 /// A refusal's number, part and place, and the values in the order of the answer's
 /// fields. Doubles are their bits, so that -0 is not 0; values that an answer does
@@ -79,7 +79,20 @@ told!(Text, a => [
 ]);
 told!(Keyword, a => [u64::from(a.found)]);
 told!(Value, a => [a.value_start as u64, a.value_length as u64]);
-told!(Number, a => [u64::from(a.minus), signed(a.power), a.coefficient]);
+told!(Number, a => [
+    u64::from(a.minus),
+    signed(a.power),
+    a.coefficient,
+    u64::from(a.decimals)
+]);
 told!(Double, a => [a.value.to_bits()]);
-told!(Location, a => [u64::from(a.count), a.x.to_bits(), a.y.to_bits(), a.z.to_bits()]);
+told!(Location, a => [
+    u64::from(a.count),
+    a.x.to_bits(),
+    a.y.to_bits(),
+    a.z.to_bits(),
+    u64::from(a.x_decimals),
+    u64::from(a.y_decimals),
+    u64::from(a.z_decimals)
+]);
 told!(Length, a => [a.length as u64]);

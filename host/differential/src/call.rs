@@ -21,9 +21,21 @@ pub enum Call {
     Location { part: i32 },
     Integers { trace: i32 },
     Bits { trace: i32 },
+    ReadNumber,
+    WriteNumber(Forged),
     Start { order: u32, slots: u32 },
     AddIntegers { code: u32 },
     AddBits { code: u32 },
+}
+
+/// A number as it is given to be written: any values, also such as no text gives.
+#[derive(Clone, Copy, Debug, PartialEq, Eq)]
+pub struct Forged {
+    /// 0 or not.
+    pub minus: u32,
+    pub coefficient: u64,
+    pub power: i32,
+    pub decimals: u32,
 }
 
 impl Call {
@@ -42,6 +54,8 @@ impl Call {
             Call::Location { .. } => "location",
             Call::Integers { .. } => "integers",
             Call::Bits { .. } => "bits",
+            Call::ReadNumber => "read_number",
+            Call::WriteNumber(_) => "write_number",
             Call::Start { .. } => "start",
             Call::AddIntegers { .. } => "add_integers",
             Call::AddBits { .. } => "add_bits",
@@ -65,6 +79,7 @@ pub struct Places {
     pub integers: (*mut i32, usize),
     pub patterns: (*mut u64, usize),
     pub classes: (*mut u8, usize),
+    pub text: (*mut u8, usize),
 }
 
 impl Library for Archive {
@@ -76,6 +91,7 @@ impl Library for Archive {
             integers: lent.integers.place(),
             patterns: lent.patterns.place(),
             classes: lent.classes.place(),
+            text: lent.text.place(),
         };
         // SAFETY: each piece lives through the call, and no two overlap.
         unsafe { Archive::call_at(call, length, &places, &mut lent.beside_answer) }
@@ -96,6 +112,7 @@ impl Archive {
         let (integers, ints) = places.integers;
         let (patterns, bits) = places.patterns;
         let (classes, count) = places.classes;
+        let (text, room) = places.text;
         // SAFETY: as the caller promises.
         unsafe {
             match call {
@@ -134,6 +151,17 @@ impl Archive {
                     raw::seg2_bits(buffer, size, length, trace, patterns, bits, classes, count)
                         .into()
                 }
+                Call::ReadNumber => {
+                    answered(beside, |answer| raw::seg2_read_number(answer, text, room))
+                }
+                Call::WriteNumber(Forged {
+                    minus,
+                    coefficient,
+                    power,
+                    decimals,
+                }) => answered(beside, |answer| {
+                    raw::seg2_write_number(answer, text, room, minus, coefficient, power, decimals)
+                }),
                 Call::Start { order, slots } => answered(beside, |answer| {
                     raw::seg2_start(answer, buffer, size, order, slots, sheet, lines)
                 }),

@@ -1,8 +1,9 @@
 //! Cases: all that a run of calls depends on, and how one is run.
 
 use crate::asking::{ask_all, ask_part};
-use crate::call::{Call, Library};
+use crate::call::{Call, Forged, Library};
 use crate::growing::{add, grow, start};
+use crate::numbering::{type_in, write_in_rooms};
 use crate::pair::{Difference, Pair, Tally};
 use seg2_reference as reference;
 use seg2_reference::generate::Rng;
@@ -60,6 +61,10 @@ pub enum Kind {
         room: usize,
         steps: Vec<Given>,
     },
+    /// A text that is read as a number, and what was read written back.
+    Typed { text: Vec<u8> },
+    /// A number that is written, in every room.
+    Forged { number: Forged },
 }
 
 impl Case {
@@ -99,6 +104,14 @@ impl Case {
                 buffer.extend(rng.junk(room.saturating_sub(buffer.len())));
                 pair = Pair::new(library, seed, &buffer);
                 grow(&mut pair, base, steps, &mut rng)?;
+            }
+            Kind::Typed { text } => {
+                pair = Pair::new(library, seed, &[]);
+                type_in(&mut pair, text, &mut rng)?;
+            }
+            Kind::Forged { number } => {
+                pair = Pair::new(library, seed, &[]);
+                write_in_rooms(&mut pair, *number, &mut rng)?;
             }
         }
         Ok(pair.tally)

@@ -1,5 +1,6 @@
 //! Random cases. The same numbers give the same case on every machine.
 
+use crate::call::Forged;
 use crate::case::{Base, Case, Given, Kind, Start};
 use crate::expected::narrow;
 use seg2_reference as reference;
@@ -7,8 +8,8 @@ use seg2_reference::generate::lay::two;
 use seg2_reference::generate::model::{AreaModel, End, SamplesModel, StringModel};
 use seg2_reference::generate::writing::row_for;
 use seg2_reference::generate::{
-    damaged, good_sheet, location_case, mutated, number_case, several_damages, sheet_case, Model,
-    Rng, Way, WAYS,
+    damaged, forged_number, good_sheet, location_case, mutated, number_case, several_damages,
+    sheet_case, Model, Rng, Way, WAYS,
 };
 use seg2_reference::Order;
 
@@ -30,6 +31,8 @@ pub const KINDS: &[(&str, Draw)] = &[
     ("addition to a broken file", added_to_broken),
     ("growing from a start", grown),
     ("growing from another maker's file", grown_from_image),
+    ("typed text", typed),
+    ("forged number", forged),
 ];
 
 /// The generator of one case of a run: a case can be drawn without those before it.
@@ -356,4 +359,28 @@ pub fn grown_from_image(rng: &mut Rng) -> Case {
         steps: steps(rng),
     };
     case(rng, kind)
+}
+
+/// What a user may type: most often a number, or nearly; sometimes any bytes.
+pub fn typed(rng: &mut Rng) -> Case {
+    let mut text = match rng.between(0, 9) {
+        0 => {
+            let size = rng.between(0, 40);
+            rng.junk(size)
+        }
+        1 => location_case(rng).text,
+        _ => number_case(rng).text,
+    };
+    if rng.one_in(4) {
+        mutate(rng, &mut text);
+    }
+    case(rng, Kind::Typed { text })
+}
+
+/// A number to be written, most often one that can be. Any minus that is not 0 is one.
+pub fn forged(rng: &mut Rng) -> Case {
+    let number = forged_number(rng);
+    let minus = rng.pick(&[1, 1, 2, 256, 1 << 31, u32::MAX]);
+    let number = Forged::of(number, minus);
+    case(rng, Kind::Forged { number })
 }

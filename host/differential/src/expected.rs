@@ -1,10 +1,10 @@
 //! The calls as the reference answers them, in the form of the archive's answers.
 
 use crate::answer::{signed, Answer};
-use crate::call::Call;
+use crate::call::{Call, Forged};
 use crate::lent::Memory;
 use seg2_reference as reference;
-use seg2_reference::{Order, Refusal, StringPlace};
+use seg2_reference::{Location, Number, Order, Refusal, StringPlace};
 
 /// The reference's answer, and the memory after it.
 pub fn expected(call: Call, length: usize, memory: &mut Memory) -> Answer {
@@ -15,6 +15,7 @@ pub fn expected(call: Call, length: usize, memory: &mut Memory) -> Answer {
         integers,
         patterns,
         classes,
+        text,
     } = memory;
     match call {
         Call::Check => told(reference::check(buffer, length), |_| Answer::good([])),
@@ -44,13 +45,7 @@ pub fn expected(call: Call, length: usize, memory: &mut Memory) -> Answer {
             told(asked, |_| Answer::good([start, size]))
         }
         Call::Number { part } => of_value(buffer, length, part, key, |text| {
-            told(reference::number(text), |number| {
-                Answer::good([
-                    u64::from(number.minus),
-                    signed(number.power),
-                    number.coefficient,
-                ])
-            })
+            told(reference::number(text), number)
         }),
         Call::Double { part } => of_value(buffer, length, part, key, |text| {
             told(reference::double(text), |value| {
@@ -58,10 +53,7 @@ pub fn expected(call: Call, length: usize, memory: &mut Memory) -> Answer {
             })
         }),
         Call::Location { part } => of_value(buffer, length, part, key, |text| {
-            told(reference::location(text), |l| {
-                let [x, y, z] = [l.x, l.y, l.z].map(f64::to_bits);
-                Answer::good([u64::from(l.count), x, y, z])
-            })
+            told(reference::location(text), location)
         }),
         Call::Integers { trace } => told(
             reference::samples_as_integers(buffer, length, trace.into(), integers),
@@ -71,6 +63,8 @@ pub fn expected(call: Call, length: usize, memory: &mut Memory) -> Answer {
             reference::samples_as_bits(buffer, length, trace.into(), patterns, classes),
             |()| Answer::good([]),
         ),
+        Call::ReadNumber => told(reference::number(text), number),
+        Call::WriteNumber(given) => told(reference::write_number(text, given.number()), new_length),
         Call::Start { order, slots } => told(
             reference::start(buffer, order, slots.into(), sheet),
             new_length,
@@ -128,6 +122,43 @@ fn string(string: Option<StringPlace>) -> Answer {
         value.start as u64,
         value.len() as u64,
     ])
+}
+
+/// A number's values in the order of the answer's fields.
+pub fn number(number: Number) -> Answer {
+    Answer::good([
+        u64::from(number.minus),
+        signed(number.power),
+        number.coefficient,
+        u64::from(number.decimals),
+    ])
+}
+
+fn location(location: Location) -> Answer {
+    let [x, y, z] = [location.x, location.y, location.z].map(f64::to_bits);
+    let [of_x, of_y, of_z] = location.decimals.map(u64::from);
+    Answer::good([u64::from(location.count), x, y, z, of_x, of_y, of_z])
+}
+
+impl Forged {
+    /// The number, with this for a minus where it has one: any but 0 is one.
+    pub fn of(number: Number, minus: u32) -> Forged {
+        Forged {
+            minus: if number.minus { minus } else { 0 },
+            coefficient: number.coefficient,
+            power: number.power,
+            decimals: number.decimals,
+        }
+    }
+
+    fn number(self) -> Number {
+        Number {
+            minus: self.minus != 0,
+            coefficient: self.coefficient,
+            power: self.power,
+            decimals: self.decimals,
+        }
+    }
 }
 
 fn new_length(length: usize) -> Answer {

@@ -274,7 +274,8 @@ fn read_string(
     first: Option<[u64; 2]>,
 ) -> Result<[u64; 2], Difference> {
     let call = Call::String { part, index };
-    let [found, at, letters, start, size] = pair.ask(length, call)?.values.map(|v| v as usize);
+    let values = pair.ask(length, call)?.values.map(|v| v as usize);
+    let [found, at, letters, start, size, ..] = values;
     pair.lend_key(key);
     let same = pair.ask(length, Call::Value { part })?;
     let buffer = &pair.memory().buffer;

@@ -73,7 +73,7 @@ impl Drop for Pages {
 
 /// The archive with each lent piece at an end of its own pages.
 pub struct Guarded {
-    pages: [Pages; 6],
+    pages: [Pages; 7],
     at_end: bool,
 }
 
@@ -123,6 +123,7 @@ impl Library for Guarded {
             integers: self.lend(3, &lent.integers),
             patterns: self.lend(4, &lent.patterns),
             classes: self.lend(5, &lent.classes),
+            text: self.lend(6, &lent.text),
         };
         // SAFETY: each piece has its own pages.
         let answer = unsafe { Archive::call_at(call, length, &places, &mut lent.beside_answer) };
@@ -132,6 +133,7 @@ impl Library for Guarded {
         take_back(places.integers, &mut lent.integers);
         take_back(places.patterns, &mut lent.patterns);
         take_back(places.classes, &mut lent.classes);
+        take_back(places.text, &mut lent.text);
         answer
     }
 }

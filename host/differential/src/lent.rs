@@ -130,6 +130,8 @@ pub struct Memory {
     pub integers: Vec<i32>,
     pub patterns: Vec<u64>,
     pub classes: Vec<u8>,
+    /// What a number is read from, or written to.
+    pub text: Vec<u8>,
 }
 
 /// The same, each piece inside a larger one.
@@ -141,6 +143,7 @@ pub struct Lent {
     pub integers: Frame<i32>,
     pub patterns: Frame<u64>,
     pub classes: Frame<u8>,
+    pub text: Frame<u8>,
     /// Something was written beside an answer's place.
     pub beside_answer: bool,
 }
@@ -154,6 +157,7 @@ impl Lent {
             integers: Frame::new(seed >> 24, &[]),
             patterns: Frame::new(seed >> 32, &[]),
             classes: Frame::new(seed >> 40, &[]),
+            text: Frame::new(seed >> 48, &[]),
             beside_answer: false,
         }
     }
@@ -171,5 +175,6 @@ impl Lent {
             .or_else(|| self.integers.fault("row of integers", &expected.integers))
             .or_else(|| self.patterns.fault("row of bits", &expected.patterns))
             .or_else(|| self.classes.fault("row of classes", &expected.classes))
+            .or_else(|| self.text.fault("text of a number", &expected.text))
     }
 }

@@ -11,6 +11,7 @@
 //! - [`expected`]: the same calls answered by the reference.
 //! - [`pair`]: both beside each other.
 //! - [`asking`], [`growing`]: every question about a buffer; files that grow.
+//! - [`numbering`]: numbers and their texts.
 //! - [`case`], [`text`]: cases, and cases as text.
 //! - [`draw`]: random cases.
 //! - [`run`]: many cases from a seed.
@@ -28,6 +29,7 @@ pub mod growing;
 #[cfg(target_os = "linux")]
 pub mod guarded;
 pub mod lent;
+pub mod numbering;
 pub mod pair;
 pub mod run;
 pub mod shrink;
@@ -35,7 +37,7 @@ pub mod spoiled;
 pub mod text;
 
 pub use answer::Answer;
-pub use call::{Archive, Call, Library};
+pub use call::{Archive, Call, Forged, Library};
 pub use case::Case;
 pub use pair::{Difference, Pair, Tally};
 pub use run::all_alike;

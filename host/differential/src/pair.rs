@@ -112,6 +112,11 @@ impl<'a> Pair<'a> {
         self.lent.classes.lend(row);
     }
 
+    pub fn lend_text(&mut self, text: &[u8]) {
+        self.memory.text = text.to_vec();
+        self.lent.text.lend(text);
+    }
+
     /// The lent memory after the last call, the same on both sides.
     pub fn memory(&self) -> &Memory {
         &self.memory

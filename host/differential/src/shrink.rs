@@ -1,6 +1,6 @@
 //! A smaller case that still shows a difference.
 
-use crate::call::Library;
+use crate::call::{Forged, Library};
 use crate::case::{Base, Case, Given, Kind, Start};
 use seg2_reference::Row;
 use std::time::{Duration, Instant};
@@ -37,6 +37,11 @@ fn candidates(case: &Case) -> Vec<Case> {
             given,
         } => added_candidates(buffer, *length, given),
         Kind::Grown { base, room, steps } => grown_candidates(base, *room, steps),
+        Kind::Typed { text } => {
+            let texts = simpler(text).into_iter();
+            texts.map(|text| Kind::Typed { text }).collect()
+        }
+        Kind::Forged { number } => forged_candidates(number),
     };
     let seed = case.seed;
     kinds.into_iter().map(|kind| Case { seed, kind }).collect()
@@ -99,6 +104,40 @@ fn grown_candidates(base: &Base, room: usize, steps: &[Given]) -> Vec<Kind> {
         }
     }
     kinds
+}
+
+/// Each of the four nearer to 0: at once, by a digit, by one.
+fn forged_candidates(number: &Forged) -> Vec<Kind> {
+    let nearer = |value: u64| {
+        let all = [0, value / 10, value.saturating_sub(1)];
+        all.into_iter().filter(move |&less| less < value)
+    };
+    let mut all = Vec::new();
+    for minus in nearer(number.minus.into()) {
+        let minus = minus as u32;
+        all.push(Forged { minus, ..*number });
+    }
+    for coefficient in nearer(number.coefficient) {
+        all.push(Forged {
+            coefficient,
+            ..*number
+        });
+    }
+    for magnitude in nearer(number.power.unsigned_abs().into()) {
+        // nearer to 0 than the power is, so of 32 bits
+        let power = magnitude as i32 * number.power.signum();
+        all.push(Forged { power, ..*number });
+    }
+    for decimals in nearer(number.decimals.into()) {
+        let decimals = decimals as u32;
+        all.push(Forged {
+            decimals,
+            ..*number
+        });
+    }
+    all.into_iter()
+        .map(|number| Kind::Forged { number })
+        .collect()
 }
 
 /// One trace less, and then bytes away or zero; the length goes with the bytes.

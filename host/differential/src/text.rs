@@ -2,6 +2,7 @@
 //!
 //! Each line is a name, a space and a value; bytes are hexadecimal, rows are decimal.
 
+use crate::call::Forged;
 use crate::case::{Base, Case, Given, Kind, Start};
 use seg2_reference::Row;
 use std::fmt::{Display, Write};
@@ -42,6 +43,17 @@ pub fn written(case: &Case) -> String {
             for step in steps {
                 write_given(&mut text, step);
             }
+        }
+        Kind::Typed { text: typed } => {
+            line(&mut text, "kind", "typed");
+            line(&mut text, "text", hex(typed));
+        }
+        Kind::Forged { number } => {
+            line(&mut text, "kind", "forged");
+            line(&mut text, "minus", number.minus);
+            line(&mut text, "coefficient", number.coefficient);
+            line(&mut text, "power", number.power);
+            line(&mut text, "decimals", number.decimals);
         }
     }
     text
@@ -102,6 +114,12 @@ pub fn read(text: &str) -> Result<Case, String> {
             room: fields.number("room")?,
             base: fields.base()?,
             steps: fields.steps()?,
+        },
+        "typed" => Kind::Typed {
+            text: fields.bytes("text")?,
+        },
+        "forged" => Kind::Forged {
+            number: fields.forged()?,
         },
         other => return Err(format!("no kind of case: {other}")),
     };
@@ -165,6 +183,15 @@ impl<'a> Fields<'a> {
                 true => Row::Bits(self.row("bits")?),
                 false => Row::Integers(self.row("integers")?),
             },
+        })
+    }
+
+    fn forged(&mut self) -> Result<Forged, String> {
+        Ok(Forged {
+            minus: self.number("minus")?,
+            coefficient: self.number("coefficient")?,
+            power: self.number("power")?,
+            decimals: self.number("decimals")?,
         })
     }
 

@@ -1,9 +1,10 @@
 //! The comparison notices each single fault in each function: a test that cannot fail
 //! says nothing.
 
-use seg2_differential::draw::{rng_of, KINDS};
+use seg2_differential::draw::{forged, rng_of, typed, KINDS};
+use seg2_differential::lent::Lent;
 use seg2_differential::spoiled::{At, Fault, Spoiled};
-use seg2_differential::{Archive, Case};
+use seg2_differential::{Answer, Archive, Call, Case, Forged, Library};
 
 /// A few cases of each kind, enough that every function is called and accepted.
 fn cases() -> Vec<Case> {
@@ -37,7 +38,8 @@ fn each_fault_is_noticed() {
     let integers: Piece = Fault::Integers;
     let patterns: Piece = Fault::Patterns;
     let classes: Piece = Fault::Classes;
-    let functions: [(&str, usize, &[Piece]); 15] = [
+    let text: Piece = Fault::Text;
+    let functions: [(&str, usize, &[Piece]); 17] = [
         ("check", 0, &[buffer]),
         ("file_block", 5, &[buffer]),
         ("trace_block", 5, &[buffer]),
@@ -45,11 +47,13 @@ fn each_fault_is_noticed() {
         ("string", 5, &[buffer]),
         ("keyword", 1, &[buffer, key]),
         ("value", 2, &[buffer, key]),
-        ("number", 3, &[buffer, key]),
+        ("number", 4, &[buffer, key]),
         ("double", 1, &[buffer, key]),
-        ("location", 4, &[buffer, key]),
+        ("location", 7, &[buffer, key]),
         ("integers", 0, &[buffer, integers]),
         ("bits", 0, &[buffer, patterns, classes]),
+        ("read_number", 4, &[text]),
+        ("write_number", 1, &[text]),
         ("start", 1, &[buffer, sheet]),
         ("add_integers", 1, &[buffer, sheet, integers]),
         ("add_bits", 1, &[buffer, sheet, patterns]),
@@ -65,7 +69,8 @@ fn each_fault_is_noticed() {
             // These three answer in registers.
             faults.push(Fault::Beside);
         }
-        if matches!(function, "integers" | "bits" | "start") || function.starts_with("add") {
+        let writes = matches!(function, "integers" | "bits" | "start" | "write_number");
+        if writes || function.starts_with("add") {
             faults.push(Fault::Nothing);
         }
         for fault in faults {
@@ -76,4 +81,57 @@ fn each_fault_is_noticed() {
         }
     }
     println!("{tried} faults noticed");
+}
+
+/// What becomes of a number on its way.
+type Change = fn(&mut Forged);
+
+/// The archive, but it writes another number than it was given.
+struct Misled(Change);
+
+impl Library for Misled {
+    fn call(&self, mut call: Call, length: usize, lent: &mut Lent) -> Answer {
+        if let Call::WriteNumber(number) = &mut call {
+            (self.0)(number);
+        }
+        Archive.call(call, length, lent)
+    }
+}
+
+/// Document 02, §4: what a writer of numbers gets wrong by taking less of them than it is
+/// given, or by showing another precision.
+#[test]
+fn a_writer_that_takes_another_number_is_noticed() {
+    let wrong: [(&str, Change); 7] = [
+        ("0.25 for 0.250", |n| {
+            while n.decimals > 0 && n.coefficient % 10 == 0 {
+                n.coefficient /= 10;
+                n.power = n.power.wrapping_add(1);
+                n.decimals -= 1;
+            }
+        }),
+        ("no decimals", |n| n.decimals = 0),
+        ("a minus of 1 alone", |n| n.minus = (n.minus == 1).into()),
+        ("a minus before zero", |n| {
+            n.minus *= u32::from(n.coefficient > 0)
+        }),
+        ("a coefficient of 63 bits", |n| {
+            n.coefficient &= u64::MAX >> 1
+        }),
+        ("decimals of 8 bits", |n| n.decimals &= 0xFF),
+        ("a power of 16 bits", |n| n.power = (n.power as i16).into()),
+    ];
+    let cases = |i: u64| {
+        let [mut a, mut b] = [630, 631].map(|seed| rng_of(seed, i));
+        [typed(&mut a), forged(&mut b)]
+    };
+    let cases: Vec<Case> = (0..400).flat_map(cases).collect();
+    for case in &cases {
+        assert_eq!(case.compare(&Archive).err(), None);
+    }
+    for (what, change) in wrong {
+        let misled = Misled(change);
+        let noticed = cases.iter().any(|case| case.compare(&misled).is_err());
+        assert!(noticed, "{what}");
+    }
 }

@@ -1,10 +1,11 @@
 //! Cases as text and back, and shrinking.
 
 use seg2_differential::case::{Base, Kind};
-use seg2_differential::draw::{grown, grown_from_image, rng_of, valid, KINDS};
+use seg2_differential::draw::{forged, grown, grown_from_image, rng_of, typed, valid, KINDS};
 use seg2_differential::shrink::shrunk;
 use seg2_differential::spoiled::{Fault, Spoiled};
 use seg2_differential::text::{read, written};
+use seg2_differential::Forged;
 use std::time::Duration;
 
 #[test]
@@ -68,4 +69,29 @@ fn shrinking() {
     };
     let image = Vec::new();
     assert_eq!((base, steps.len()), (&Base::Image { image }, 0));
+}
+
+/// A text goes byte by byte, a number value by value, down to nothing.
+#[test]
+fn shrinking_numbers() {
+    let most = Duration::from_secs(20);
+    let fault = Fault::Place;
+    let function = "read_number";
+    let spoiled = Spoiled { function, fault };
+    let case = shrunk(&typed(&mut rng_of(723, 1)), &spoiled, most);
+    let text = Vec::new();
+    assert_eq!(case.kind, Kind::Typed { text });
+
+    let function = "write_number";
+    let spoiled = Spoiled { function, fault };
+    for number in 0..20 {
+        let case = shrunk(&forged(&mut rng_of(724, number)), &spoiled, most);
+        let number = Forged {
+            minus: 0,
+            coefficient: 0,
+            power: 0,
+            decimals: 0,
+        };
+        assert_eq!(case.kind, Kind::Forged { number });
+    }
 }

@@ -1,7 +1,7 @@
 //! Document 01's worked values, through the archive's exported functions.
 
-use seg2_differential::answer::signed;
 use seg2_differential::case::Given;
+use seg2_differential::expected::number as number_answer;
 use seg2_differential::growing::add;
 use seg2_differential::{Answer, Archive, Call, Pair};
 use seg2_reference::worked::{
@@ -86,7 +86,7 @@ fn six_receivers_in_one_group() {
         let string = pair
             .ask(236, Call::String { part: 0, index })
             .expect("alike");
-        let [found, key, key_size, value, size] = string.values.map(|n| n as usize);
+        let [found, key, key_size, value, size, ..] = string.values.map(|n| n as usize);
         let buffer = &pair.memory().buffer;
         assert_eq!(found, 1);
         assert_eq!(&buffer[key..key + key_size], b"RECEIVER_GEOMETRY");
@@ -97,7 +97,7 @@ fn six_receivers_in_one_group() {
     let value = pair.ask(236, Call::Value { part: 0 });
     assert_eq!(value, Ok(Answer::good([starts[0], 2])));
     let number = pair.ask(236, Call::Number { part: 0 });
-    assert_eq!(number, Ok(Answer::good([1, 0, 5])));
+    assert_eq!(number, Ok(Answer::good([1, 0, 5, 0])));
     let x = (-5.0_f64).to_bits();
     assert_eq!(
         pair.ask(236, Call::Double { part: 0 }),
@@ -135,7 +135,7 @@ fn numbers() {
     };
     for &(text, number) in NUMBERS {
         let expected = match number {
-            Ok(n) => Answer::good([u64::from(n.minus), signed(n.power), n.coefficient]),
+            Ok(number) => number_answer(number),
             Err(row) => Answer::refused(row.into(), -1, 0),
         };
         assert_eq!(asked(text).0, expected, "{text}");
@@ -145,7 +145,8 @@ fn numbers() {
     assert_eq!(asked(NO_LOCATION).2, Answer::refused(23, -1, 0));
     assert_eq!(asked("1 2 x").2, Answer::refused(20, -1, 4));
     let [x, y, z] = [1.0_f64, -2.5, 3.0].map(f64::to_bits);
-    assert_eq!(asked("1 -2.5  3").2, Answer::good([3, x, y, z]));
+    let location = asked("1 -2.5  3.00").2;
+    assert_eq!(location, Answer::good([3, x, y, z, 0, 1, 2]));
     // An absent keyword: no number, no location.
     let (mut pair, length) = file_with(b"", 1, &[]);
     let length = length.values[0] as usize;

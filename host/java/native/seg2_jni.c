@@ -61,10 +61,10 @@ static bool apart(JNIEnv *env, lent a, lent b) {
     return true;
 }
 
-/* The bytes of a keyword or a sheet; to be given back by `returned`. */
+/* The bytes of a keyword, a sheet or a number's text; to be given back by `returned`. */
 static bool bytes(JNIEnv *env, jbyteArray array, lent *l) {
     if (array == NULL) {
-        misuse(env, "a keyword or sheet is null");
+        misuse(env, "a keyword, sheet or text is null");
         return false;
     }
     l->size = (size_t)(*env)->GetArrayLength(env, array);
@@ -167,15 +167,37 @@ NATIVE(void, nativeString)(JNIEnv *env, UNUSED jclass self, jobject buffer, jint
 
 KEYWORD_QUESTION(nativeKeyword, seg2_keyword, 4, a.found)
 KEYWORD_QUESTION(nativeValue, seg2_value, 5, (jlong)a.value_start, (jlong)a.value_length)
-KEYWORD_QUESTION(nativeNumber, seg2_number, 6, a.minus, a.power, (jlong)a.coefficient)
+KEYWORD_QUESTION(nativeNumber, seg2_number, 7, a.minus, a.power, (jlong)a.coefficient, a.decimals)
 KEYWORD_QUESTION(nativeDouble, seg2_double, 4, bits_of(a.value))
-KEYWORD_QUESTION(nativeLocation, seg2_location, 7, a.count, bits_of(a.x), bits_of(a.y), bits_of(a.z))
+KEYWORD_QUESTION(nativeLocation, seg2_location, 10, a.count, bits_of(a.x), bits_of(a.y), bits_of(a.z), a.x_decimals, a.y_decimals, a.z_decimals)
 
-/* ---- samples. An array goes through a copy, which is handed back only where the library has accepted; a direct buffer's memory is written itself. */
+/* ---- a number and its text */
 
-static jint handed_back(seg2_verdict v) {
-    return v.number == 0 ? 0 : JNI_ABORT;
+NATIVE(void, nativeReadNumber)(JNIEnv *env, UNUSED jclass self, jbyteArray text, jlongArray answer) {
+    lent t;
+    if (places(env, answer, 7) && bytes(env, text, &t)) {
+        struct seg2_number a = seg2_read_number_of(t.at, t.size);
+        returned(env, text, t);
+        TELL(a, a.minus, a.power, (jlong)a.coefficient, a.decimals);
+    }
 }
+
+/* The copy of an array that the library writes is handed back only where it has accepted. */
+static jint handed_back(uint32_t number) {
+    return number == 0 ? 0 : JNI_ABORT;
+}
+
+NATIVE(void, nativeWriteNumber)(JNIEnv *env, UNUSED jclass self, jbyteArray text, jboolean minus, jlong coefficient, jint power, jint decimals,
+                                jlongArray answer) {
+    lent t;
+    if (places(env, answer, 4) && bytes(env, text, &t)) {
+        seg2_length a = seg2_write_number_of(t.at, t.size, minus != JNI_FALSE, (uint64_t)coefficient, power, (uint32_t)decimals);
+        (*env)->ReleaseByteArrayElements(env, text, t.at, handed_back(a.number));
+        tell_length(env, answer, a);
+    }
+}
+
+/* ---- samples. An array goes through a copy, as a text does; a direct buffer's memory is written itself. */
 
 NATIVE(void, nativeIntegersArray)(JNIEnv *env, UNUSED jclass self, jobject buffer, jint size, jlong length, jint trace, jintArray row, jlongArray answer) {
     lent b;
@@ -186,7 +208,7 @@ NATIVE(void, nativeIntegersArray)(JNIEnv *env, UNUSED jclass self, jobject buffe
         jint *at = (*env)->GetIntArrayElements(env, row, NULL);
         if (at != NULL) {
             seg2_verdict v = seg2_integers(b.at, b.size, (size_t)length, trace, at, count);
-            (*env)->ReleaseIntArrayElements(env, row, at, handed_back(v));
+            (*env)->ReleaseIntArrayElements(env, row, at, handed_back(v.number));
             tell_verdict(env, answer, v);
         }
     }
@@ -215,8 +237,8 @@ NATIVE(void, nativeBits)(JNIEnv *env, UNUSED jclass self, jobject buffer, jint s
                 (*env)->ReleaseLongArrayElements(env, row, at, JNI_ABORT);
             } else {
                 seg2_verdict v = seg2_bits(b.at, b.size, (size_t)length, trace, (uint64_t *)at, count, (uint8_t *)class_at, class_count);
-                (*env)->ReleaseByteArrayElements(env, classes, class_at, handed_back(v));
-                (*env)->ReleaseLongArrayElements(env, row, at, handed_back(v));
+                (*env)->ReleaseByteArrayElements(env, classes, class_at, handed_back(v.number));
+                (*env)->ReleaseLongArrayElements(env, row, at, handed_back(v.number));
                 tell_verdict(env, answer, v);
             }
         }

@@ -1,9 +1,10 @@
 //! An independent SEG-2 reader and writer.
 //!
 //! It is written from the documents alone: document 01 ("What is required and
-//! the exact rules") decides, the 1990 paper (document 001) stands behind it.
+//! the exact rules") decides, with what document 02 ("What customers request later")
+//! adds; the 1990 paper (document 001) stands behind it.
 //! It is a yardstick: right and readable first, fast never. Comments name the
-//! section of document 01, or the row of its refusal table, that they carry out.
+//! section of the document, or the row of the refusal table, that they carry out.
 //! It shares no code with the proved library, its wrapper (`seg2`) or the plain Rust of
 //! the benchmarks: what looks alike there stays apart, or a comparison would say nothing.
 //!
@@ -30,7 +31,7 @@ pub mod write;
 
 pub use check::{check, check_for_addition, File, Trace, MAXIMUM_LENGTH};
 pub use listing::{listing, listing_program, LISTING_MAXIMUM};
-pub use number::{double, location, number, Location, Number};
+pub use number::{double, location, number, write_number, Location, Number};
 pub use questions::{
     file_block, keyword, keyword_value, note_lines, samples_as_bits, samples_as_integers, string,
     string_count, trace_block, FileBlock,

@@ -1,4 +1,5 @@
-//! Numbers, doubles and locations: document 01, "Numbers in values", rows 20 to 23.
+//! Numbers, doubles and locations: document 01, "Numbers in values", rows 20 to 23. Their
+//! decimals, and a number written back as text: document 02, §4.
 
 use crate::refusal::{refuse_if, Refusal};
 use crate::strings::is_separator;
@@ -10,6 +11,8 @@ pub struct Number {
     pub minus: bool,
     pub coefficient: u64,
     pub power: i32,
+    /// "The number answer should also carry how many digits stood after the point."
+    pub decimals: u32,
 }
 
 /// "The answer keeps how many there were; absent y and z are 0."
@@ -20,6 +23,8 @@ pub struct Location {
     pub z: f64,
     /// 1 or 3.
     pub count: u8,
+    /// "Locations then keep this count for each value": of x, y and z, 0 for an absent one.
+    pub decimals: [u32; 3],
 }
 
 /// "At most 18 digits before E, leading zeros counted, and at most 2 after it."
@@ -44,7 +49,47 @@ pub fn number(text: &[u8]) -> Result<Number, Refusal> {
         minus: written.minus && coefficient != 0,
         coefficient,
         power: sign * exponent - written.fraction.len() as i32,
+        decimals: written.fraction.len() as u32,
     })
+}
+
+/// "The app also writes a number answer back as text for a sheet": the text's length, or
+/// "20 zero with minus, 21 more than 18 digits or more than 2 after E, 30 no room, in that
+/// order", place 0. Any number may be given; bytes past the text stay.
+pub fn write_number(room: &mut [u8], number: Number) -> Result<usize, Refusal> {
+    let minus_zero = number.minus && number.coefficient == 0;
+    refuse_if(minus_zero, Refusal::file(20, 0))?;
+    let text = text_of(number).ok_or(Refusal::file(21, 0))?;
+    let place = room.get_mut(..text.len()).ok_or(Refusal::file(30, 0))?;
+    place.copy_from_slice(text.as_bytes());
+    Ok(text.len())
+}
+
+/// "exactly that many decimals, at least one digit before the point and otherwise no
+/// leading zero, then E with the power plus the count where this is not 0"; nothing where
+/// row 21 refuses it.
+fn text_of(number: Number) -> Option<String> {
+    let own = number.coefficient.to_string();
+    let decimals = number.decimals as usize;
+    // At least one digit before the point: zeros in front, where there are too few.
+    let count = own.len().max(decimals.saturating_add(1));
+    if count > MOST_DIGITS {
+        return None;
+    }
+    let digits = format!("{own:0>count$}");
+    let (whole, fraction) = digits.split_at(count - decimals);
+    let mut text = String::from(if number.minus { "-" } else { "" });
+    text += whole;
+    if decimals > 0 {
+        text += ".";
+        text += fraction;
+    }
+    match i64::from(number.power) + i64::from(number.decimals) {
+        0 => {}
+        exponent if exponent.abs().to_string().len() > MOST_EXPONENT_DIGITS => return None,
+        exponent => text += &format!("E{exponent}"),
+    }
+    Some(text)
 }
 
 /// "the coefficient, multiplied or divided once by ten to the absolute power
@@ -72,9 +117,12 @@ pub fn location(text: &[u8]) -> Result<Location, Refusal> {
     let starts = value_starts(text);
     refuse_if(!matches!(starts.len(), 1 | 3), Refusal::file(23, 0))?;
     let mut values = [0.0; 3];
-    for (value, &start) in values.iter_mut().zip(&starts) {
+    let mut decimals = [0; 3];
+    for (i, &start) in starts.iter().enumerate() {
         let written = first_value(&text[start..]);
-        *value = double(written).map_err(|refusal| Refusal::file(refusal.number, start))?;
+        let at_start = |refusal: Refusal| Refusal::file(refusal.number, start);
+        values[i] = double(written).map_err(at_start)?;
+        decimals[i] = number(written).map_err(at_start)?.decimals;
     }
     let [x, y, z] = values;
     Ok(Location {
@@ -82,6 +130,7 @@ pub fn location(text: &[u8]) -> Result<Location, Refusal> {
         y,
         z,
         count: starts.len() as u8,
+        decimals,
     })
 }
 

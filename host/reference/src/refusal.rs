@@ -19,7 +19,8 @@ pub struct Refusal {
     /// -1 for the file, else the trace.
     pub part: i64,
     /// A byte position in the file, for 25 and 26 in the sheet, for 20 to 22 in
-    /// the text, for 29 the sample's index; 0 where the table says so.
+    /// the text (0 where a number is written), for 29 the sample's index; 0 where
+    /// the table says so.
     pub place: u64,
 }
 

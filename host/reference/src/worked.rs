@@ -1,26 +1,76 @@
-//! Document 01's worked values and the paper's numbers as tables: inputs with their
-//! answers, for the tests of the reader here and of the proved functions alike. Nothing
-//! here uses the reader's or the writer's code.
+//! Document 01's worked values, document 02's and the paper's numbers as tables: inputs
+//! with their answers, for the tests of the reader here and of the proved functions
+//! alike. Nothing here uses the reader's or the writer's code.
 
 use crate::number::Number;
 use crate::words::Order;
 
-const fn number(minus: bool, coefficient: u64, power: i32) -> Number {
+const fn number(minus: bool, coefficient: u64, power: i32, decimals: u32) -> Number {
     Number {
         minus,
         coefficient,
         power,
+        decimals,
     }
 }
 
 /// Texts and what each is as a number; a refusal by its number, at place 0.
 pub const NUMBERS: &[(&str, Result<Number, u8>)] = &[
-    ("-2.3E6", Ok(number(true, 23, 5))),
-    ("0.020", Ok(number(false, 20, -3))),
-    ("-34.6", Ok(number(true, 346, -1))),
+    ("-2.3E6", Ok(number(true, 23, 5, 1))),
+    ("0.020", Ok(number(false, 20, -3, 3))),
+    ("-34.6", Ok(number(true, 346, -1, 1))),
     ("0,020", Err(20)),
     ("12.", Err(20)),
-    ("1.345E24", Ok(number(false, 1345, 21))),
+    ("1.345E24", Ok(number(false, 1345, 21, 3))),
+];
+
+/// Document 02, §4: "`0.250` gives 3, `12` gives 0, `2.50E-3` gives 2". Each is written
+/// back as it stands, and so are those behind them.
+pub const DECIMALS: &[(&str, Number)] = &[
+    ("0.250", number(false, 250, -3, 3)),
+    ("12", number(false, 12, 0, 0)),
+    ("2.50E-3", number(false, 250, -5, 2)),
+    ("0", number(false, 0, 0, 0)),
+    ("0.00", number(false, 0, -2, 2)),
+    ("-2.3E6", number(true, 23, 5, 1)),
+    ("-34.6", number(true, 346, -1, 1)),
+    ("0.00000000000000005E17", number(false, 5, 0, 17)),
+    ("999999999999999999", number(false, LARGEST, 0, 0)),
+    ("9.99999999999999999E99", number(false, LARGEST, 82, 17)),
+    (LONGEST_TEXT, number(true, LONGEST, -116, 17)),
+];
+
+/// The largest coefficient of 18 digits.
+const LARGEST: u64 = 999_999_999_999_999_999;
+const LONGEST: u64 = 123_456_789_012_345_678;
+
+/// A number's longest text, of 24 bytes.
+pub const LONGEST_TEXT: &str = "-1.23456789012345678E-99";
+
+/// Numbers that are not written, with the row that refuses them however much room there
+/// is: "20 zero with minus, 21 more than 18 digits or more than 2 after E".
+pub const NOT_WRITTEN: &[(Number, u8)] = &[
+    (number(true, 0, 0, 0), 20),
+    (number(true, 0, -2, 2), 20),
+    // 20 comes before 21
+    (number(true, 0, 100, 0), 20),
+    (number(true, 0, 0, u32::MAX), 20),
+    // digits: the coefficient's own, and zeros down to one before the point
+    (number(false, LARGEST + 1, 0, 0), 21),
+    (number(false, LARGEST + 1, -3, 3), 21),
+    (number(true, u64::MAX, 0, 0), 21),
+    (number(false, 5, 0, 18), 21),
+    (number(false, 0, 0, 18), 21),
+    (number(false, 0, i32::MIN, 1 << 31), 21),
+    (number(false, 0, i32::MAX, u32::MAX), 21),
+    // after E: the power plus the count
+    (number(false, 1, 100, 0), 21),
+    (number(false, 1, -100, 0), 21),
+    (number(false, 10, 99, 1), 21),
+    (number(false, 10, -101, 1), 21),
+    (number(false, 0, 100, 0), 21),
+    (number(false, 1, i32::MAX, 17), 21),
+    (number(false, 1, i32::MIN, 17), 21),
 ];
 
 /// A number, and 22 as a double, at place 0.
@@ -31,14 +81,14 @@ pub const NO_LOCATION: &str = "1 2";
 
 /// The paper: "The numbers in the following list are allowable numeric expressions."
 pub const PAPER_NUMBERS: &[(&str, Number)] = &[
-    ("12", number(false, 12, 0)),
-    ("-3", number(true, 3, 0)),
-    ("12.657", number(false, 12657, -3)),
-    ("-34.6", number(true, 346, -1)),
-    ("1.345E24", number(false, 1345, 21)),
-    ("-2.3E6", number(true, 23, 5)),
-    ("5.6E-11", number(false, 56, -12)),
-    ("-2.0E-9", number(true, 20, -10)),
+    ("12", number(false, 12, 0, 0)),
+    ("-3", number(true, 3, 0, 0)),
+    ("12.657", number(false, 12657, -3, 3)),
+    ("-34.6", number(true, 346, -1, 1)),
+    ("1.345E24", number(false, 1345, 21, 3)),
+    ("-2.3E6", number(true, 23, 5, 1)),
+    ("5.6E-11", number(false, 56, -12, 1)),
+    ("-2.0E-9", number(true, 20, -10, 1)),
 ];
 
 /// Some of them as doubles.

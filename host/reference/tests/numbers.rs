@@ -27,7 +27,7 @@ fn locations() {
     for _ in 0..10_000 {
         let case = location_case(&mut rng);
         let text = String::from_utf8_lossy(&case.text).into_owned();
-        let bits = |l: Location| (l.x.to_bits(), l.y.to_bits(), l.z.to_bits(), l.count);
+        let bits = |l: Location| ([l.x, l.y, l.z].map(f64::to_bits), l.count, l.decimals);
         let found = location(&case.text).map(bits);
         assert_eq!(found, case.expected.map(bits), "{text}");
         met.insert(case.kind());

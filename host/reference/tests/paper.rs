@@ -96,6 +96,7 @@ fn figures_c_1_and_c_2_in_a_file() {
         y: 0.0,
         z: 0.25,
         count: 3,
+        decimals: [1, 0, 2],
     };
     assert_eq!(location(&bytes[place]), Ok(expected));
     let place = keyword_value(&bytes, bytes.len(), 0, b"SOURCE_LOCATION");

@@ -296,16 +296,17 @@ fn numbers() {
     assert_eq!(number(b" 1"), no(20));
     assert_eq!(number(b"1 "), no(20));
     // `0E99` is a number, and 22 as a double; zero has sign plus.
-    let zero = |power| {
+    let zero = |power, decimals| {
         Ok(Number {
             minus: false,
             coefficient: 0,
             power,
+            decimals,
         })
     };
-    assert_eq!(number(b"0E99"), zero(99));
+    assert_eq!(number(b"0E99"), zero(99, 0));
     assert_eq!(double(b"0E99"), Err(refusal(22, -1, 0)));
-    assert_eq!(number(b"-0.00E-7"), zero(-9));
+    assert_eq!(number(b"-0.00E-7"), zero(-9, 2));
     assert_eq!(double(b"-0.0").map(f64::to_bits), Ok(0));
     // The edges of the double case.
     assert_eq!(double(b"9007199254740991"), Ok(9007199254740991.0));
@@ -320,9 +321,20 @@ fn numbers() {
 #[test]
 fn locations() {
     let no = |n, place| Err(refusal(n, -1, place));
-    let yes = |x, y, z, count| Ok(Location { x, y, z, count });
-    assert_eq!(location(b"120.5"), yes(120.5, 0.0, 0.0, 1));
-    assert_eq!(location(b" \t120.5 0\t -0.25 "), yes(120.5, 0.0, -0.25, 3));
+    let yes = |[x, y, z]: [f64; 3], count, decimals| {
+        Ok(Location {
+            x,
+            y,
+            z,
+            count,
+            decimals,
+        })
+    };
+    assert_eq!(location(b"120.5"), yes([120.5, 0.0, 0.0], 1, [1, 0, 0]));
+    assert_eq!(
+        location(b" \t120.5 0\t -0.250 "),
+        yes([120.5, 0.0, -0.25], 3, [1, 0, 3])
+    );
     assert_eq!(location(b""), no(23, 0));
     assert_eq!(location(b" \t"), no(23, 0));
     assert_eq!(location(b"1 2 3 4"), no(23, 0));

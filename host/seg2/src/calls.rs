@@ -83,6 +83,25 @@ pub fn bits(
     unsafe { raw::seg2_bits(bytes, size, length, trace, to, count, class, class_count) }
 }
 
+pub fn read_number(text: &[u8]) -> raw::Number {
+    // SAFETY: a place for the answer; pointer and size of one slice
+    answered(|a| unsafe { raw::seg2_read_number(a, text.as_ptr(), text.len()) })
+}
+
+pub fn write_number(
+    text: &mut [u8],
+    minus: u32,
+    coefficient: u64,
+    power: i32,
+    decimals: u32,
+) -> raw::Length {
+    let (to, size) = (text.as_mut_ptr(), text.len());
+    // SAFETY: a place for the answer; pointer and size of one slice, lent for writing
+    answered(|a| unsafe {
+        raw::seg2_write_number(a, to, size, minus, coefficient, power, decimals)
+    })
+}
+
 pub fn start(buffer: &mut [u8], order: u32, slots: u32, sheet: &[u8]) -> raw::Length {
     let (image, size) = (buffer.as_mut_ptr(), buffer.len());
     let (text, text_size) = (sheet.as_ptr(), sheet.len());

@@ -23,11 +23,12 @@
 //!
 //! # Cost
 //!
-//! Every exported function checks the whole file before it answers, so every question
-//! of [`File`] and [`Trace`] does, and every item of their iterators. A check looks at
-//! each block and each string once, not at the samples. Each doc comment says how many
-//! calls it makes; where it says nothing it makes one. What needs no call is free: it
-//! was learned when the file or the trace was opened.
+//! Every exported function that is lent a file checks all of it before it answers, so
+//! every question of [`File`] and [`Trace`] does, and every item of their iterators. A
+//! check looks at each block and each string once, not at the samples. Each doc comment
+//! says how many calls it makes; where it says nothing it makes one. What needs no call is
+//! free: it was learned when the file or the trace was opened. A [`Number`] is read from a
+//! text and written as one without a file.
 //!
 //! So all strings of a file of some hundred traces take as many checks as there are
 //! strings. [`File::walk`] lists them in one pass; it is the only part of this crate that
@@ -43,6 +44,7 @@
 #[doc(hidden)]
 pub mod calls;
 mod file;
+mod number;
 mod part;
 #[doc(hidden)]
 pub mod raw;
@@ -52,6 +54,7 @@ mod walk;
 mod write;
 
 pub use file::{File, Traces};
+pub use number::{Location, Number};
 pub use part::{Lines, Strings};
 pub use refusal::{numbers, text, Place, Refusal};
 pub use trace::{Bits, Class, Trace};
@@ -83,6 +86,17 @@ pub const MAXIMUM_AREA: usize = 65_500;
 /// assert_eq!(Builder::start(Order::Low, MAXIMUM_SLOTS + 1, b"").unwrap_err().number, 31);
 /// ```
 pub const MAXIMUM_SLOTS: u32 = 16_383;
+
+/// The text of a number is at most this many bytes long where we write it.
+///
+/// ```
+/// let longest = seg2::Number::read(b"-1.23456789012345678E-99")?;
+/// let mut text = [0; seg2::MAXIMUM_NUMBER_TEXT];
+/// assert_eq!(longest.write(&mut text), Ok(24));
+/// assert_eq!(longest.write(&mut text[..23]).unwrap_err().number, 30);
+/// # Ok::<(), seg2::Refusal>(())
+/// ```
+pub const MAXIMUM_NUMBER_TEXT: usize = 24;
 
 /// The format codes by name.
 ///
@@ -126,52 +140,6 @@ pub enum Order {
     Low,
     /// The high byte first.
     High,
-}
-
-/// A number as it was written: the coefficient times ten to the power, negated where
-/// `minus`. Zero has no minus.
-///
-/// ```
-/// use seg2::{Builder, File, Number, Order};
-/// let mut shot = Builder::start(Order::Low, 1, b"DELAY\t-0.020\n")?;
-/// shot.add_integers(b"", 1, &[])?;
-/// let file = File::open(shot.bytes())?;
-/// assert_eq!(file.number(b"DELAY")?, Number { minus: true, coefficient: 20, power: -3 });
-/// # Ok::<(), seg2::Refusal>(())
-/// ```
-#[derive(Clone, Copy, Debug, PartialEq, Eq)]
-pub struct Number {
-    /// Whether a minus stands before a number that is not zero.
-    pub minus: bool,
-    /// All digits before E as one whole number.
-    pub coefficient: u64,
-    /// The power of ten.
-    pub power: i32,
-}
-
-/// A location: x alone, or x, y and z; absent ones are 0.
-///
-/// ```
-/// use seg2::{Builder, File, Location, Order};
-/// let mut shot = Builder::start(Order::Low, 1, b"")?;
-/// shot.add_integers(b"SOURCE_LOCATION\t1 -2 0.5\n", 1, &[])?;
-/// let file = File::open(shot.bytes())?;
-/// assert_eq!(
-///     file.trace(0)?.location(b"SOURCE_LOCATION")?,
-///     Location { count: 3, x: 1.0, y: -2.0, z: 0.5 }
-/// );
-/// # Ok::<(), seg2::Refusal>(())
-/// ```
-#[derive(Clone, Copy, Debug, PartialEq)]
-pub struct Location {
-    /// How many values there were: 1 or 3.
-    pub count: u32,
-    /// Along the line.
-    pub x: f64,
-    /// Across the line.
-    pub y: f64,
-    /// Up.
-    pub z: f64,
 }
 
 /// Whether the first `length` bytes of the buffer are a file that keeps the rules;

@@ -53,12 +53,8 @@ impl<'a> Part<'a> {
     }
 
     pub fn number(self, keyword: &[u8]) -> Result<Number, Refusal> {
-        let answer = calls::number(self.buffer, self.length, self.number, keyword).told()?;
-        Ok(Number {
-            minus: answer.minus == 1,
-            coefficient: answer.coefficient,
-            power: answer.power,
-        })
+        let answer = calls::number(self.buffer, self.length, self.number, keyword);
+        Ok(Number::of(answer.told()?))
     }
 
     pub fn double(self, keyword: &[u8]) -> Result<f64, Refusal> {
@@ -73,6 +69,9 @@ impl<'a> Part<'a> {
             x: answer.x,
             y: answer.y,
             z: answer.z,
+            x_decimals: answer.x_decimals,
+            y_decimals: answer.y_decimals,
+            z_decimals: answer.z_decimals,
         })
     }
 }

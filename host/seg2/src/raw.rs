@@ -75,19 +75,19 @@ answer!(
     Value { value_start: usize, value_length: usize }
 );
 answer!(
-    /// Sign (1 minus), power of ten, coefficient.
-    Number { minus: u32, power: i32, coefficient: u64 }
+    /// Sign (1 minus), power of ten, coefficient, how many digits stood after the point.
+    Number { minus: u32, power: i32, coefficient: u64, decimals: u32 }
 );
 answer!(
     /// A double.
     Double { value: f64 }
 );
 answer!(
-    /// How many values, and the values.
-    Location { count: u32, x: f64, y: f64, z: f64 }
+    /// How many values, the values, and how many digits stood after the point of each.
+    Location { count: u32, x: f64, y: f64, z: f64, x_decimals: u32, y_decimals: u32, z_decimals: u32 }
 );
 answer!(
-    /// The image's new length.
+    /// The image's new length, or the length of a number's text.
     Length { length: usize }
 );
 
@@ -106,6 +106,8 @@ extern "C" {
     pub fn seg2_location(answer: *mut Location, buffer: *const u8, size: usize, length: usize, part: i32, key: *const u8, key_size: usize);
     pub fn seg2_integers(buffer: *const u8, size: usize, length: usize, trace: i32, row: *mut i32, row_size: usize) -> Verdict;
     pub fn seg2_bits(buffer: *const u8, size: usize, length: usize, trace: i32, row: *mut u64, row_size: usize, classes: *mut u8, classes_size: usize) -> Verdict;
+    pub fn seg2_read_number(answer: *mut Number, text: *const u8, size: usize);
+    pub fn seg2_write_number(answer: *mut Length, text: *mut u8, size: usize, minus: u32, coefficient: u64, power: i32, decimals: u32);
     pub fn seg2_start(answer: *mut Length, buffer: *mut u8, size: usize, order: u32, slots: u32, sheet: *const u8, sheet_size: usize);
     pub fn seg2_add_integers(answer: *mut Length, buffer: *mut u8, size: usize, length: usize, sheet: *const u8, sheet_size: usize, code: u32, row: *const i32, row_size: usize);
     pub fn seg2_add_bits(answer: *mut Length, buffer: *mut u8, size: usize, length: usize, sheet: *const u8, sheet_size: usize, code: u32, row: *const u64, row_size: usize);

@@ -17,8 +17,9 @@ pub struct Refusal {
     pub number: u32,
     /// -1 for the file, else the trace.
     pub part: i32,
-    /// A byte of the file; for 20 to 22 of the value, for 25 and 26 of the sheet; for 29
-    /// a sample's index; 0 for the rows that have no place.
+    /// A byte of the file; for 20 to 22 of the value (0 for a text by itself and for a
+    /// number to be written), for 25 and 26 of the sheet; for 29 a sample's index; 0 for the
+    /// rows that have no place.
     pub place: usize,
 }
 
@@ -33,7 +34,7 @@ pub struct Refusal {
 pub enum Place {
     /// Bytes of the file.
     File,
-    /// Bytes of a keyword's value.
+    /// Bytes of a keyword's value, or of a number's text.
     Value,
     /// Bytes of the sheet.
     Sheet,
@@ -128,7 +129,7 @@ const TABLE: &[(u32, &str)] = &[
     (17, "the keyword is out of order, or there twice (only RECEIVER_GEOMETRY and SOURCE_GEOMETRY may repeat)"),
     (18, "the file has no such part; traces count from 0"),
     (19, "the listing program's input is longer than 65,536 bytes"),
-    (20, "this is not a number, or the keyword is missing"),
+    (20, "this is not a number, the keyword is missing, or a zero to be written has a minus"),
     (21, "the number has too many digits"),
     (22, "the number is too long, too large or too small to be taken as a double"),
     (23, "a location is one value or three: here is another number of values, or the keyword is missing"),

@@ -56,7 +56,7 @@ fn functions_of_the_face() -> Vec<String> {
 #[test]
 fn the_same_functions_are_declared_everywhere() {
     let exported = functions_of_the_face();
-    assert!(exported.len() >= 15, "{exported:?}");
+    assert!(exported.len() >= 17, "{exported:?}");
     let raw = read(here().join("src/raw.rs"));
     let in_rust = raw.lines().filter_map(|l| name_after(l, "pub fn seg2_"));
     let in_rust = sorted(in_rust.map(|name| format!("seg2_{name}")).collect());
@@ -250,7 +250,7 @@ fn raw_lays_structs_out_as_the_library_does() {
         ),
         (
             "seg2_number",
-            raw_layout!(Number: number, part, place, minus, power, coefficient),
+            raw_layout!(Number: number, part, place, minus, power, coefficient, decimals),
         ),
         (
             "seg2_double",
@@ -258,7 +258,8 @@ fn raw_lays_structs_out_as_the_library_does() {
         ),
         (
             "seg2_location",
-            raw_layout!(Location: number, part, place, count, x, y, z),
+            raw_layout!(Location: number, part, place, count, x, y, z,
+                x_decimals, y_decimals, z_decimals),
         ),
         (
             "seg2_length",

@@ -26,6 +26,17 @@ static void told_verdict(const char *what, seg2_verdict v) {
     printf("\n");
 }
 
+static void told_number(const char *what, struct seg2_number a) {
+    refusal(what, a.number, a.part, a.place);
+    printf(" minus %u %lu E %d decimals %u\n", (unsigned)a.minus, (unsigned long)a.coefficient, (int)a.power, (unsigned)a.decimals);
+}
+
+static void told_location(struct seg2_location a) {
+    refusal("location", a.number, a.part, a.place);
+    printf(" count %u %g %g %g decimals %u %u %u\n", (unsigned)a.count, a.x, a.y, a.z, (unsigned)a.x_decimals, (unsigned)a.y_decimals,
+           (unsigned)a.z_decimals);
+}
+
 static size_t told_length(const char *what, seg2_length a) {
     refusal(what, a.number, a.part, a.place);
     printf(" length %lu\n", (unsigned long)a.length);
@@ -86,16 +97,14 @@ static void ask(size_t length) {
     printf(" '%.*s' at %lu\n", (int)value.value_length, (const char *)buffer + value.value_start, (unsigned long)value.value_start);
 
     seg2_number(&number, buffer, size, length, 0, bytes("STACK"), 5);
-    refusal("number", number.number, number.part, number.place);
-    printf(" minus %u %lu E %d\n", (unsigned)number.minus, (unsigned long)number.coefficient, (int)number.power);
+    told_number("number", number);
 
     seg2_double(&twice, buffer, size, length, 0, bytes("STACK"), 5);
     refusal("double", twice.number, twice.part, twice.place);
     printf(" %g\n", twice.value);
 
     seg2_location(&location, buffer, size, length, 0, bytes("STACK"), 5);
-    refusal("location", location.number, location.part, location.place);
-    printf(" count %u %g %g %g\n", (unsigned)location.count, location.x, location.y, location.z);
+    told_location(location);
 
     told_verdict("integers", seg2_integers(buffer, size, length, 0, row, 3));
     printf("row %d %d %d\n", (int)row[0], (int)row[1], (int)row[2]);
@@ -132,6 +141,42 @@ static void ask_wrongly(size_t length) {
     printf("%s\n", memcmp(before, buffer, size) == 0 ? "unchanged" : "changed");
 }
 
+/* A number that a user typed, and its text as a sheet gets it: with its own decimals. No file is needed for either. */
+static void numbers_and_texts(void) {
+    const char *const typed[] = {"0.250", "12", "2.50E-3", "-00.0", "0,25", "1E100", "", "-1.23456789012345678E-99"};
+    uint8_t text[SEG2_MAXIMUM_NUMBER_TEXT + 1];
+    struct seg2_number number;
+    seg2_length answer;
+    size_t i;
+
+    for (i = 0; i < sizeof typed / sizeof typed[0]; i++) {
+        seg2_read_number(&number, bytes(typed[i]), strlen(typed[i]));
+        told_number("typed", number);
+        if (number.number != 0) {
+            continue;
+        }
+        memset(text, '_', sizeof text);
+        seg2_write_number(&answer, text, sizeof text, number.minus, number.coefficient, number.power, number.decimals);
+        told_length("text", answer);
+        printf("'%.*s' then %c\n", (int)answer.length, (const char *)text, text[answer.length]);
+    }
+    memset(text, '_', sizeof text);
+    told_length("zero with minus", seg2_write_number_of(text, sizeof text, 1, 0, 0, 0));
+    told_length("19 digits", seg2_write_number_of(text, sizeof text, 0, 1000000000000000000u, 0, 0));
+    told_length("18 decimals", seg2_write_number_of(text, sizeof text, 0, 5, 0, 18));
+    told_length("E100", seg2_write_number_of(text, sizeof text, 0, 5, 100, 0));
+    told_length("an exact sum", seg2_write_number_of(text, sizeof text, 0, 5, INT32_MIN, 0x80000000u));
+    told_length("no room", seg2_write_number_of(text, 4, 0, 250, -3, 3));
+    told_length("no bytes", seg2_write_number_of(text, 0, 0, 7, 0, 0));
+    for (i = 0; i < sizeof text && text[i] == '_'; i++) {
+    }
+    printf("%s\n", i == sizeof text ? "unchanged" : "changed");
+    told_length("exactly room", seg2_write_number_of(text, 5, 0, 250, -3, 3));
+    told_length("any minus", seg2_write_number_of(text, sizeof text, 4294967295u, 7, 0, 0));
+    printf("%.6s\n", (const char *)text);
+    told_number("read", seg2_read_number_of(text, 2));
+}
+
 int main(void) {
     const size_t size = sizeof buffer;
     const int32_t samples[3] = {1, -1, 256};
@@ -165,9 +210,9 @@ int main(void) {
     told_length("no room", seg2_start_of(buffer, 39, 0, 1, bytes(""), 0));
     printf("%s\n", memcmp(before, buffer, size) == 0 ? "unchanged" : "changed");
 
-    /* high byte first, codes 3 and 5 */
+    /* high byte first, codes 3 and 5, decimals of a location */
     length = told_length("start", seg2_start_of(buffer, size, SEG2_HIGH_FIRST, 3, bytes(""), 0));
-    length = told_length("add 3", seg2_add_integers_of(buffer, size, length, bytes("RECEIVER_LOCATION\t1 -2.5 3\n"), 27, SEG2_FLOAT_20, groups, 4));
+    length = told_length("add 3", seg2_add_integers_of(buffer, size, length, bytes("RECEIVER_LOCATION\t1 -2.5 3.00\n"), 30, SEG2_FLOAT_20, groups, 4));
     seg2_add_bits(&answer, buffer, size, length, bytes(""), 0, SEG2_FLOAT_64, doubles, 2);
     length = told_length("add 5", answer);
     told_length("too large", seg2_add_integers_of(buffer, size, length, bytes(""), 0, SEG2_FLOAT_20, large, 4));
@@ -176,11 +221,8 @@ int main(void) {
     printf("row %d %d %d %d\n", (int)row[0], (int)row[1], (int)row[2], (int)row[3]);
     told_verdict("bits", seg2_bits(buffer, size, length, 1, patterns, 2, classes, 2));
     printf("row %016lX %u %016lX %u\n", (unsigned long)patterns[0], (unsigned)classes[0], (unsigned long)patterns[1], (unsigned)classes[1]);
-    {
-        struct seg2_location location = seg2_location_of(buffer, size, length, 0, bytes("RECEIVER_LOCATION"), 17);
-        refusal("location", location.number, location.part, location.place);
-        printf(" count %u %g %g %g\n", (unsigned)location.count, location.x, location.y, location.z);
-    }
+    told_location(seg2_location_of(buffer, size, length, 0, bytes("RECEIVER_LOCATION"), 17));
+    numbers_and_texts();
 
     /* a lower-case letter in trace 0's keyword, in words */
     {

@@ -1,6 +1,6 @@
 //! The header against the archive: a C program that includes it, compiled with
 //! warnings as errors and under the sanitizers, calls every function and gets the
-//! answers that document 01 gives.
+//! answers that documents 01 and 02 give.
 
 mod c;
 
@@ -22,9 +22,9 @@ string past the last: 0 -1 0 found 0 0 0 0 0
 keyword: 0 -1 0 found 1
 no keyword: 0 -1 0 found 0
 value: 0 -1 0 'METERS' at 44
-number: 0 -1 0 minus 0 1 E 0
+number: 0 -1 0 minus 0 1 E 0 decimals 0
 double: 0 -1 0 1
-location: 0 -1 0 count 1 1 0 0
+location: 0 -1 0 count 1 1 0 0 decimals 0 0 0
 integers: 0 -1 0
 row 1 -1 256
 value of no part: 18 -1 0 at 0 length 0
@@ -46,15 +46,45 @@ a line out of order: 26 -1 4 length 0
 no room: 30 -1 0 length 0
 unchanged
 start: 0 -1 0 length 48
-add 3: 0 -1 0 length 124
-add 5: 0 -1 0 length 176
+add 3: 0 -1 0 length 128
+add 5: 0 -1 0 length 180
 too large: 29 -1 2 length 0
 bits as code 1: 28 -1 0 length 0
 integers 3: 0 -1 0
 row 100000 -32768 1073709056 20
 bits: 0 -1 0
 row 7FF0000000000000 3 8000000000000000 0
-location: 0 -1 0 count 3 1 -2.5 3
+location: 0 -1 0 count 3 1 -2.5 3 decimals 0 1 2
+typed: 0 -1 0 minus 0 250 E -3 decimals 3
+text: 0 -1 0 length 5
+'0.250' then _
+typed: 0 -1 0 minus 0 12 E 0 decimals 0
+text: 0 -1 0 length 2
+'12' then _
+typed: 0 -1 0 minus 0 250 E -5 decimals 2
+text: 0 -1 0 length 7
+'2.50E-3' then _
+typed: 0 -1 0 minus 0 0 E -1 decimals 1
+text: 0 -1 0 length 3
+'0.0' then _
+typed: 20 -1 0 minus 0 0 E 0 decimals 0
+typed: 21 -1 0 minus 0 0 E 0 decimals 0
+typed: 20 -1 0 minus 0 0 E 0 decimals 0
+typed: 0 -1 0 minus 1 123456789012345678 E -116 decimals 17
+text: 0 -1 0 length 24
+'-1.23456789012345678E-99' then _
+zero with minus: 20 -1 0 length 0
+19 digits: 21 -1 0 length 0
+18 decimals: 21 -1 0 length 0
+E100: 21 -1 0 length 0
+an exact sum: 21 -1 0 length 0
+no room: 30 -1 0 length 0
+no bytes: 30 -1 0 length 0
+unchanged
+exactly room: 0 -1 0 length 5
+any minus: 0 -1 0 length 2
+-7250_
+read: 0 -1 0 minus 1 7 E 0 decimals 0
 16 in trace 0 at its first string 1: a forbidden character in a keyword or value, or an empty keyword
 ";
 
@@ -166,14 +196,37 @@ fn a_refusal_is_told_as_the_list_has_it() {
     assert_eq!(numbers, seg2::numbers().collect());
 }
 
-#[test]
-fn the_first_lines_of_c_in_the_docs_work() {
+/// The n-th lines of C in docs/USING.md, counted from 0.
+fn lines_of_c(n: usize) -> String {
     let page = std::fs::read_to_string(root().join("docs/USING.md")).expect("the page");
-    let (_, lines) = page.split_once("```c\n").expect("lines of C");
+    let lines = page.split("```c\n").nth(n + 1).expect("lines of C");
     let (lines, _) = lines.split_once("```").expect("their end");
-    let source = Temporary::new("using.c");
+    lines.to_string()
+}
+
+/// What a C program prints that was compiled with all sanitizers.
+fn printed_by(name: &str, lines: &str) -> String {
+    let source = Temporary::new(&format!("{name}.c"));
     std::fs::write(source.path(), lines).expect("a source for the test");
     let options = [&["-std=c99"], &SANITIZED[..]].concat();
-    let program = compiled("cc", &options, source.path(), "using").expect("a C compiler");
-    assert_eq!(printed(&program), "accepted, 200 bytes\nMETERS\n");
+    let program = compiled("cc", &options, source.path(), name).expect("a C compiler");
+    printed(&program)
+}
+
+#[test]
+fn the_first_lines_of_c_in_the_docs_work() {
+    let told = printed_by("using", &lines_of_c(0));
+    assert_eq!(told, "accepted, 200 bytes\nMETERS\n");
+}
+
+#[test]
+fn the_lines_on_numbers_in_the_docs_work() {
+    // they stand in a program of the reader's own; the first lines have what goes before it
+    let first = lines_of_c(0);
+    let (before, _) = first.split_once("static").expect("a program");
+    let program = format!(
+        "{before}int main(void) {{\n{}return 0;\n}}\n",
+        lines_of_c(1)
+    );
+    assert_eq!(printed_by("numbers", &program), "0.250\n");
 }

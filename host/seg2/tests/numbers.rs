@@ -1,11 +1,14 @@
 //! Numbers, doubles and locations as the face reads them out of a file: document 01's
 //! worked values, the paper's list, and generated texts beside the reference. Each text
-//! is the value of a keyword, of the file and of a trace.
+//! is the value of a keyword, of the file and of a trace. Each is read as a text by itself
+//! too, and a number is written back with its own decimals (document 02, §4).
 
 use seg2::{calls, raw};
 use seg2_reference::generate::{location_case, number_case, plain_file, PlainTrace, Rng};
 use seg2_reference::strings::is_separator;
-use seg2_reference::worked::{NO_DOUBLE, NO_LOCATION, NUMBERS, PAPER_DOUBLES, PAPER_NUMBERS};
+use seg2_reference::worked::{
+    DECIMALS, NOT_WRITTEN, NO_DOUBLE, NO_LOCATION, NUMBERS, PAPER_DOUBLES, PAPER_NUMBERS,
+};
 use seg2_reference::{self as reference, Location, Number, Order, Refusal};
 use std::collections::{BTreeMap, BTreeSet};
 
@@ -13,7 +16,7 @@ use std::collections::{BTreeMap, BTreeSet};
 struct Told {
     number: raw::Number,
     double: (u32, i32, usize, u64),
-    location: (u32, i32, usize, u32, [u64; 3]),
+    location: (u32, i32, usize, u32, [u64; 3], [u32; 3]),
 }
 
 /// A file in which a keyword of the file's own and one of its only trace have the text
@@ -50,7 +53,35 @@ fn asked(bytes: &[u8], part: i32) -> Told {
             l.place,
             l.count,
             [l.x, l.y, l.z].map(f64::to_bits),
+            [l.x_decimals, l.y_decimals, l.z_decimals],
         ),
+    }
+}
+
+/// Number, part and place of a refusal.
+fn told(refusal: Refusal) -> (u32, i32, usize) {
+    let Refusal {
+        number,
+        part,
+        place,
+    } = refusal;
+    (u32::from(number), part as i32, place as usize)
+}
+
+/// A number answer of the reference in the face's form. After a refusal all else is 0.
+fn number_told(answer: Result<Number, Refusal>) -> raw::Number {
+    let (refused, n) = match answer {
+        Ok(number) => ((0, -1, 0), Some(number)),
+        Err(refusal) => (told(refusal), None),
+    };
+    raw::Number {
+        number: refused.0,
+        part: refused.1,
+        place: refused.2,
+        minus: n.map_or(0, |n| n.minus.into()),
+        power: n.map_or(0, |n| n.power),
+        coefficient: n.map_or(0, |n| n.coefficient),
+        decimals: n.map_or(0, |n| n.decimals),
     }
 }
 
@@ -60,26 +91,6 @@ fn expected(
     double: Result<f64, Refusal>,
     location: Result<Location, Refusal>,
 ) -> Told {
-    let told = |refusal: Refusal| {
-        let Refusal {
-            number,
-            part,
-            place,
-        } = refusal;
-        (u32::from(number), part as i32, place as usize)
-    };
-    let (refused, n) = match number {
-        Ok(number) => ((0, -1, 0), Some(number)),
-        Err(refusal) => (told(refusal), None),
-    };
-    let answer = raw::Number {
-        number: refused.0,
-        part: refused.1,
-        place: refused.2,
-        minus: n.map_or(0, |n| n.minus.into()),
-        power: n.map_or(0, |n| n.power),
-        coefficient: n.map_or(0, |n| n.coefficient),
-    };
     let double = match double {
         Ok(value) => (0, -1, 0, value.to_bits()),
         Err(refusal) => {
@@ -90,15 +101,15 @@ fn expected(
     let location = match location {
         Ok(l) => {
             let values = [l.x, l.y, l.z].map(f64::to_bits);
-            (0, -1, 0, l.count.into(), values)
+            (0, -1, 0, l.count.into(), values, l.decimals)
         }
         Err(refusal) => {
             let (number, part, place) = told(refusal);
-            (number, part, place, 0, [0; 3])
+            (number, part, place, 0, [0; 3], [0; 3])
         }
     };
     Told {
-        number: answer,
+        number: number_told(number),
         double,
         location,
     }
@@ -133,40 +144,106 @@ fn agree(text: &[u8]) -> Told {
     for part in [-1, 0] {
         same(&asked(&bytes, part), &expected, text);
     }
+    by_itself(text);
     asked(&bytes, -1)
 }
 
-fn number_of(text: &[u8]) -> Result<(bool, u64, i32), (u32, usize)> {
+/// The text read by itself, whatever its bytes: the reference's answer, and what is written
+/// of it reads back as the same answer.
+fn by_itself(text: &[u8]) {
+    let shown = String::from_utf8_lossy(text);
+    let read = calls::read_number(text);
+    assert_eq!(read, number_told(reference::number(text)), "{shown}");
+    if read.number == 0 {
+        let mut room = [b'_'; 24];
+        let length = written(&mut room, &read).expect("24 bytes are enough");
+        assert_eq!(calls::read_number(&room[..length]), read, "{shown}");
+        assert!(room[length..].iter().all(|&b| b == b'_'), "{shown}");
+    }
+}
+
+/// The length of the text that a number answer is written as, or the row that refuses it.
+fn written(room: &mut [u8], n: &raw::Number) -> Result<usize, u32> {
+    let answer = calls::write_number(room, n.minus, n.coefficient, n.power, n.decimals);
+    assert_eq!((answer.part, answer.place), (-1, 0));
+    match answer.number {
+        0 => Ok(answer.length),
+        number => {
+            assert_eq!(answer.length, 0);
+            Err(number)
+        }
+    }
+}
+
+/// Sign, coefficient, power of ten and decimals, or the row and the place.
+type Read = Result<(bool, u64, i32, u32), (u32, usize)>;
+
+fn number_of(text: &[u8]) -> Read {
     let n = agree(text).number;
     match n.number {
-        0 => Ok((n.minus != 0, n.coefficient, n.power)),
+        0 => Ok((n.minus != 0, n.coefficient, n.power, n.decimals)),
         number => Err((number, n.place)),
     }
+}
+
+fn fields(n: Number) -> (bool, u64, i32, u32) {
+    (n.minus, n.coefficient, n.power, n.decimals)
 }
 
 #[test]
 fn worked_values() {
     for &(text, number) in NUMBERS {
-        let expected = number.map(|n| (n.minus, n.coefficient, n.power));
-        let expected = expected.map_err(|row| (row.into(), 0));
+        let expected = number.map(fields).map_err(|row| (row.into(), 0));
         assert_eq!(number_of(text.as_bytes()), expected, "{text}");
     }
     let double = agree(NO_DOUBLE.as_bytes()).double;
     assert_eq!(double, (22, -1, 0, 0));
     let location = agree(NO_LOCATION.as_bytes()).location;
-    assert_eq!(location, (23, -1, 0, 0, [0; 3]));
+    assert_eq!(location, (23, -1, 0, 0, [0; 3], [0; 3]));
+}
+
+/// Document 02, §4: the decimals of a text, and the text that they are written as, in every
+/// room; what is not written, with its row.
+#[test]
+fn worked_texts() {
+    for &(text, number) in DECIMALS.iter().chain(PAPER_NUMBERS) {
+        assert_eq!(number_of(text.as_bytes()), Ok(fields(number)), "{text}");
+        let read = calls::read_number(text.as_bytes());
+        for room in 0..=30 {
+            let mut bytes = vec![b'_'; room];
+            let expected = match room < text.len() {
+                true => (Err(30), vec![b'_'; room]),
+                false => {
+                    let behind = vec![b'_'; room - text.len()];
+                    (Ok(text.len()), [text.as_bytes(), &behind].concat())
+                }
+            };
+            let answer = written(&mut bytes, &read);
+            assert_eq!((answer, bytes), expected, "{text} in {room}");
+        }
+    }
+    for &(number, row) in NOT_WRITTEN {
+        let forged = number_told(Ok(number));
+        // any minus that is not 0 is one
+        for minus in [1, 2, u32::MAX].map(|minus| forged.minus * minus) {
+            let mut bytes = [b'_'; 30];
+            let answer = written(&mut bytes, &raw::Number { minus, ..forged });
+            assert_eq!(answer, Err(row.into()), "{number:?}");
+            assert_eq!(bytes, [b'_'; 30], "{number:?}");
+        }
+    }
 }
 
 /// "zero has sign plus"; "leading zeros counted"; the bounds of the double case.
 #[test]
 fn bounds() {
-    assert_eq!(number_of(b"-0"), Ok((false, 0, 0)));
-    assert_eq!(number_of(b"-0.00E-99"), Ok((false, 0, -101)));
-    assert_eq!(number_of(b"000000000000000001"), Ok((false, 1, 0)));
+    assert_eq!(number_of(b"-0"), Ok((false, 0, 0, 0)));
+    assert_eq!(number_of(b"-0.00E-99"), Ok((false, 0, -101, 2)));
+    assert_eq!(number_of(b"000000000000000001"), Ok((false, 1, 0, 0)));
     assert_eq!(number_of(b"0000000000000000001"), Err((21, 0)));
     assert_eq!(number_of(b"1E100"), Err((21, 0)));
     let most = number_of(b"999999999999999999E99");
-    assert_eq!(most, Ok((false, 999_999_999_999_999_999, 99)));
+    assert_eq!(most, Ok((false, 999_999_999_999_999_999, 99, 0)));
     for text in [
         &b"9007199254740991"[..],
         b"9007199254740992",
@@ -185,8 +262,7 @@ fn bounds() {
 #[test]
 fn the_papers_allowed_numbers() {
     for &(text, n) in PAPER_NUMBERS {
-        let expected = Ok((n.minus, n.coefficient, n.power));
-        assert_eq!(number_of(text.as_bytes()), expected, "{text}");
+        assert_eq!(number_of(text.as_bytes()), Ok(fields(n)), "{text}");
     }
     for &(text, value) in PAPER_DOUBLES {
         let (number, _, _, bits) = agree(text.as_bytes()).double;
@@ -199,17 +275,25 @@ fn the_papers_allowed_numbers() {
 #[test]
 fn locations() {
     let told = |text: &[u8]| {
-        let (number, _, place, count, values) = agree(text).location;
-        (number, place, count, values.map(f64::from_bits))
+        let (number, _, place, count, values, decimals) = agree(text).location;
+        (number, place, count, values.map(f64::from_bits), decimals)
     };
-    assert_eq!(told(b"120.5 0 0.25"), (0, 0, 3, [120.5, 0.0, 0.25]));
-    assert_eq!(told(b"100.0"), (0, 0, 1, [100.0, 0.0, 0.0]));
-    assert_eq!(told(b" \t-1.5\t \t2  3\t"), (0, 0, 3, [-1.5, 2.0, 3.0]));
-    assert_eq!(told(b"1  x 3"), (20, 3, 0, [0.0; 3]));
-    assert_eq!(told(b" 1 x 3"), (20, 2, 0, [0.0; 3]));
-    assert_eq!(told(b"1\t2\t1234567890123456789"), (21, 4, 0, [0.0; 3]));
-    assert_eq!(told(b"  1E16"), (22, 0, 0, [0.0; 3]));
-    assert_eq!(told(b" \t "), (23, 0, 0, [0.0; 3]));
+    let good = |count: u32, values: [f64; 3], decimals: [u32; 3]| (0, 0, count, values, decimals);
+    let refused = |number: u32, place: usize| (number, place, 0, [0.0; 3], [0; 3]);
+    assert_eq!(
+        told(b"120.5 0 0.25"),
+        good(3, [120.5, 0.0, 0.25], [1, 0, 2])
+    );
+    assert_eq!(told(b"100.0"), good(1, [100.0, 0.0, 0.0], [1, 0, 0]));
+    assert_eq!(
+        told(b" \t-1.5\t \t2  3.000\t"),
+        good(3, [-1.5, 2.0, 3.0], [1, 0, 3])
+    );
+    assert_eq!(told(b"1  x 3"), refused(20, 3));
+    assert_eq!(told(b" 1 x 3"), refused(20, 2));
+    assert_eq!(told(b"1\t2\t1234567890123456789"), refused(21, 4));
+    assert_eq!(told(b"  1E16"), refused(22, 0));
+    assert_eq!(told(b" \t "), refused(23, 0));
 }
 
 /// Generated texts, whose answers are known from their making, and the reference.

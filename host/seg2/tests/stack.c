@@ -69,6 +69,11 @@ static struct seg2_number number;
 static struct seg2_double twice;
 static struct seg2_location location;
 static seg2_length written;
+/* the number whose text has the most bytes, and its text as a user types it: every part of a number is there */
+static const uint8_t typed[] = "-1.23456789012345678E-99";
+static struct seg2_number read_back;
+static uint8_t text[SEG2_MAXIMUM_NUMBER_TEXT];
+static seg2_length text_length;
 
 static void call_nothing(void) {}
 static void call_check(void) { verdict = seg2_check(buffer, size, length); }
@@ -83,6 +88,8 @@ static void call_double(void) { seg2_double(&twice, buffer, size, length, part, 
 static void call_location(void) { seg2_location(&location, buffer, size, length, part, key, 4); }
 static void call_integers(void) { verdict = seg2_integers(buffer, size, length, 0, integers, samples); }
 static void call_bits(void) { verdict = seg2_bits(buffer, size, length, 1, patterns, samples, classes, samples); }
+static void call_read_number(void) { seg2_read_number(&read_back, typed, sizeof typed - 1); }
+static void call_write_number(void) { seg2_write_number(&text_length, text, sizeof text, 1, 123456789012345678u, -116, 17); }
 static void call_start(void) { seg2_start(&written, buffer, size, order, TRACES, sheet, sheet_size); }
 static void call_add_integers(void) { seg2_add_integers(&written, buffer, size, length, sheet, sheet_size, code_of_integers, integers, samples); }
 static void call_add_bits(void) { seg2_add_bits(&written, buffer, size, length, sheet, sheet_size, code_of_bits, patterns, samples); }
@@ -107,6 +114,8 @@ static struct {
     {"seg2_location", call_location, 0},
     {"seg2_integers", call_integers, 0},
     {"seg2_bits", call_bits, 0},
+    {"seg2_read_number", call_read_number, 0},
+    {"seg2_write_number", call_write_number, 0},
 };
 
 static void must(int holds, const char *what) {
@@ -160,6 +169,8 @@ static void whole(uint32_t of_integers, uint32_t of_bits, size_t traces, size_t 
         must(keyword.found == 1 && value.value_length == 3, "no NOTE");
         must(number.coefficient == 15 && twice.value == 1.5 && location.x == 1.5, "another number");
         must(verdict.number == 0 && trace.sample_count == samples && file.trace_count == traces, "refused");
+        must(read_back.coefficient == 123456789012345678u && read_back.power == -116 && read_back.decimals == 17, "another number was typed");
+        must(text_length.length == sizeof typed - 1 && memcmp(text, typed, sizeof text) == 0, "another text was written");
     }
 }
 

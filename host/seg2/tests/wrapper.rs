@@ -4,7 +4,8 @@
 use seg2::{Builder, File, Location, Number, Order, Refusal, Step};
 use seg2_reference as reference;
 use seg2_reference::generate::{
-    addition_case, good_sheet, sample_case, Laid, Model, Rng, SampleQuestion,
+    addition_case, forged_number, good_sheet, number_case, sample_case, Laid, Model, Rng,
+    SampleQuestion,
 };
 
 fn told(refusal: reference::Refusal) -> Refusal {
@@ -12,6 +13,15 @@ fn told(refusal: reference::Refusal) -> Refusal {
         number: refusal.number.into(),
         part: refusal.part.try_into().expect("a part of 32 bits"),
         place: refusal.place.try_into().expect("a place in a buffer"),
+    }
+}
+
+fn ours(number: reference::Number) -> Number {
+    Number {
+        minus: number.minus,
+        coefficient: number.coefficient,
+        power: number.power,
+        decimals: number.decimals,
     }
 }
 
@@ -111,13 +121,9 @@ fn numbers_in_values_are_answered_as_the_reference_answers_them() {
                 // of several with the keyword, the first
                 let first = trace.strings().find(|(k, _)| *k == keyword);
                 let (_, value) = first.expect("at least itself");
-                let number = reference::number(value).map_err(told);
-                let number = number.map(|n| Number {
-                    minus: n.minus,
-                    coefficient: n.coefficient,
-                    power: n.power,
-                });
+                let number = reference::number(value).map(ours).map_err(told);
                 assert_eq!(trace.number(keyword), number);
+                assert_eq!(Number::read(value), number);
                 assert_eq!(
                     trace.double(keyword),
                     reference::double(value).map_err(told)
@@ -128,6 +134,9 @@ fn numbers_in_values_are_answered_as_the_reference_answers_them() {
                     x: l.x,
                     y: l.y,
                     z: l.z,
+                    x_decimals: l.decimals[0],
+                    y_decimals: l.decimals[1],
+                    z_decimals: l.decimals[2],
                 });
                 assert_eq!(trace.location(keyword), location);
             }
@@ -144,6 +153,37 @@ fn numbers_in_values_are_answered_as_the_reference_answers_them() {
                 Err((23, 0))
             );
         }
+    }
+}
+
+/// A text that was typed is written back with its own decimals and reads as the same
+/// number; a number is refused as the reference refuses it, and nothing has changed then.
+#[test]
+fn numbers_are_written_as_the_reference_writes_them() {
+    let mut rng = Rng::new(209);
+    let mut texts = 0;
+    for _ in 0..3000 {
+        let case = number_case(&mut rng);
+        let number = Number::read(&case.text);
+        assert_eq!(number, case.number.map(ours).map_err(told));
+        let Ok(number) = number else { continue };
+        let text = number.text().expect("what was read is written");
+        assert_eq!(Some(text.as_bytes()), case.written.as_deref());
+        assert_eq!(Number::read(text.as_bytes()), Ok(number));
+        texts += 1;
+    }
+    assert!(texts > 1000, "{texts}");
+    for _ in 0..6000 {
+        let forged = forged_number(&mut rng);
+        let room = rng.between(0, 26);
+        let mut expected = vec![b'_'; room];
+        let mut bytes = expected.clone();
+        let answer = reference::write_number(&mut expected, forged).map_err(told);
+        let number = ours(forged);
+        assert_eq!(number.write(&mut bytes), answer, "{number:?}");
+        assert_eq!(bytes, expected, "{number:?}");
+        let without_room = answer.err().filter(|refusal| refusal.number != 30);
+        assert_eq!(number.text().err(), without_room, "{number:?}");
     }
 }
 
@@ -374,6 +414,9 @@ fn empty_slices_are_answered() {
         seg2::start(&mut [], Order::Low, 1, &[]).map_err(|r| r.number),
         Err(30)
     );
+    assert_eq!(Number::read(&[]).map_err(|r| r.number), Err(20));
+    let seven = Number::read(b"7").expect("a number");
+    assert_eq!(seven.write(&mut []).map_err(|r| r.number), Err(30));
     assert_eq!(
         seg2::add_integers(&mut [], 0, &[], 1, &[]).map_err(|r| r.number),
         Err(1)

@@ -50,6 +50,7 @@ fn place(number: u32) -> &'static str {
     };
     match (number, refusal.counts()) {
         (14..=17, _) => "the string's two-byte offset, a byte of the file",
+        (20 | 21, _) => "where the number starts in the keyword's value; 0 for a text by itself, and for a number to be written",
         (_, Place::File) => "a byte of the file",
         (_, Place::Value) => "where the number starts in the keyword's value",
         (_, Place::Sheet) => "where the line starts in the sheet",
@@ -105,9 +106,9 @@ fn row(number: u32) -> Option<(&'static str, &'static str)> {
                "ask for a trace that is there: `./seg2 list` shows them"),
         19 => ("The listing program takes files of up to 65,536 bytes; `./seg2 list` takes all.",
                "use `./seg2 list`"),
-        20 => ("A number is a minus or nothing, digits, then perhaps a point with digits, then perhaps E, a minus or nothing, and digits. No comma, no plus, no spaces: 0,5 is no number. A missing keyword has no number either.",
+        20 => ("A number is a minus or nothing, digits, then perhaps a point with digits, then perhaps E, a minus or nothing, and digits. No comma, no plus, no spaces: 0,5 is no number. A missing keyword has no number either. Where an app gives a number to be written, a zero has no minus.",
                "correct the value where the shot is recorded, or ask for another keyword: `./seg2 list` shows them"),
-        21 => ("At most 18 digits before E and 2 behind it; zeros count.",
+        21 => ("At most 18 digits before E and 2 behind it, where a number is read and where an app gives one to be written; zeros count.",
                "write the number with fewer digits"),
         22 => ("As a double a number has a coefficient of at most 9,007,199,254,740,991 and a power of ten of -15 to 15. It is still a number.",
                "ask for it as a number (`--as number`), or write it with fewer digits"),
@@ -125,7 +126,7 @@ fn row(number: u32) -> Option<(&'static str, &'static str)> {
                "choose another code, or fill the samples up to a multiple of 4"),
         29 => ("Code 1 holds -32,768 to 32,767; code 3 holds magnitudes below 1,073,741,824; a pattern of code 4 has 32 bits.",
                "choose a code that holds these samples: 2, 4 or 5"),
-        30 => ("The file would be longer than the buffer that was lent, or than 67,108,864 bytes.",
+        30 => ("The file would be longer than the buffer that was lent, or than 67,108,864 bytes; or the text of a number, which is to be written, than the bytes that were lent for it: 24 are enough for each.",
                "start another file for the traces that come"),
         31 => ("A file is started with 1 to 16,383 pointer slots, low byte first (0) or high byte first (1).",
                "choose --slots of 1 to 16383"),

@@ -105,7 +105,7 @@ pub fn run(given: &Options) -> Answer {
 /// A value as a number of some kind; a keyword that is missing has none.
 fn number(part: &Part, keyword: &[u8], kind: Kind) -> Result<String, Refusal> {
     Ok(match kind {
-        Kind::Number => as_written(part.number(keyword)?),
+        Kind::Number => part.number(keyword)?.text()?,
         Kind::Double => decimal(part.double(keyword)?),
         Kind::Location => coordinates(part.location(keyword)?),
     })
@@ -141,16 +141,6 @@ fn text(file: &File, keyword: &[u8], value: &[u8]) -> Vec<u8> {
         return value.to_vec();
     }
     file.lines(value).collect::<Vec<_>>().join(&b'\n')
-}
-
-/// Minus, all digits, E and the power of ten where it is not 0.
-fn as_written(number: Number) -> String {
-    let minus = if number.minus { "-" } else { "" };
-    let power = match number.power {
-        0 => String::new(),
-        power => format!("E{power}"),
-    };
-    format!("{minus}{}{power}", number.coefficient)
 }
 
 /// As many values as there are.

@@ -696,3 +696,24 @@ fn explain_has_every_row() {
         assert_eq!(out.lines().count(), 4, "{out}");
     }
 }
+
+/// Document 02, §4: "Refusals of this writing, place 0: 20 zero with minus, 21 more than 18
+/// digits or more than 2 after E, 30 no room". The rows stand for more than that, and say so.
+#[test]
+fn explain_tells_of_numbers_that_are_written() {
+    for (number, place, rule) in [
+        ("20", "0 for a text by itself", "a zero has no minus"),
+        (
+            "21",
+            "for a number to be written",
+            "18 digits before E and 2",
+        ),
+        ("30", "always 0", "24 are enough"),
+    ] {
+        let (_, out, _) = run!("explain", number);
+        let lines: Vec<&str> = out.lines().collect();
+        assert!(lines[1].contains(place), "{out}");
+        assert!(lines[2].contains(rule), "{out}");
+        assert!(lines[2].contains("to be written"), "{out}");
+    }
+}

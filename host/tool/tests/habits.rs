@@ -293,9 +293,9 @@ fn a_value_is_printed_as_it_was_asked_for() {
         ("F", "CLIENT", "text", "\n"),
         ("F", "NOTE", "text", "WET\n COLD\n"),
         ("0", "DELAY", "text", "-0.020\n"),
-        ("0", "DELAY", "number", "-20E-3\n"),
+        ("0", "DELAY", "number", "-0.020\n"),
         ("0", "DELAY", "double", "-0.02\n"),
-        ("F", "DATUM", "number", "-230E4\n"),
+        ("F", "DATUM", "number", "-2.30E6\n"),
         ("F", "DATUM", "double", "-2300000.0\n"),
         ("0", "DELAY", "location", "-0.02\n"),
         ("0", "RECEIVER_LOCATION", "location", "1.0 -2.5 3.0\n"),
@@ -314,6 +314,47 @@ fn a_value_is_printed_as_it_was_asked_for() {
     );
     let kinds = "`metres` is no kind of value: text, number, double or location";
     sentence(run!("value", shot, "F", "UNITS", "--as", "metres"), kinds);
+}
+
+/// Document 02, §4: "A surveyor typed 0.250 and the app shows 0.25, another precision to
+/// him." A text that is no number, as one with a comma, is printed as it stands too.
+#[test]
+fn numbers_are_printed_with_their_own_decimals() {
+    let folder = Folder::new("decimals");
+    let texts = [
+        ("A", "0.250", "0.250"),
+        ("B", "12", "12"),
+        ("C", "2.50E-3", "2.50E-3"),
+        ("D", "0.00", "0.00"),
+        ("E", "-007.50E+0", ""),
+        ("F", "0,250", ""),
+        ("G", "007.50", "7.50"),
+        ("H", "-0.0E05", "0.0E5"),
+    ];
+    let lines: String = texts
+        .map(|(key, text, _)| format!("{key}\t{text}\n"))
+        .concat();
+    let mut shot = Builder::start(Order::Low, 1, lines.as_bytes()).expect("a start");
+    shot.add_integers(lines.as_bytes(), 1, &[])
+        .expect("a trace");
+    let shot = folder.keep("shot", shot.bytes());
+    let (_, listed, _) = run!("list", shot);
+    let (_, json, _) = run!("list", shot, "--json");
+    for (key, text, number) in texts {
+        for part in ["F", "0"] {
+            let line = format!("\nS\t{part}\t{key}\t{text}\n");
+            assert!(listed.contains(&line), "{listed}");
+            let said = (0, format!("{text}\n"), "".into());
+            assert_eq!(run!("value", shot, part, key), said);
+            let (status, out, _) = run!("value", shot, part, key, "--as", "number");
+            match number {
+                "" => assert_eq!((status, out.as_str()), (1, ""), "{text}"),
+                _ => assert_eq!((status, out), (0, format!("{number}\n"))),
+            }
+        }
+        let value = format!(r#"{{"keyword":"{key}","value":"{text}"}}"#);
+        assert_eq!(json.matches(&value).count(), 2, "{json}");
+    }
 }
 
 // ---- CSV and JSON

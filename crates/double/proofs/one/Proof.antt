@@ -1,4 +1,4 @@
--- `double::one` meets its contract: by the answer of the one double. Assumes nothing.
+-- `double::one` meets its contract: by the answer of the one value. Assumes nothing.
 use mathlib.Core.Path.{_∙_}
 use lib.Ieee.{ofBits}
 use Rattle.double.specs.Location.{oneOf}
@@ -15,5 +15,5 @@ one-spec =
     (λ c. search needs)
     (λ c. search needs)
     (λ c κs. search needs)
-    (λ c. c .passed .ensures ∙ rw (← c .before .before .before .double .ensures, c .before .enum-told .given .1))
-    (λ c. rw (← c .before .before .before .double .ensures, c .before .first .given .1)))
+    (λ c. c .passed .ensures ∙ rw (← c .before .before .before .coordinate-in .ensures, c .before .enum-told .given .1))
+    (λ c. rw (← c .before .before .before .coordinate-in .ensures, c .before .first .given .1)))

@@ -4,12 +4,13 @@
 //! byte from a model ([`model`], [`lay`]), which has all the freedoms that
 //! document 01 allows and the writer never uses. A damage ([`damage`], [`ways`])
 //! breaks one rule of such a file in one named way and knows the refusal it must
-//! give. The inputs of rows 18 to 33 are in [`asking`], [`numbers`], [`sheets`] and
-//! [`writing`]; [`plain`] makes a file around one text or data block. The same seed gives the same cases on every machine.
+//! give. The inputs of rows 18 to 33 are in [`asking`], [`numbers`], [`forged`],
+//! [`sheets`] and [`writing`]; [`plain`] makes a file around one text or data block. The same seed gives the same cases on every machine.
 
 pub mod asking;
 pub mod damage;
 mod expected;
+pub mod forged;
 pub mod lay;
 pub mod model;
 pub mod numbers;
@@ -21,6 +22,7 @@ pub mod writing;
 
 pub use asking::{mutated, sample_case, too_long_for_listing, SampleCase, SampleQuestion};
 pub use damage::{damaged, damaged_image, several_damages, Damaged, Scope, Way};
+pub use forged::{forged_number, number_edges};
 pub use lay::Laid;
 pub use model::Model;
 pub use numbers::{location_case, number_case, LocationCase, NumberCase};

@@ -11,6 +11,8 @@ pub struct NumberCase {
     pub text: Vec<u8>,
     pub number: Result<Number, Refusal>,
     pub double: Result<f64, Refusal>,
+    /// Its number's text as it is written back; nothing where it is no number.
+    pub written: Option<Vec<u8>>,
 }
 
 impl NumberCase {
@@ -26,6 +28,7 @@ pub fn number_case(rng: &mut Rng) -> NumberCase {
             text: no_number(rng),
             number: refused(20, 0),
             double: refused(20, 0),
+            written: None,
         };
     }
     let whole_digits = rng.pick(&[1, 1, 2, 3, 5, 9, 15, 16, 18, 19, 25]);
@@ -42,6 +45,7 @@ pub fn number_case(rng: &mut Rng) -> NumberCase {
     let number = decimal.number();
     NumberCase {
         double: number.and_then(|number| nearest_double(&text, number)),
+        written: number.ok().map(|_| decimal.written().into_bytes()),
         number,
         text: text.into_bytes(),
     }
@@ -83,7 +87,25 @@ impl Decimal {
             minus: self.minus && coefficient > 0,
             coefficient,
             power: sign * exponent - self.fraction.len() as i32,
+            decimals: self.fraction.len() as u32,
         })
+    }
+
+    /// The same number in the form that is written: the text without what a surveyor may
+    /// type beside its digits. No minus before zero, no zeros in front but one before the
+    /// point, none in front of E's digits, and no E with 0.
+    fn written(&self) -> String {
+        let without_zeros = |digits: &str| digits.trim_start_matches('0').to_string();
+        let whole = without_zeros(&self.whole);
+        let is_zero = whole.is_empty() && without_zeros(&self.fraction).is_empty();
+        Decimal {
+            minus: self.minus && !is_zero,
+            whole: if whole.is_empty() { "0".into() } else { whole },
+            fraction: self.fraction.clone(),
+            exponent_minus: self.exponent_minus,
+            exponent: without_zeros(&self.exponent),
+        }
+        .text()
     }
 }
 
@@ -179,11 +201,9 @@ pub fn location_case(rng: &mut Rng) -> LocationCase {
             text.extend(random_blanks(rng, 1));
         }
         let value = one_word(rng);
-        values.push(
-            value
-                .double
-                .map_err(|r| Refusal::file(r.number, text.len())),
-        );
+        let decimals = value.number.map_or(0, |number| number.decimals);
+        let double = value.double.map(|double| (double, decimals));
+        values.push(double.map_err(|r| Refusal::file(r.number, text.len())));
         text.extend(value.text);
     }
     text.extend(random_blanks(rng, 0));
@@ -197,15 +217,17 @@ pub fn location_case(rng: &mut Rng) -> LocationCase {
     }
 }
 
-/// The values, or the first refusal among them.
-fn location_of(values: &[Result<f64, Refusal>]) -> Result<Location, Refusal> {
-    let values: Vec<f64> = values.iter().copied().collect::<Result<_, _>>()?;
-    let at = |i: usize| values.get(i).copied().unwrap_or(0.0);
+/// The values with their decimals, or the first refusal among them.
+fn location_of(values: &[Result<(f64, u32), Refusal>]) -> Result<Location, Refusal> {
+    let values: Vec<(f64, u32)> = values.iter().copied().collect::<Result<_, _>>()?;
+    let at = |i: usize| values.get(i).copied().unwrap_or((0.0, 0));
+    let [x, y, z] = [0, 1, 2].map(at);
     Ok(Location {
-        x: at(0),
-        y: at(1),
-        z: at(2),
+        x: x.0,
+        y: y.0,
+        z: z.0,
         count: values.len() as u8,
+        decimals: [x.1, y.1, z.1],
     })
 }
 

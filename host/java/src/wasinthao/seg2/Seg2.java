@@ -15,8 +15,8 @@ import java.nio.charset.StandardCharsets;
  * trace, counted from 0.
  *
  * <p><b>Refusals are values.</b> Every answer has {@link Answer#refusal()}: null, or number, part, place and words. After a refusal the
- * answer's other fields are 0 and no lent memory has changed. Every question checks the whole file first, so its refusal may be any row
- * from 1 to 17 of the table before one of its own.
+ * answer's other fields are 0 and no lent memory has changed. Every question about a file checks the whole file first, so its refusal may
+ * be any row from 1 to 17 of the table before one of its own.
  *
  * <p><b>Misuse is an {@link IllegalArgumentException}</b>, before the library is called: null, a buffer that is not direct, a read-only
  * one where something is written, a row in another byte order than the machine's, or one that lies in the file's own memory.
@@ -37,6 +37,8 @@ public final class Seg2 {
     public static final int MAXIMUM_AREA = 65500;
     /** A new file has at most this many pointer slots. */
     public static final int MAXIMUM_SLOTS = 16383;
+    /** The text of a number is at most this long where we write it. */
+    public static final int MAXIMUM_NUMBER_TEXT = 24;
 
     /** The part that is the file itself. */
     public static final int FILE = -1;
@@ -111,7 +113,8 @@ public final class Seg2 {
         public final int number;
         /** -1 for the file, else the trace. */
         public final int part;
-        /** A byte of the file; for 20 to 22 of the value, for 25 and 26 of the sheet; for 29 the sample's index. */
+        /** A byte of the file; for 20 to 22 of the value (0 for a text by itself and for a number to be written), for 25 and 26 of the
+         * sheet; for 29 the sample's index. */
         public final long place;
 
         private Refusal(int number, int part, long place) {
@@ -347,7 +350,10 @@ public final class Seg2 {
         }
     }
 
-    /** A number: coefficient as written, times ten to the power, negated where minus. Zero has no minus. */
+    /**
+     * A number: coefficient as written, times ten to the power, negated where minus. Zero has no minus. {@code decimals} tells the
+     * precision that was typed: 0.250 has 3 and 0.25 has 2.
+     */
     public static final class Decimal extends Answer {
         /** Whether it is below zero. */
         public final boolean minus;
@@ -355,12 +361,28 @@ public final class Seg2 {
         public final long coefficient;
         /** The power of ten. */
         public final int power;
+        /** How many digits stood after the point. */
+        public final int decimals;
 
         private Decimal(long[] a) {
             super(a);
             minus = a[3] != 0;
             power = (int) a[4];
             coefficient = a[5];
+            decimals = (int) a[6];
+        }
+
+        /**
+         * The number as text, to be shown or for a sheet: what {@link #writeNumber} writes of it, so with the decimals that were typed. It
+         * reads back as the same number. Empty after a refusal.
+         */
+        public String text() {
+            if (!accepted()) {
+                return "";
+            }
+            byte[] room = new byte[MAXIMUM_NUMBER_TEXT];
+            Length written = writeNumber(room, minus, coefficient, power, decimals);
+            return textOf(ByteBuffer.wrap(room, 0, written.length));
         }
     }
 
@@ -375,13 +397,19 @@ public final class Seg2 {
         }
     }
 
-    /** A location: one value or three; absent ones are 0. */
+    /** A location: one value or three, each with how many digits stood after its point; all of absent ones is 0. */
     public static final class Location extends Answer {
         /** 1 or 3. */
         public final int count;
         public final double x;
         public final double y;
         public final double z;
+        /** How many digits stood after the point of x. */
+        public final int xDecimals;
+        /** How many digits stood after the point of y. */
+        public final int yDecimals;
+        /** How many digits stood after the point of z. */
+        public final int zDecimals;
 
         private Location(long[] a) {
             super(a);
@@ -389,10 +417,13 @@ public final class Seg2 {
             x = Double.longBitsToDouble(a[4]);
             y = Double.longBitsToDouble(a[5]);
             z = Double.longBitsToDouble(a[6]);
+            xDecimals = (int) a[7];
+            yDecimals = (int) a[8];
+            zDecimals = (int) a[9];
         }
     }
 
-    /** The length of the image after a start or an addition. */
+    /** The length of the image after a start or an addition; of the text after a number was written. */
     public static final class Length extends Answer {
         /** In bytes. */
         public final int length;
@@ -474,7 +505,7 @@ public final class Seg2 {
 
     /** The value of a keyword as a number. 18 as above, 20 where it is no number (so where the keyword is missing), 21 too many digits. */
     public static Decimal number(ByteBuffer buffer, long length, int part, byte[] key) {
-        long[] a = new long[6];
+        long[] a = new long[7];
         nativeNumber(lent(buffer), buffer.limit(), length, part, there(key, "keyword"), a);
         return new Decimal(a);
     }
@@ -499,7 +530,7 @@ public final class Seg2 {
     /** The value of a keyword as a location. 18 as above, 23 where the values are neither one nor three (so where the
      * keyword is missing), then 20 to 22 value by value. */
     public static Location location(ByteBuffer buffer, long length, int part, byte[] key) {
-        long[] a = new long[7];
+        long[] a = new long[10];
         nativeLocation(lent(buffer), buffer.limit(), length, part, there(key, "keyword"), a);
         return new Location(a);
     }
@@ -541,6 +572,37 @@ public final class Seg2 {
         long[] a = new long[3];
         nativeBits(lent(buffer), buffer.limit(), length, trace, there(row, "row"), there(classes, "classes' row"), a);
         return new Verdict(a);
+    }
+
+    // ---- a number and its text: no file is lent, so no row of its check comes first
+
+    /**
+     * A text as a number: what a user typed, before it goes into a sheet. The answer is the one that {@link #number} gives where a keyword's
+     * value is this text. 20 where it is no number, 21 where it has too many digits; place 0.
+     */
+    public static Decimal readNumber(byte[] text) {
+        long[] a = new long[7];
+        nativeReadNumber(there(text, "text"), a);
+        return new Decimal(a);
+    }
+
+    /** The same, of a text in a String. */
+    public static Decimal readNumber(String text) {
+        return readNumber(bytesOf(text, "text"));
+    }
+
+    /**
+     * Writes a number as text at the array's start, by way of a copy, and answers the text's length: exactly {@code decimals} digits after
+     * the point, at least one before it and otherwise no zero in front, then E with the power plus the decimals where this is not 0. Any
+     * numbers may be given; the coefficient and the decimals count without a sign. Refusals in order, place 0: 20 for zero with a minus, 21
+     * for more than 18 digits before E or more than 2 after it, 30 where the text is longer than the array. A refusal has changed no byte;
+     * bytes past the text stay as they were. An array of {@link #MAXIMUM_NUMBER_TEXT} bytes is room enough. {@link Decimal#text()} gives a
+     * number that was read as a String.
+     */
+    public static Length writeNumber(byte[] text, boolean minus, long coefficient, int power, int decimals) {
+        long[] a = new long[4];
+        nativeWriteNumber(there(text, "text"), minus, coefficient, power, decimals, a);
+        return new Length(a);
     }
 
     // ---- writing. A refusal has changed no byte; bytes past the answered length stay as they were.
@@ -686,6 +748,10 @@ public final class Seg2 {
     private static native void nativeDouble(ByteBuffer buffer, int size, long length, int part, byte[] key, long[] answer);
 
     private static native void nativeLocation(ByteBuffer buffer, int size, long length, int part, byte[] key, long[] answer);
+
+    private static native void nativeReadNumber(byte[] text, long[] answer);
+
+    private static native void nativeWriteNumber(byte[] text, boolean minus, long coefficient, int power, int decimals, long[] answer);
 
     private static native void nativeIntegersArray(ByteBuffer buffer, int size, long length, int trace, int[] row, long[] answer);
 

@@ -279,7 +279,8 @@ public final class Seg2Test {
         }
         // "accepted" is no row
         same(named(text).size() - 1, found);
-        for (String[] pair : new String[][] {{"MAXIMUM_LENGTH", "67108864"}, {"MAXIMUM_AREA", "65500"}, {"MAXIMUM_SLOTS", "16383"}}) {
+        for (String[] pair : new String[][] {{"MAXIMUM_LENGTH", "67108864"}, {"MAXIMUM_AREA", "65500"}, {"MAXIMUM_SLOTS", "16383"},
+            {"MAXIMUM_NUMBER_TEXT", "24"}}) {
             same(true, text.contains("#define SEG2_" + pair[0] + " " + pair[1]));
             same(Integer.parseInt(pair[1]), Seg2.class.getField(pair[0]).getInt(null));
         }
@@ -368,13 +369,14 @@ public final class Seg2Test {
     }
 
     private static void numbersAndLocations() {
-        ByteBuffer b = withSheet("DELAY\t-0.020\nLINE\t0,020\nRECEIVER_LOCATION\t12.5\nSOURCE_LOCATION\t1 -2  0.5\nSTACK\t1.345E24\nZ\t1 2\n");
+        ByteBuffer b = withSheet("DELAY\t-0.020\nLINE\t0,020\nRECEIVER_LOCATION\t12.50\nSOURCE_LOCATION\t1 -2.0  0.500\nSTACK\t1.345E24\nZ\t1 2\n");
         int n = b.limit();
         Seg2.Decimal delay = Seg2.number(b, n, 0, "DELAY");
         accepted(delay);
         same(true, delay.minus);
         same(20L, delay.coefficient);
         same(-3, delay.power);
+        same(3, delay.decimals);
         Seg2.DoubleValue asDouble = Seg2.doubleValue(b, n, 0, "DELAY");
         accepted(asDouble);
         same(-0.020, asDouble.value);
@@ -388,15 +390,77 @@ public final class Seg2Test {
         same(1.0, source.x);
         same(-2.0, source.y);
         same(0.5, source.z);
+        same("0 1 3", source.xDecimals + " " + source.yDecimals + " " + source.zDecimals);
         Seg2.Location receiver = Seg2.location(b, n, 0, "RECEIVER_LOCATION");
         same(1, receiver.count);
         same(12.5, receiver.x);
         same(0.0, receiver.y);
+        same("2 0 0", receiver.xDecimals + " " + receiver.yDecimals + " " + receiver.zDecimals);
         refused(23, -1, 0, Seg2.location(b, n, 0, "Z"));
         refused(20, -1, 0, Seg2.location(b, n, 0, "LINE"));
         refused(23, -1, 0, Seg2.location(b, n, 0, "MISSING"));
         Seg2.Location none = Seg2.location(b, n, 0, "Z");
-        same(0.0, none.x + none.y + none.z + none.count);
+        same(0.0, none.x + none.y + none.z + none.count + none.xDecimals + none.yDecimals + none.zDecimals);
+    }
+
+    private static void sameNumber(Seg2.Decimal wanted, Seg2.Decimal is) {
+        accepted(is);
+        same(wanted.minus, is.minus);
+        same(new long[] {wanted.coefficient, wanted.power, wanted.decimals}, new long[] {is.coefficient, is.power, is.decimals});
+    }
+
+    /** What a surveyor typed is shown with the same precision, and reads back as the same number. */
+    private static void numbersAsTheyWereTyped() {
+        String[][] typed = {{"0.250", "0.250"}, {"12", "12"}, {"2.50E-3", "2.50E-3"}, {"-2.3E6", "-2.3E6"}, {"-00.0", "0.0"}, {"007", "7"},
+            {"1E05", "1E5"}, {"0E99", "0E99"}, {"-1.23456789012345678E-99", "-1.23456789012345678E-99"}};
+        for (String[] pair : typed) {
+            Seg2.Decimal number = Seg2.readNumber(pair[0]);
+            accepted(number);
+            same(pair[1], number.text());
+            sameNumber(number, Seg2.readNumber(number.text().getBytes(StandardCharsets.US_ASCII)));
+            // the same answer as for a keyword's value
+            ByteBuffer b = withSheet("DELAY\t" + pair[0] + "\n");
+            sameNumber(number, Seg2.number(b, b.limit(), 0, "DELAY"));
+        }
+        same(3, Seg2.readNumber("0.250").decimals);
+        for (String none : new String[] {"", "0,250", "12.", " 1", "\u0661", "1\n"}) {
+            Seg2.Decimal refusal = Seg2.readNumber(none);
+            refused(20, -1, 0, refusal);
+            same(0L, refusal.coefficient + refusal.power + refusal.decimals);
+            same("", refusal.text());
+        }
+        refused(21, -1, 0, Seg2.readNumber("1234567890123456789"));
+        refused(21, -1, 0, Seg2.readNumber("1E100"));
+    }
+
+    /** Any numbers may be written: refusals in their order, and which bytes change. */
+    private static void forgedNumbers() {
+        byte[] room = new byte[30];
+        Arrays.fill(room, (byte) '_');
+        refused(20, -1, 0, Seg2.writeNumber(room, true, 0, 1000, -1));
+        refused(21, -1, 0, Seg2.writeNumber(room, false, 1000000000000000000L, 0, 0));
+        refused(21, -1, 0, Seg2.writeNumber(room, false, -1, 0, 0)); // 2^64 - 1, without a sign
+        refused(21, -1, 0, Seg2.writeNumber(room, false, 5, 0, 18));
+        refused(21, -1, 0, Seg2.writeNumber(room, false, 5, 1, -1));
+        refused(21, -1, 0, Seg2.writeNumber(room, false, 5, Integer.MIN_VALUE, Integer.MIN_VALUE));
+        refused(21, -1, 0, Seg2.writeNumber(room, false, 5, 100, 0));
+        refused(21, -1, 0, Seg2.writeNumber(room, false, 5, -100, 0));
+        for (byte left : room) {
+            same((byte) '_', left);
+        }
+        Seg2.Length written = Seg2.writeNumber(room, false, 5, 0, 17);
+        accepted(written);
+        same(22, written.length);
+        same("0.00000000000000005E17________", new String(room, StandardCharsets.US_ASCII));
+        byte[] four = {'_', '_', '_', '_'};
+        Seg2.Length none = Seg2.writeNumber(four, false, 250, -3, 3);
+        refused(30, -1, 0, none);
+        same(0, none.length);
+        same(new byte[] {'_', '_', '_', '_'}, four);
+        byte[] five = new byte[5];
+        same(5, Seg2.writeNumber(five, false, 250, -3, 3).length);
+        same("0.250", new String(five, StandardCharsets.US_ASCII));
+        refused(30, -1, 0, Seg2.writeNumber(new byte[0], false, 7, 0, 0));
     }
 
     private static void noteLines() {
@@ -550,6 +614,9 @@ public final class Seg2Test {
         misused("sheet is null", () -> Seg2.start(good, 0, 1, none));
         misused("sheet is null", () -> Seg2.addIntegers(good, 108, noText, 1, new int[1]));
         misused("sheet is null", () -> Seg2.addBits(good, 108, none, 4, new long[1]));
+        misused("text is null", () -> Seg2.readNumber(none));
+        misused("text is null", () -> Seg2.readNumber(noText));
+        misused("text is null", () -> Seg2.writeNumber(none, false, 7, 0, 0));
     }
 
     private static void misusedRows() throws Exception {
@@ -618,7 +685,9 @@ public final class Seg2Test {
             same(trace + 1, block.formatCode);
             same(trace + 0.5, Seg2.location(b, length, trace, "RECEIVER_LOCATION").x);
             same(trace + 0.5, Seg2.doubleValue(b, length, trace, "RECEIVER_LOCATION").value);
-            same(trace * 10L + 5, Seg2.number(b, length, trace, "RECEIVER_LOCATION").coefficient);
+            Seg2.Decimal number = Seg2.number(b, length, trace, "RECEIVER_LOCATION");
+            same(trace * 10L + 5, number.coefficient);
+            same(trace + ".5", number.text());
             same("RECEIVER_LOCATION", Seg2.string(b, length, trace, 0).keyText());
             same(1, Seg2.stringCount(b, length, trace).count);
             if (trace < 3) {
@@ -666,13 +735,15 @@ public final class Seg2Test {
         test("bit patterns and classes", Seg2Test::bitsAndClasses);
         test("several receivers in one group", Seg2Test::severalReceivers);
         test("numbers, doubles and locations", Seg2Test::numbersAndLocations);
+        test("numbers as they were typed", Seg2Test::numbersAsTheyWereTyped);
+        test("numbers that no text gives", Seg2Test::forgedNumbers);
         test("the lines of a NOTE", Seg2Test::noteLines);
         test("a refused start or addition changes nothing", Seg2Test::refusedAdditionsChangeNothing);
         test("characters that are no ASCII", Seg2Test::otherCharacters);
         test("the limit of a buffer holds", Seg2Test::theLimitHolds);
         test("a mapped file", Seg2Test::mappedFile);
         test("a misused buffer is told before the library is called", Seg2Test::misusedBuffers);
-        test("so is a keyword or sheet that is null", Seg2Test::misusedTexts);
+        test("so is a keyword, sheet or text that is null", Seg2Test::misusedTexts);
         test("so is a misused row", Seg2Test::misusedRows);
         test("so is a row in the file's own memory", Seg2Test::rowsInTheFilesOwnMemory);
         // the machine gives a Java thread the least it can live with where less is asked for

@@ -1,0 +1,5 @@
+pub mod LastDigits
+pub mod Numeral
+pub mod Stored
+pub mod Plain
+pub mod Returned

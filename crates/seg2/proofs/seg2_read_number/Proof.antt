@@ -1,0 +1,14 @@
+-- `seg2::seg2_read_number` meets its contract. The answer of the function below it, as it crosses. Assumes nothing.
+use mathlib.Core.Path.{ap, _∙_}
+use Rattle.face.specs.Face.{asNumber}
+use borrow.Author.Needs.{needs}
+use Rattle.seg2.proofs.seg2_read_number.Statement.{statement}
+use Rattle.seg2.proofs.seg2_read_number.Tie as tie
+
+pub seg2-read-number-spec : {M : Type 1} → statement M
+seg2-read-number-spec =
+    tie.close
+    (tie.spec
+    (λ c κs. search needs)
+    (λ c κs. search needs)
+    (λ c. c .number-told .ensures ∙ ap asNumber (c .before .number .ensures)))
