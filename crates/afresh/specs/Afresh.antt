@@ -15,7 +15,8 @@ use Rattle.sheet.specs.Area.{areaSize, measuredOf}
 use Rattle.sheet.specs.declared.Measured.the-variants.{Size}
 use Rattle.refusal.specs.declared.Verdict.the-variants.{Accepted}
 use Rattle.image.specs.Image.{checkOf}
-use Rattle.head.specs.Head.{maximum, roomOf, countOf, stringEnd, lineEnd}
+use Rattle.head.specs.Head.{maximum, roomOf, countOf}
+use Rattle.terminators.specs.Terminators.{stringEnd, lineEnd}
 use Rattle.refusal.specs.declared.Written.{Written}
 use Rattle.refusal.specs.declared.Written.the-variants.{To, Refused}
 use Rattle.layout.specs.Layout.{slotsMost, nul, lineFeed, startSize, Trace, traceSize}

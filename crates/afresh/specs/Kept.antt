@@ -23,7 +23,8 @@ use Rattle.sheet.specs.Area.{sheetStrings, areaOf, areaSize}
 use Rattle.sheet.specs.Sizes.{length-area}
 use Rattle.note.specs.Note.{LineEnd}
 use Rattle.area.specs.Spelling.{area-spells}
-use Rattle.head.specs.Head.{maximum, highFirst, countOf, stringEnd, lineEnd, apart}
+use Rattle.head.specs.Head.{maximum, highFirst, countOf}
+use Rattle.terminators.specs.Terminators.{stringEnd, lineEnd, apart}
 use Rattle.block.specs.Block.{pointerOf, endAt}
 use Rattle.image.specs.Image.{checkOf}
 use Rattle.image.specs.Keeps.{traceAt, endBefore, stringsEnd, KeepsTrace, Keeps}

@@ -13,8 +13,9 @@ use Rattle.word.specs.Word.{bytesOf}
 use Rattle.sample.specs.Needed.{room}
 use Rattle.sheet.specs.declared.Measured.the-variants.{Size}
 use Rattle.sheet.specs.Area.{areaSize, measuredOf}
-use Rattle.head.specs.Head.{maximum, highFirst, countOf, terminatorAt, stringEnd, lineEnd, goodTerminator, fileBlockOf}
-use Rattle.head.specs.HeadLaws.{good-most}
+use Rattle.head.specs.Head.{maximum, highFirst, countOf, fileBlockOf}
+use Rattle.terminators.specs.Terminators.{terminatorAt, stringEnd, lineEnd, goodTerminator}
+use Rattle.terminators.specs.TerminatorLaws.{good-most}
 use Rattle.head.specs.declared.FileBlock.{FileBlock}
 use Rattle.layout.specs.Layout.{Trace, Samples, count, fitting, samplesData, traceBytes}
 use Rattle.layout.specs.LayoutLaws.{Kinded, room-enough, length-traceBytes}

@@ -39,7 +39,8 @@ use Rattle.numeral.specs.Stored.{count-many, count-large, count-few, after-many
 use Rattle.numeral.specs.Plain.{Plain, Shows, shown-exactly}
 use Rattle.numeral.specs.Returned.{reads-back, one-text-one-number, text-there, refused-stays, given-written, typed-stays, longest}
 use Rattle.numeral.specs.Returned.{longest-given, least-room}
-use Rattle.face.specs.Face.{flag, asGiven}
+use Rattle.face.specs.Face.{flag}
+use Rattle.face_values.specs.FaceValues.{asGiven}
 use Rattle.demands.specs.Answers.{writes}
 
 -- ---- "The number answer should also carry how many digits stood after the point." Rules out a count of the digits

@@ -20,7 +20,8 @@ use Rattle.sample.specs.Needed.{needed, room}
 use Rattle.chars.specs.Runs.{run, same}
 use Rattle.sheet.specs.Lines.{lineLen, lineKeyLen, sheetLinesFrom, sheetLines}
 use Rattle.sheet.specs.Area.{joined, sheetStrings, textSize, areaSize}
-use Rattle.head.specs.Head.{fileBlockOf, highFirst, roomOf, countOf, stringEnd, lineEnd}
+use Rattle.head.specs.Head.{fileBlockOf, highFirst, roomOf, countOf}
+use Rattle.terminators.specs.Terminators.{stringEnd, lineEnd}
 use Rattle.block.specs.Block.{pointerOf, blockSize, dataSize, sampleCount, formatCode, traceBlockOf}
 use Rattle.image.specs.Image.{checkOf}
 use Rattle.head.specs.declared.FileAnswer.{FileAnswer}

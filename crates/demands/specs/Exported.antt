@@ -1,11 +1,11 @@
 -- Demand 2 as a caller in another language sees it: "the value as the caller's own bytes, not a copy" leaves the
--- library as a start and a length (face/Face), and the bytes there, in the caller's own buffer, are those of the list
--- of strings that the part spells.
+-- library as a start and a length (face_values/FaceValues), and the bytes there, in the caller's own buffer, are those
+-- of the list of strings that the part spells.
 -- Assumes nothing.
 use mathlib.Core.Path.{_≡_, refl, sym, _∙_}
 use mathlib.Core.Bool.{Bool, true, false}
 use mathlib.Core.List.{List}
-use Prim.Native.Nat.{ℕ, _-_, _≤_, _<_}
+use Prim.Native.Nat.{ℕ, _≤_, _<_}
 use native.Mathlib.Omega.{arith}
 use lib.IntN.{ℤ}
 use lib.ListN.{length, take, drop}
@@ -22,7 +22,7 @@ use Rattle.reader.specs.Questions.{yesOrNo, valueThere, nthAnswer, findAnswer, 
 use Rattle.reader.specs.Leaves.{Within}
 use Rattle.reader.specs.Reach.{nth-within, find-within, value-within}
 use Rattle.growth.specs.Answered.{AnswersBy}
-use Rattle.face.specs.Face.{asString, asValue}
+use Rattle.face_values.specs.FaceValues.{asString, asValue}
 
 -- the bytes from a start on, so many of them
 abbrev pub bytesFrom : ℕ → ℕ → List ℕ → List ℕ

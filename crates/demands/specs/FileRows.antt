@@ -30,7 +30,8 @@ use Rattle.strings.specs.declared.Judged.the-variants.{Keyword, Wrong}
 use Rattle.strings.specs.Strings.{offset, body, keyLen, frameRows, endOrText, frameOf, textRows, judgedOf, onJudged}
 use Rattle.strings.specs.Strings.{onFrame, stepOf, onStep, stringsFrom, stringsOf}
 use Rattle.head.specs.declared.Purpose.{Purpose}
-use Rattle.head.specs.Head.{highFirst, roomOf, countOf, stringEnd, lineEnd, headRows, headOf}
+use Rattle.head.specs.Head.{highFirst, roomOf, countOf, headRows, headOf}
+use Rattle.terminators.specs.Terminators.{stringEnd, lineEnd}
 use Rattle.block.specs.Block.{pointerOf, blockSize, endAt, badPointer, pointerRow, blockRows, blockOf}
 use Rattle.block.specs.BlockLaws.{headAt}
 use Rattle.image.specs.Image.{areaVerdict, traceChecks, traceOf, tracesFrom, filledChecks, restOf, imageOf, badLength}

@@ -22,7 +22,8 @@ use Rattle.word.specs.Round.{round4}
 use Rattle.word.specs.Word.{wordAt}
 use Rattle.refusal.specs.declared.Verdict.the-variants.{Accepted}
 use Rattle.strings.specs.Spelled.{Str, Spells}
-use Rattle.head.specs.Head.{highFirst, roomOf, countOf, stringEnd, lineEnd}
+use Rattle.head.specs.Head.{highFirst, roomOf, countOf}
+use Rattle.terminators.specs.Terminators.{stringEnd, lineEnd}
 use Rattle.image.specs.Image.{checkOf}
 use Rattle.image.specs.Keeps.{stringsEnd}
 use Rattle.head.specs.declared.FileAnswer.the-variants as file

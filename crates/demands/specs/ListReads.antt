@@ -15,7 +15,8 @@ use Rattle.word.specs.Part.{part}
 use Rattle.strings.specs.Spelled.{Spells}
 use Rattle.sheet.specs.Area.{sheetStrings}
 use Rattle.area.specs.Spelling.{area-spells}
-use Rattle.head.specs.Head.{maximum, fileBlockOf, highFirst, roomOf, stringEnd, lineEnd}
+use Rattle.head.specs.Head.{maximum, fileBlockOf, highFirst, roomOf}
+use Rattle.terminators.specs.Terminators.{stringEnd, lineEnd}
 use Rattle.image.specs.Image.{checkOf}
 use Rattle.image.specs.Keeps.{traceAt}
 use Rattle.head.specs.declared.FileAnswer.the-variants as file

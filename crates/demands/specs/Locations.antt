@@ -1,6 +1,6 @@
 -- Demand 2, locations without any order of reading: "x alone or x, y and z as doubles, parted by spaces or tabs;
 -- separators at either end are dropped. The answer keeps how many there were; absent y and z are 0" (document 01,
--- "Numbers in values"). `Parted` (double/Values) says which values a text has: blanks and values in turn, the values
+-- "Numbers in values"). `Parted` (location/Values) says which values a text has: blanks and values in turn, the values
 -- not empty, without a blank, and ended by a blank or the text's end, each with its place. Each value keeps the count
 -- of its decimals (document 02 §4).
 -- Assumes nothing.
@@ -19,14 +19,14 @@ use Rattle.decimal.specs.declared.NumberAnswer.the-variants as number
 use Rattle.decimal.specs.Number.{numberIn}
 use Rattle.double.specs.declared.DoubleAnswer.{DoubleAnswer}
 use Rattle.double.specs.declared.DoubleAnswer.the-variants as double
-use Rattle.double.specs.declared.Coordinate.{Coordinate}
-use Rattle.double.specs.declared.CoordinateAnswer.{CoordinateAnswer}
-use Rattle.double.specs.declared.CoordinateAnswer.the-variants as coordinate
-use Rattle.double.specs.declared.Coordinates.{Coordinates}
-use Rattle.double.specs.declared.LocationAnswer.the-variants as location
+use Rattle.location.specs.declared.Coordinate.{Coordinate}
+use Rattle.location.specs.declared.CoordinateAnswer.{CoordinateAnswer}
+use Rattle.location.specs.declared.CoordinateAnswer.the-variants as coordinate
+use Rattle.location.specs.declared.Coordinates.{Coordinates}
+use Rattle.location.specs.declared.LocationAnswer.the-variants as location
 use Rattle.double.specs.Double.{onNumber, doubleOf}
-use Rattle.double.specs.Location.{valueCount, decimalsOf, counted, coordinateOf, alone, together, onCoordinate, oneOf, threeOf, located, locationOf}
-use Rattle.double.specs.Values.{Value, Parted, parted, one-split}
+use Rattle.location.specs.Location.{valueCount, decimalsOf, counted, coordinateOf, alone, together, onCoordinate, oneOf, threeOf, located, locationOf}
+use Rattle.location.specs.Values.{Value, Parted, parted, one-split}
 use Rattle.demands.specs.QuestionRows.{inTurn, oneOrThree, location-refused-first}
 
 -- every text has its values, and no others

@@ -6,12 +6,12 @@
 -- Assumes nothing.
 use mathlib.Core.Path.{_≡_, refl, sym, ap, _∙_}
 use mathlib.Core.List.{List, map}
-use Prim.Native.Nat.{ℕ, zero, suc, _+_, _-_, _*_, _/_, _^_, _≤_, _<_}
+use Prim.Native.Nat.{ℕ, zero, suc, _+_, _*_, _/_, _^_, _≤_, _<_}
 use native.Mathlib.Nat.{le-antisymm, mul-le-mul-right, suc-mul}
 use native.Mathlib.Omega.{arith, by-contra}
 use lib.IntN.{ℤ, pos, negsuc, negℤ, natAbs, _-ℤ_, _*ℤ_, pos-*ℤ-pos, negsuc-*ℤ-pos}
-use Rattle.encode.specs.Write.{mantissaMost, smallest, exponentOf, mantissaOf}
-use Rattle.encode.specs.WriteLaws.{no-less, exponent-smallest}
+use Rattle.float20.specs.Float20.{mantissaMost, smallest, exponentOf, mantissaOf}
+use Rattle.float20.specs.Float20Laws.{no-less, exponent-smallest}
 use Rattle.encode.specs.Cut.{cut, size-neg, size-mantissa, cut-near, cut-between, cut-exact}
 use Rattle.growth.specs.TraceReads.{readBack}
 

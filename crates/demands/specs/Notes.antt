@@ -16,8 +16,8 @@ use Rattle.chars.specs.Chars.{note}
 use Rattle.note.specs.Note.{linesOf, withEnds, Each, Characters, Lacks, LineEnd, Lines, lines-back}
 use Rattle.note.specs.Note.{no-line-holds-an-end, lines-are-of-characters, lines-once}
 use Rattle.strings.specs.Spelled.{Str, nthStr, GoodString, Rising, Spells, Spells.empty, Spells.full}
-use Rattle.head.specs.Head.{lineEnd}
-use Rattle.head.specs.HeadLaws.{good-ends}
+use Rattle.terminators.specs.Terminators.{lineEnd}
+use Rattle.terminators.specs.TerminatorLaws.{good-ends}
 use Rattle.image.specs.Image.{checkOf}
 use Rattle.image.specs.Accepted.{image-headed}
 use Rattle.reader.specs.Listed.{Lists}

@@ -31,13 +31,13 @@ use Rattle.strings.specs.Strings.{nthOf, findOf, valueFound}
 use Rattle.decimal.specs.declared.Decimal.{Decimal}
 use Rattle.decimal.specs.declared.NumberAnswer.the-variants as number
 use Rattle.double.specs.declared.DoubleAnswer.the-variants as double
-use Rattle.double.specs.declared.Coordinate.{Coordinate}
-use Rattle.double.specs.declared.LocationAnswer.{LocationAnswer}
-use Rattle.double.specs.declared.LocationAnswer.the-variants as location
+use Rattle.location.specs.declared.Coordinate.{Coordinate}
+use Rattle.location.specs.declared.LocationAnswer.{LocationAnswer}
+use Rattle.location.specs.declared.LocationAnswer.the-variants as location
 use Rattle.decimal.specs.Number.{decimalOf, limits, judged, shapeRows, partsOf, numberIn}
 use Rattle.double.specs.Double.{scaledOf, withSign, noDouble, doubleFrom, onNumber, doubleOf}
-use Rattle.double.specs.Values.{Value, valuesOf}
-use Rattle.double.specs.Location.{valueCount, coordinateOf, alone, together, onCoordinate, oneOf, threeOf, located, locationOf}
+use Rattle.location.specs.Values.{Value, valuesOf}
+use Rattle.location.specs.Location.{valueCount, coordinateOf, alone, together, onCoordinate, oneOf, threeOf, located, locationOf}
 use Rattle.head.specs.Head.{fileBlockOf, highFirst, countOf}
 use Rattle.block.specs.Block.{traceBlockOf}
 use Rattle.image.specs.Image.{checkOf}

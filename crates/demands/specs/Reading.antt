@@ -21,18 +21,18 @@ use Rattle.refusal.specs.declared.Verdict.the-variants.{Accepted}
 use Rattle.refusal.specs.Table.{refusal}
 use Rattle.strings.specs.Spelled.{Str, valueOfKey}
 use Rattle.decimal.specs.declared.Decimal.{Decimal}
-use Rattle.double.specs.declared.Coordinates.{Coordinates}
+use Rattle.location.specs.declared.Coordinates.{Coordinates}
 use Rattle.decimal.specs.declared.NumberAnswer.the-variants as number
 use Rattle.double.specs.declared.DoubleAnswer.the-variants as double
-use Rattle.double.specs.declared.LocationAnswer.the-variants as location
+use Rattle.location.specs.declared.LocationAnswer.the-variants as location
 use Rattle.decimal.specs.Grammar.{Parts, Writes, Short, over, under}
 use Rattle.decimal.specs.Number.{decimalOf, noNumber, tooLong, numberIn}
 use Rattle.double.specs.Double.{doubleOf}
-use Rattle.double.specs.Location.{locationOf}
+use Rattle.location.specs.Location.{locationOf}
 use Rattle.decimal.specs.Meaning.{Means, number-means}
 use Rattle.decimal.specs.Agreed.{parts-unique, is-number, no-number, too-long}
 use Rattle.decimal.specs.Marks.{comma}
-use Rattle.double.specs.LocationMarks.{comma-double, comma-location}
+use Rattle.location.specs.LocationMarks.{comma-double, comma-location}
 use Rattle.double.specs.Rounded.{text-rounded-once}
 use Rattle.sheet.specs.declared.Measured.the-variants.{Size}
 use Rattle.sheet.specs.Lines.{Line, sheetLines}

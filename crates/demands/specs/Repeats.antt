@@ -20,7 +20,7 @@ use Rattle.strings.specs.Spelled.{Str, nthStr, valueOfKey}
 use Rattle.strings.specs.Paper.{keywords-once}
 use Rattle.decimal.specs.Number.{numberIn}
 use Rattle.double.specs.Double.{doubleOf}
-use Rattle.double.specs.Location.{locationOf}
+use Rattle.location.specs.Location.{locationOf}
 use Rattle.sample.specs.Needed.{needed, room}
 use Rattle.sheet.specs.declared.Measured.the-variants.{Size}
 use Rattle.sheet.specs.Lines.{Line, plain, spaced, lineLen, lineKeyLen, sheetLinesFrom, sheetLines}

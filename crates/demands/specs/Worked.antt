@@ -18,7 +18,8 @@ use Rattle.sample.specs.Run as samples
 use Rattle.decode.specs.Sample.{patternOf, twos, exponentIn, ones, scaled, groupSample, sampleOf, integersThere}
 use Rattle.decode.specs.Sample.{integersRead}
 use Rattle.fit.specs.Unfit.{firstFrom, unfitInteger, unfitIntegers}
-use Rattle.encode.specs.Write.{smallest, exponentOf, mantissaOf, onesBits, exponentsOf, wordsOf, groupBytes, groups}
+use Rattle.float20.specs.Float20.{smallest, exponentOf, mantissaOf, onesBits}
+use Rattle.encode.specs.Write.{exponentsOf, wordsOf, groupBytes, groups}
 use Rattle.encode.specs.Write.{filledUp, integersData}
 use Rattle.decimal.specs.declared.NumberAnswer.{NumberAnswer}
 use Rattle.decimal.specs.declared.NumberAnswer.the-variants as answer

@@ -26,7 +26,8 @@ use Rattle.sheet.specs.declared.Measured.the-variants as measured
 use Rattle.sheet.specs.Lines.{lineLen, lineOf, lineKeyLen, lineRows, lineJudged, onLineJudged, lineStep, onLineStep}
 use Rattle.sheet.specs.Lines.{checkFrom, linesVerdict}
 use Rattle.sheet.specs.Area.{areaMost, areaSize, measuredOf}
-use Rattle.head.specs.Head.{maximum, roomOf, countOf, stringEnd, lineEnd}
+use Rattle.head.specs.Head.{maximum, roomOf, countOf}
+use Rattle.terminators.specs.Terminators.{stringEnd, lineEnd}
 use Rattle.refusal.specs.declared.Written.{Written}
 use Rattle.refusal.specs.declared.Written.the-variants as written
 use Rattle.layout.specs.Layout.{nul, lineFeed, startSize, Trace, Samples, Samples.integers, Samples.patterns, fitting}

@@ -1,15 +1,12 @@
 -- The machine's 32-bit patterns of signed numbers: bits, magnitude and bounds by the sign.
 -- Assumes nothing.
 use mathlib.Core.Path.{_≡_}
-use mathlib.Core.Bool.{Bool, true, false, _||_}
+use mathlib.Core.Bool.{true, false}
 use Prim.Native.Nat.{ℕ, _-_, _<_}
 use native.Mathlib.Omega.{arith}
 use lib.IntN.{ℤ, pos, negsuc, natAbs}
 use lib.Signed.{mag, ltZ}
 use borrow.Author.Tests.{ltb-true}
-use mir.Syntax.{w32}
-use mir.Val.{toZ, ofZ}
-use Rattle.word.specs.Signed.{kept}
 use Rattle.encode.specs.Write.{residue}
 
 pub minus-bits : (v : ℤ) → mag v < 2147483648 → ltZ v (pos 0) ≡ true → residue 4294967296 v ≡ 4294967295 - mag v

@@ -20,9 +20,11 @@ use Rattle.sample.specs.Run.{valuesFrom, run-same, run-map, run-of}
 use Rattle.decode.specs.Sample.{exponentIn, ones, scaled, groupSample, sampleOf, integersThere, integersRead}
 use Rattle.decode.specs.SampleLaws.{minus-times, scaled-plus, scaled-minus, in-group, all-read}
 use Rattle.fit.specs.Unfit.{unfitIntegers}
-use Rattle.encode.specs.Write.{mantissaMost, flat, smallest, exponentOf, mantissaOf, onesBits, exponentsOf}
+use Rattle.float20.specs.Float20.{mantissaMost, smallest, exponentOf, mantissaOf, onesBits}
+use Rattle.float20.specs.Float20Laws.{no-less, exponent-of, exponent-smallest, exponent-small}
+use Rattle.encode.specs.Write.{flat, exponentsOf}
 use Rattle.encode.specs.Write.{wordsOf, groupBytes, groups, filledUp, integersData}
-use Rattle.encode.specs.WriteLaws.{no-less, exponent-of, exponent-smallest, exponent-small, fit-magnitude}
+use Rattle.encode.specs.WriteLaws.{fit-magnitude}
 use Rattle.encode.specs.WriteLaws.{length-group}
 use Rattle.encode.specs.Back.{word-flat, written-there}
 use Rattle.fit.specs.declared.Fit.the-variants.{All}

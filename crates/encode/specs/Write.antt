@@ -1,16 +1,15 @@
 -- The data bytes of a row of samples (document 01, "Samples" and "What we write"). Every definition is for any row;
 -- that what is read back is what was written holds of the rows that the code can hold.
 -- Assumes nothing.
-use mathlib.Core.Bool.{Bool, cond}
+use mathlib.Core.Bool.{Bool}
 use mathlib.Core.List.{List, [], _∷_, _++_}
-use Prim.Native.Nat.{ℕ, zero, suc, _+_, _-_, _*_, _/_, _%_, _^_}
-use lib.IntN.{ℤ, pos, negsuc, natAbs}
-use lib.Signed.{quotZ}
+use Prim.Native.Nat.{ℕ, _+_, _-_, _*_, _%_, _^_}
+use lib.IntN.{ℤ, pos, negsuc}
 use lib.ListN.{length, getD, replicate}
-use lib.Dec.{leb}
 use Rattle.word.specs.Round.{round4}
 use Rattle.word.specs.Word.{bytesOf}
 use Rattle.sample.specs.Needed.{byCode}
+use Rattle.float20.specs.Float20.{exponentOf, mantissaOf, onesBits}
 
 -- the bytes of the samples, one sample behind the other
 unfoldable pub flat : {A : Type 0} → (A → List ℕ) → List A → List ℕ
@@ -29,27 +28,6 @@ unfoldable pub fixedBytes : ℕ → Bool → ℤ → List ℕ
 fixedBytes w high z = bytesOf w high (residue (256 ^ w) z)
 
 -- ---- code 3
-
--- the greatest mantissa: "at most 32,767"
-abbrev pub mantissaMost : ℕ
-mantissaMost = 32767
-
--- the first exponent from e on that brings n to at most that; where `left` more are not enough, the last of them
-unfoldable pub smallest : ℕ → ℕ → ℕ → ℕ
-smallest zero e n = e
-smallest (suc left) e n = cond (leb (n / 2 ^ e) mantissaMost) e (smallest left (e + 1) n)
-
--- "the exponent is the smallest .. that brings it to at most 32,767; low bits are cut toward zero"
-unfoldable pub exponentOf : ℤ → ℕ
-exponentOf z = smallest 15 0 (natAbs z)
-
-unfoldable pub mantissaOf : ℤ → ℤ
-mantissaOf z = quotZ z (pos (2 ^ exponentOf z))
-
--- one's complement of 16 bits: a negative number is all bits but those of its magnitude; 0 is 0000h
-unfoldable pub onesBits : ℤ → ℕ
-onesBits (pos n) = n
-onesBits (negsuc n) = 65535 - suc n
 
 -- the first word of a group: the exponent of sample 0 in bits 0-3, that of sample 3 in bits 12-15
 unfoldable pub exponentsOf : ℤ → ℤ → ℤ → ℤ → ℕ

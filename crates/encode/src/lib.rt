@@ -1,19 +1,18 @@
 // The five sample codes written, on a data block alone (document 01, "Samples"). Write has the definitions; Back and
-// Cut say what is read back: the samples, or code 3's nearest towards 0. Stands on `fit`, `decode`, `sample`, `store`,
-// `word`.
+// Cut say what is read back: the samples, or code 3's nearest towards 0. Stands on `float20`, `fit`, `decode`,
+// `sample`, `store`, `word`.
 // The rules in words: docs/FORMAT.md, "Samples".
 use fit::Fit;
 ghost use mathlib.Core.Path.{_≡_};
 ghost use mathlib.Core.Bool.{true, false};
 ghost use mathlib.Core.List.{_++_};
 ghost use Prim.Native.Nat.{_+_, _*_, _/_, _%_, _≤_, _<_};
-ghost use lib.IntN.{natAbs};
 ghost use lib.ListN.{length};
 ghost use Rattle.word.specs.Put.{put};
 ghost use Rattle.word.specs.Word.{joined, bytesOf};
 ghost use Rattle.sample.specs.Needed.{room};
 ghost use Rattle.fit.specs.Unfit.{unfitIntegers};
-ghost use Rattle.encode.specs.WriteLaws.{Told, Coded, Words, TwoBytes, Writing, frontOf, pairsFrom};
+ghost use Rattle.encode.specs.WriteLaws.{Words, TwoBytes, Writing, frontOf, pairsFrom};
 ghost use Rattle.encode.specs.Write.{residue, wordsOf, groups, integersData, bitsData};
 
 // The two bytes of a number, stored at a place.
@@ -105,50 +104,6 @@ pub fn write5(row: &[u64], high: bool, part: &mut [u8])
     store::zeros(part, end, word::round_up(end));
 }
 
-// The smallest exponent that brings a magnitude to at most 32,767, found from its leading zeros: 17 of them leave 15
-// bits. The low 15 bits count as set, so that a magnitude of fewer bits has 17 too, and no test is made.
-fn exponent(n: u32) -> u32
-    requires { ⌜ n < 1073741824 ⌝ }
-    ensures { λ r. ⌜ Told n r ⌝ }
-{
-    17 - u32::leading_zeros(n | 32767)
-}
-
-// A sample of code 3, as it is written.
-struct Float20 {
-    exponent: u32,
-    mantissa: u16,
-}
-
-// The low bits are cut toward zero: of the magnitude, before the sign comes in.
-fn float20_of(v: i32) -> Float20
-    requires { ⌜ natAbs v < 1073741824 ⌝ }
-    ensures { λ r. ⌜ Coded v (r .exponent) (r .mantissa) ⌝ }
-{
-    let n = word::magnitude(v);
-    let e = exponent(n);
-    let t = (n >> e) as u16;
-    if v < 0 {
-        Float20 {
-            exponent: e,
-            mantissa: 65535 - t,
-        }
-    } else {
-        Float20 {
-            exponent: e,
-            mantissa: t,
-        }
-    }
-}
-
-// The exponents of four samples in one word, that of sample 0 in bits 0-3.
-fn exponents(a: u32, b: u32, c: u32, d: u32) -> u32
-    requires { ⌜ (a < 16) × (b < 16) × (c < 16) × (d < 16) ⌝ }
-    ensures { λ r. ⌜ r ≡ a + 16 * b + 256 * c + 4096 * d ⌝ }
-{
-    d << 12 | c << 8 | b << 4 | a
-}
-
 // Two words, one behind the other, as one number of four bytes.
 fn pair(high: bool, a: u32, b: u32) -> u32
     requires { ⌜ (a < 65536) × (b < 65536) ⌝ }
@@ -182,12 +137,12 @@ fn group_of(row: &[i32], g: usize) -> Group
     ensures { λ r. ⌜ Words (now (row .entry)) g (r .w) (r .a) (r .b) (r .c) (r .d) ⌝ }
 {
     let i = 4 * g;
-    let a = float20_of(row[i]);
-    let b = float20_of(row[i + 1]);
-    let c = float20_of(row[i + 2]);
-    let d = float20_of(row[i + 3]);
+    let a = float20::float20_of(row[i]);
+    let b = float20::float20_of(row[i + 1]);
+    let c = float20::float20_of(row[i + 2]);
+    let d = float20::float20_of(row[i + 3]);
     Group {
-        w: exponents(a.exponent, b.exponent, c.exponent, d.exponent),
+        w: float20::exponents(a.exponent, b.exponent, c.exponent, d.exponent),
         a: a.mantissa as u32,
         b: b.mantissa as u32,
         c: c.mantissa as u32,

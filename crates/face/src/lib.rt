@@ -1,23 +1,16 @@
 // The answers as they cross to another language: C structs of numbers, each beginning with the refusal's number in
-// document 01's table (0: none), its part (-1 for the file, else the trace) and its place. Face has the definitions;
-// include/seg2.h declares the structs, with the same fields in the same order, to which a host test holds both.
-// Stands on `reader`, `double` and what they stand on.
+// document 01's table (0: none), its part (-1 for the file, else the trace) and its place. Here those on files and
+// lengths; `face_values` has those on strings and their values. Face has the definitions; include/seg2.h declares the
+// structs, with the same fields in the same order, to which a host test holds both.
+// Stands on `reader` and what it stands on.
 // The rules in words: docs/FORMAT.md, "Refusal numbers, in order of checking".
 use block::TraceAnswer;
-use decimal::Decimal;
-use decimal::NumberAnswer;
-use double::DoubleAnswer;
-use double::LocationAnswer;
 use head::FileAnswer;
 use reader::CountAnswer;
-use reader::KeywordAnswer;
-use reader::StringAnswer;
 use refusal::Verdict;
 use refusal::Written;
 ghost use mathlib.Core.Path.{_≡_};
-ghost use Prim.Native.Nat.{_-_};
-ghost use Rattle.face.specs.Face.{flag, asVerdict, asFile, asTrace, asCount, asString, asKeyword, asValue};
-ghost use Rattle.face.specs.Face.{asNumber, asDouble, asLocation, asLength, asGiven};
+ghost use Rattle.face.specs.Face.{flag, asVerdict, asFile, asTrace, asCount, asLength};
 
 #[repr(C)]
 pub struct Seg2Verdict {
@@ -61,72 +54,6 @@ pub struct Seg2Count {
     pub count: usize,
 }
 
-// Whether there is such a string; start and length of its keyword and of its value in the caller's own buffer.
-#[repr(C)]
-pub struct Seg2String {
-    pub number: u32,
-    pub part: i32,
-    pub place: usize,
-    pub found: u32,
-    pub key_start: usize,
-    pub key_length: usize,
-    pub value_start: usize,
-    pub value_length: usize,
-}
-
-#[repr(C)]
-pub struct Seg2Keyword {
-    pub number: u32,
-    pub part: i32,
-    pub place: usize,
-    pub found: u32,
-}
-
-// Start and length of the value in the caller's own buffer; both 0 for a no or a refusal.
-#[repr(C)]
-pub struct Seg2Value {
-    pub number: u32,
-    pub part: i32,
-    pub place: usize,
-    pub value_start: usize,
-    pub value_length: usize,
-}
-
-// Sign (1: minus), coefficient as written, power of ten, and how many digits stood after the point.
-#[repr(C)]
-pub struct Seg2Number {
-    pub number: u32,
-    pub part: i32,
-    pub place: usize,
-    pub minus: u32,
-    pub power: i32,
-    pub coefficient: u64,
-    pub decimals: u32,
-}
-
-#[repr(C)]
-pub struct Seg2Double {
-    pub number: u32,
-    pub part: i32,
-    pub place: usize,
-    pub value: f64,
-}
-
-// How many values there were, the values, and of each how many digits stood after its point; absent ones are 0.
-#[repr(C)]
-pub struct Seg2Location {
-    pub number: u32,
-    pub part: i32,
-    pub place: usize,
-    pub count: u32,
-    pub x: f64,
-    pub y: f64,
-    pub z: f64,
-    pub x_decimals: u32,
-    pub y_decimals: u32,
-    pub z_decimals: u32,
-}
-
 // The image's new length, or the length of the text that a number was written as.
 #[repr(C)]
 pub struct Seg2Length {
@@ -136,34 +63,11 @@ pub struct Seg2Length {
     pub length: usize,
 }
 
-fn one_if(b: bool) -> u32
+// A bool as a number.
+pub fn one_if(b: bool) -> u32
     ensures { λ r. ⌜ r ≡ flag b ⌝ }
 {
     if b { 1 } else { 0 }
-}
-
-// How many bytes stand from a up to e.
-fn span(a: usize, e: usize) -> usize
-    ensures { λ r. ⌜ r ≡ e - a ⌝ }
-{
-    if e < a {
-        return 0;
-    }
-    e - a
-}
-
-// ---- a number as it comes back from another language
-
-// Its sign is a number there: 0 for plus, any other for minus.
-pub fn number_given(minus: u32, coefficient: u64, power: i32, decimals: u32) -> Decimal
-    ensures { λ r. ⌜ r ≡ asGiven minus coefficient power decimals ⌝ }
-{
-    Decimal {
-        minus: 0 < minus,
-        coefficient,
-        power,
-        decimals,
-    }
 }
 
 // ---- answers as they cross to another language
@@ -266,189 +170,6 @@ pub fn count_told(a: CountAnswer) -> Seg2Count
                 part: t.part,
                 place: t.place,
                 count: 0,
-            }
-        }
-    }
-}
-
-pub fn string_told(a: StringAnswer) -> Seg2String
-    ensures { λ r. ⌜ r ≡ asString a ⌝ }
-{
-    match a {
-        StringAnswer::There(s) => Seg2String {
-            number: 0,
-            part: -1,
-            place: 0,
-            found: 1,
-            key_start: s.key,
-            key_length: span(s.key, s.gap),
-            value_start: s.value,
-            value_length: span(s.value, s.end),
-        },
-        StringAnswer::Absent => Seg2String {
-            number: 0,
-            part: -1,
-            place: 0,
-            found: 0,
-            key_start: 0,
-            key_length: 0,
-            value_start: 0,
-            value_length: 0,
-        },
-        StringAnswer::Refused(r) => {
-            let t = told(Verdict::Refused(r));
-            Seg2String {
-                number: t.number,
-                part: t.part,
-                place: t.place,
-                found: 0,
-                key_start: 0,
-                key_length: 0,
-                value_start: 0,
-                value_length: 0,
-            }
-        }
-    }
-}
-
-pub fn keyword_told(a: KeywordAnswer) -> Seg2Keyword
-    ensures { λ r. ⌜ r ≡ asKeyword a ⌝ }
-{
-    match a {
-        KeywordAnswer::Yes => Seg2Keyword {
-            number: 0,
-            part: -1,
-            place: 0,
-            found: 1,
-        },
-        KeywordAnswer::No => Seg2Keyword {
-            number: 0,
-            part: -1,
-            place: 0,
-            found: 0,
-        },
-        KeywordAnswer::Refused(r) => {
-            let t = told(Verdict::Refused(r));
-            Seg2Keyword {
-                number: t.number,
-                part: t.part,
-                place: t.place,
-                found: 0,
-            }
-        }
-    }
-}
-
-pub fn value_told(a: StringAnswer) -> Seg2Value
-    ensures { λ r. ⌜ r ≡ asValue a ⌝ }
-{
-    match a {
-        StringAnswer::There(s) => Seg2Value {
-            number: 0,
-            part: -1,
-            place: 0,
-            value_start: s.value,
-            value_length: span(s.value, s.end),
-        },
-        StringAnswer::Absent => Seg2Value {
-            number: 0,
-            part: -1,
-            place: 0,
-            value_start: 0,
-            value_length: 0,
-        },
-        StringAnswer::Refused(r) => {
-            let t = told(Verdict::Refused(r));
-            Seg2Value {
-                number: t.number,
-                part: t.part,
-                place: t.place,
-                value_start: 0,
-                value_length: 0,
-            }
-        }
-    }
-}
-
-pub fn number_told(a: NumberAnswer) -> Seg2Number
-    ensures { λ r. ⌜ r ≡ asNumber a ⌝ }
-{
-    match a {
-        NumberAnswer::Is(n) => Seg2Number {
-            number: 0,
-            part: -1,
-            place: 0,
-            minus: one_if(n.minus),
-            power: n.power,
-            coefficient: n.coefficient,
-            decimals: n.decimals,
-        },
-        NumberAnswer::Refused(r) => {
-            let t = told(Verdict::Refused(r));
-            Seg2Number {
-                number: t.number,
-                part: t.part,
-                place: t.place,
-                minus: 0,
-                power: 0,
-                coefficient: 0,
-                decimals: 0,
-            }
-        }
-    }
-}
-
-pub fn double_told(a: DoubleAnswer) -> Seg2Double
-    ensures { λ r. ⌜ r ≡ asDouble a ⌝ }
-{
-    match a {
-        DoubleAnswer::Is(x) => Seg2Double {
-            number: 0,
-            part: -1,
-            place: 0,
-            value: x,
-        },
-        DoubleAnswer::Refused(r) => {
-            let t = told(Verdict::Refused(r));
-            Seg2Double {
-                number: t.number,
-                part: t.part,
-                place: t.place,
-                value: 0.0,
-            }
-        }
-    }
-}
-
-pub fn location_told(a: LocationAnswer) -> Seg2Location
-    ensures { λ r. ⌜ r ≡ asLocation a ⌝ }
-{
-    match a {
-        LocationAnswer::Is(c) => Seg2Location {
-            number: 0,
-            part: -1,
-            place: 0,
-            count: c.count,
-            x: c.x,
-            y: c.y,
-            z: c.z,
-            x_decimals: c.x_decimals,
-            y_decimals: c.y_decimals,
-            z_decimals: c.z_decimals,
-        },
-        LocationAnswer::Refused(r) => {
-            let t = told(Verdict::Refused(r));
-            Seg2Location {
-                number: t.number,
-                part: t.part,
-                place: t.place,
-                count: 0,
-                x: 0.0,
-                y: 0.0,
-                z: 0.0,
-                x_decimals: 0,
-                y_decimals: 0,
-                z_decimals: 0,
             }
         }
     }

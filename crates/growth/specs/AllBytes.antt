@@ -25,12 +25,14 @@ use Rattle.chars.specs.Runs.{all, same, same-eq, same-not}
 use Rattle.note.specs.Note.{Lines, Lines.done, Lines.char, Lines.line}
 use Rattle.strings.specs.Spelled.{Str, GoodString, Rising, textOf, sizeOf, texts, markedEnd, Spells, Spells.empty}
 use Rattle.strings.specs.Spelled.{Spells.full}
-use Rattle.encode.specs.Write.{flat, residue, fixedBytes, exponentsOf, mantissaOf, onesBits, wordsOf, groupBytes}
+use Rattle.float20.specs.Float20.{mantissaOf, onesBits}
+use Rattle.encode.specs.Write.{flat, residue, fixedBytes, exponentsOf, wordsOf, groupBytes}
 use Rattle.encode.specs.Write.{groups, filledUp, integersData, bitsData}
 use Rattle.sheet.specs.declared.Measured.the-variants.{Size}
 use Rattle.sheet.specs.Area.{areaOf, areaSize, padding, sheetStrings, textSize, measuredOf}
 use Rattle.area.specs.Spelling.{among, Terminators, terminators-end, area-spells}
-use Rattle.head.specs.Head.{highFirst, stringEnd, lineEnd}
+use Rattle.head.specs.Head.{highFirst}
+use Rattle.terminators.specs.Terminators.{stringEnd, lineEnd}
 use Rattle.layout.specs.Layout.{Trace, Samples, Samples.integers, Samples.patterns, count, fitting, samplesData}
 use Rattle.layout.specs.Layout.{orderMark, plainEnds, nul, lineFeed, fileBlock, startImage, traceBlock, blockBytes}
 use Rattle.layout.specs.Layout.{dataBytes, traceBytes}

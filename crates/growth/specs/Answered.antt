@@ -15,7 +15,7 @@ use Rattle.strings.specs.declared.Place.{Place}
 use Rattle.strings.specs.Spelled.{Str, nthStr, valueOfKey, hasKey}
 use Rattle.decimal.specs.Number.{numberIn}
 use Rattle.double.specs.Double.{doubleOf}
-use Rattle.double.specs.Location.{locationOf}
+use Rattle.location.specs.Location.{locationOf}
 use Rattle.image.specs.Image.{checkOf}
 use Rattle.reader.specs.declared.CountAnswer.the-variants as count
 use Rattle.reader.specs.declared.StringAnswer.the-variants as string

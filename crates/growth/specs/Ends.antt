@@ -16,7 +16,7 @@ use Rattle.word.specs.Tests.{both}
 use Rattle.word.specs.Part.{length-part}
 use Rattle.chars.specs.Runs.{all}
 use Rattle.area.specs.Spelling.{among, Terminators}
-use Rattle.head.specs.Head.{terminatorAt, stringEnd, lineEnd, lacks, apart}
+use Rattle.terminators.specs.Terminators.{terminatorAt, stringEnd, lineEnd, lacks, apart}
 use Rattle.image.specs.Keeps.{KeepsTerminator, Keeps}
 use Rattle.growth.specs.Kept.{short-terminator}
 

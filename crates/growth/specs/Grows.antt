@@ -20,7 +20,8 @@ use Rattle.word.specs.WordLaws.{word-take}
 use Rattle.fit.specs.declared.Fit.the-variants.{All}
 use Rattle.sheet.specs.declared.Measured.the-variants.{Size}
 use Rattle.sheet.specs.Area.{areaSize, measuredOf}
-use Rattle.head.specs.Head.{maximum, highFirst, roomOf, countOf, stringEnd, lineEnd}
+use Rattle.head.specs.Head.{maximum, highFirst, roomOf, countOf}
+use Rattle.terminators.specs.Terminators.{stringEnd, lineEnd}
 use Rattle.image.specs.Keeps.{Keeps}
 use Rattle.image.specs.Accepted.{accepted-keeps}
 use Rattle.layout.specs.Layout.{Trace, fitting, unfit, traceSize, traceBytes}

@@ -16,7 +16,8 @@ use Rattle.text.specs.declared.Manner.the-variants.{Strict}
 use Rattle.word.specs.Part.{part, getD-part}
 use Rattle.word.specs.Round.{round4}
 use Rattle.word.specs.Word.{valueOf, wordAt}
-use Rattle.head.specs.Head.{highFirst, revisionOf, roomOf, countOf, terminatorAt, stringEnd, lineEnd}
+use Rattle.head.specs.Head.{highFirst, revisionOf, roomOf, countOf}
+use Rattle.terminators.specs.Terminators.{terminatorAt, stringEnd, lineEnd}
 use Rattle.block.specs.Block.{pointerOf, markAt, blockSize, dataSize, sampleCount, formatCode, dataAt, endAt}
 use Rattle.image.specs.Keeps.{traceAt, endBefore, KeepsTerminator, Keeps}
 use Rattle.layout.specs.Layout.{Trace}

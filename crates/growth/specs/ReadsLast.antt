@@ -10,7 +10,8 @@ use Rattle.head.specs.declared.Purpose.the-variants.{Read}
 use Rattle.word.specs.Bytes.{Bytes}
 use Rattle.word.specs.Round.{round4}
 use Rattle.sheet.specs.Area.{areaSize}
-use Rattle.head.specs.Head.{countOf, stringEnd, lineEnd}
+use Rattle.head.specs.Head.{countOf}
+use Rattle.terminators.specs.Terminators.{stringEnd, lineEnd}
 use Rattle.image.specs.Accepted.{kept-ends}
 use Rattle.layout.specs.Layout.{Trace}
 use Rattle.append.specs.Grown.{grown}

@@ -26,7 +26,8 @@ use Rattle.strings.specs.Spelled.{Spells.full}
 use Rattle.sheet.specs.Area as area
 use Rattle.sheet.specs.Area.{areaSize}
 use Rattle.area.specs.Spelling.{area-bounds, area-spells}
-use Rattle.head.specs.Head.{highFirst, roomOf, countOf, stringEnd, lineEnd}
+use Rattle.head.specs.Head.{highFirst, roomOf, countOf}
+use Rattle.terminators.specs.Terminators.{stringEnd, lineEnd}
 use Rattle.block.specs.Block.{dataSize, dataAt, endAt}
 use Rattle.image.specs.Image.{checkOf}
 use Rattle.image.specs.Keeps.{traceAt, endBefore, stringsEnd, KeepsTrace, Keeps}

@@ -19,7 +19,8 @@ use Rattle.chars.specs.Runs.{same}
 use Rattle.strings.specs.Strings.{placesOf, findOf, keyIn, valueFound}
 use Rattle.strings.specs.Spelled.{Str, Spells, nthStr, strsIn}
 use Rattle.strings.specs.Paper.{spelled-places, spelled-value}
-use Rattle.head.specs.Head.{fileBlockOf, highFirst, roomOf, countOf, stringEnd, lineEnd}
+use Rattle.head.specs.Head.{fileBlockOf, highFirst, roomOf, countOf}
+use Rattle.terminators.specs.Terminators.{stringEnd, lineEnd}
 use Rattle.block.specs.Block.{blockSize, dataSize, dataAt, traceBlockOf}
 use Rattle.image.specs.Image.{checkOf}
 use Rattle.image.specs.Keeps.{traceAt, stringsEnd, Strings}

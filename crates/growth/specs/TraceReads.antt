@@ -29,7 +29,8 @@ use Rattle.sheet.specs.declared.Measured.the-variants.{Size}
 use Rattle.sheet.specs.Area.{sheetStrings, measuredOf}
 use Rattle.note.specs.Note.{LineEnd}
 use Rattle.area.specs.Spelling.{area-spells}
-use Rattle.head.specs.Head.{highFirst, countOf, stringEnd, lineEnd}
+use Rattle.head.specs.Head.{highFirst, countOf}
+use Rattle.terminators.specs.Terminators.{stringEnd, lineEnd}
 use Rattle.block.specs.Block.{dataAt, traceBlockOf}
 use Rattle.image.specs.Image.{checkOf}
 use Rattle.image.specs.Keeps.{traceAt}

@@ -6,7 +6,6 @@ use mathlib.Core.List.{List, [], _∷_}
 use Prim.Native.Nat.{ℕ, _+_, _/_, _%_, _<_}
 use lib.ListN.{getD}
 use lib.Dec.{ltb, eqb}
-use Rattle.word.specs.Part.{part}
 use Rattle.word.specs.Word.{wordAt}
 use Rattle.refusal.specs.declared.Rule.{Rule}
 use Rattle.refusal.specs.declared.Rule.the-variants.{FirstBytes, Revision, PointerRoom, TraceCount, Terminator, RoomEnd}
@@ -15,9 +14,8 @@ use Rattle.refusal.specs.declared.Verdict.{Verdict}
 use Rattle.refusal.specs.declared.Verdict.the-variants.{Accepted, Refused}
 use Rattle.refusal.specs.Table.{refusal}
 use Rattle.refusal.specs.Rows.{Rows, first}
-use Rattle.chars.specs.Chars.{control}
-use Rattle.chars.specs.Runs.{all}
 use Rattle.refusal.specs.Verdicts.{asked}
+use Rattle.terminators.specs.Terminators.{goodTerminator, badLines}
 use Rattle.head.specs.declared.Purpose.{Purpose}
 use Rattle.head.specs.declared.Purpose.the-variants.{Read, Grow}
 use Rattle.head.specs.declared.FileBlock.{FileBlock}
@@ -47,32 +45,6 @@ roomOf f = wordAt 2 (highFirst f) f 4
 unfoldable pub countOf : List ℕ → ℕ
 countOf f = wordAt 2 (highFirst f) f 6
 
--- "8 length of the string terminator with characters in 9-10, 11 length of the line terminator with characters in
--- 12-13": the one whose length stands at a place. The unused second byte of a one-byte terminator is ignored
-unfoldable pub terminatorAt : List ℕ → ℕ → List ℕ
-terminatorAt f at = part (at + 1) (at + 1 + getD f at 0) f
-
--- from where to where its characters stand
-abbrev pub terminatorSpan : List ℕ → ℕ → ℕ × ℕ
-terminatorSpan f at = (at + 1, at + 1 + getD f at 0)
-
-abbrev pub stringEnd : List ℕ → List ℕ
-stringEnd f = terminatorAt f 8
-
-abbrev pub lineEnd : List ℕ → List ℕ
-lineEnd f = terminatorAt f 11
-
--- "each terminator's length is 1 or 2 (any other is bad)", and its characters are a terminator's
-unfoldable pub goodTerminator : List ℕ → ℕ → Bool
-goodTerminator f at = (eqb (getD f at 0) 1 || eqb (getD f at 0) 2) && all control (terminatorAt f at)
-
--- "and the two share no character"
-abbrev pub lacks : List ℕ → ℕ → Bool
-lacks u b = all (λ x. not (eqb x b)) u
-
-unfoldable pub apart : List ℕ → List ℕ → Bool
-apart t u = all (lacks u) t
-
 -- ---- rows 2 to 7, on the first 32 bytes b of an image that ends at `end`
 
 -- "The addition also takes an image with N=0"
@@ -85,9 +57,6 @@ badRoom m = ltb m 4 || not (eqb (m % 4) 0)
 
 abbrev pub badCount : Purpose → ℕ → ℕ → Bool
 badCount purpose m n = (eqb n 0 && not (mayBeEmpty purpose)) || ltb (m / 4) n
-
-abbrev pub badLines : List ℕ → Bool
-badLines f = not (goodTerminator f 11) || not (apart (stringEnd f) (lineEnd f))
 
 abbrev pub refused : Rule → ℕ → Verdict
 refused r at = Refused (refusal r File at)

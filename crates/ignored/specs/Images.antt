@@ -26,7 +26,8 @@ use Rattle.refusal.specs.Rows.{pick}
 use Rattle.refusal.specs.declared.Part.{Part}
 use Rattle.refusal.specs.declared.Part.the-variants.{File, Trace}
 use Rattle.sample.specs.Needed.{needed}
-use Rattle.head.specs.Head.{highFirst, revisionOf, roomOf, countOf, terminatorAt, stringEnd, lineEnd, goodTerminator}
+use Rattle.head.specs.Head.{highFirst, revisionOf, roomOf, countOf}
+use Rattle.terminators.specs.Terminators.{terminatorAt, stringEnd, lineEnd, goodTerminator}
 use Rattle.head.specs.Head.{headOf}
 use Rattle.block.specs.Block.{pointerOf, markAt, blockSize, dataSize, sampleCount, formatCode, dataAt, endAt, blockOf}
 use Rattle.image.specs.Image.{areaVerdict, traceOf, tracesFrom, filledChecks, restOf, imageOf}

@@ -28,9 +28,11 @@ use Rattle.text.specs.declared.Manner.{Manner}
 use Rattle.head.specs.declared.Purpose.{Purpose}
 use Rattle.note.specs.Note.{LineEnd}
 use Rattle.strings.specs.Paper.{spelled-accepted, accepted-spelled}
-use Rattle.head.specs.Head.{maximum, known, highFirst, roomOf, countOf, stringEnd, lineEnd, goodTerminator, headOf}
+use Rattle.head.specs.Head.{maximum, known, highFirst, roomOf, countOf, headOf}
+use Rattle.terminators.specs.Terminators.{stringEnd, lineEnd, goodTerminator}
 use Rattle.head.specs.Head.{refused}
-use Rattle.head.specs.HeadLaws.{Headed, headed, head-accepts, good-length, good-chars, good-ends}
+use Rattle.head.specs.HeadLaws.{Headed, headed, head-accepts}
+use Rattle.terminators.specs.TerminatorLaws.{good-length, good-chars, good-ends}
 use Rattle.block.specs.Block.{blockSize, dataSize, dataAt, endAt}
 use Rattle.image.specs.Image.{areaVerdict, traceChecks, traceOf, tracesFrom, filledChecks, restOf, imageOf}
 use Rattle.image.specs.Image.{badLength, checkOf}

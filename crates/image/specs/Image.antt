@@ -20,7 +20,8 @@ use Rattle.strings.specs.Strings.{stringsOf}
 use Rattle.block.specs.Block.{pointerOf, blockSize, endAt, pointerRow, blockOf}
 use Rattle.block.specs.BlockLaws.{headAt}
 use Rattle.head.specs.declared.Purpose.{Purpose}
-use Rattle.head.specs.Head.{maximum, highFirst, roomOf, countOf, stringEnd, lineEnd, headOf, refused}
+use Rattle.head.specs.Head.{maximum, highFirst, roomOf, countOf, headOf, refused}
+use Rattle.terminators.specs.Terminators.{stringEnd, lineEnd}
 
 -- rows 14 to 17 of an area of the file: "The file's strings fill the bytes from 32+M to the first pointer", "strings
 -- from byte 32 to B"

@@ -21,7 +21,8 @@ use Rattle.head.specs.declared.Purpose.{Purpose}
 use Rattle.head.specs.declared.FileBlock.{FileBlock}
 use Rattle.head.specs.declared.FileAnswer.{FileAnswer}
 use Rattle.head.specs.declared.FileAnswer.the-variants as file
-use Rattle.head.specs.Head.{maximum, roomOf, countOf, stringEnd, lineEnd, headOf, fileBlockOf, headAnswer, InWords}
+use Rattle.head.specs.Head.{maximum, roomOf, countOf, headOf, fileBlockOf, headAnswer, InWords}
+use Rattle.terminators.specs.Terminators.{stringEnd, lineEnd}
 use Rattle.head.specs.HeadLaws.{Headed, headed, own-block, block-order, block-room, block-count}
 use Rattle.block.specs.declared.TraceBlock.{TraceBlock}
 use Rattle.block.specs.declared.TraceAnswer.the-variants as trace

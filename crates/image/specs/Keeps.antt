@@ -18,7 +18,8 @@ use Rattle.head.specs.declared.Purpose.{Purpose}
 use Rattle.head.specs.declared.Purpose.the-variants.{Grow}
 use Rattle.strings.specs.Spelled.{Str, Spells}
 use Rattle.chars.specs.Chars.{control}
-use Rattle.head.specs.Head.{maximum, highFirst, revisionOf, roomOf, countOf, terminatorAt, stringEnd, lineEnd, apart}
+use Rattle.head.specs.Head.{maximum, highFirst, revisionOf, roomOf, countOf}
+use Rattle.terminators.specs.Terminators.{terminatorAt, stringEnd, lineEnd, apart}
 use Rattle.block.specs.Block.{traceMark, pointerOf, markAt, blockSize, dataSize, sampleCount, formatCode, dataAt, endAt}
 
 -- where the trace k begins, and where what stands before it ends: the pointer room before the first, then the data of

@@ -123,8 +123,8 @@ fn image(f: &[u8], purpose: Purpose, how: Manner) -> Verdict
         FileAnswer::Is(x) => rest(
             f,
             x.high,
-            head::string_end(f),
-            head::line_end(f),
+            terminators::string_end(f),
+            terminators::line_end(f),
             x.m,
             x.n as u16,
             how,

@@ -21,7 +21,8 @@ use Rattle.chars.specs.Runs.{same}
 use Rattle.note.specs.Note.{linesOf}
 use Rattle.strings.specs.Strings.{placesOf}
 use Rattle.strings.specs.Spelled.{Str, strsIn}
-use Rattle.head.specs.Head.{highFirst, roomOf, countOf, stringEnd, lineEnd}
+use Rattle.head.specs.Head.{highFirst, roomOf, countOf}
+use Rattle.terminators.specs.Terminators.{stringEnd, lineEnd}
 use Rattle.block.specs.Block.{sampleCount, formatCode, dataAt}
 use Rattle.lines.specs.Lines.{headLine, traceLine, refusalLine, stringLine}
 use Rattle.image.specs.Image.{checkOf}

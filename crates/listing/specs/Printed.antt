@@ -8,7 +8,8 @@ use Rattle.text.specs.declared.Manner.the-variants.{Strict}
 use Rattle.word.specs.Part.{part}
 use Rattle.strings.specs.Spelled.{Str, Spells}
 use Rattle.strings.specs.Paper.{spelled-places}
-use Rattle.head.specs.Head.{highFirst, stringEnd, lineEnd}
+use Rattle.head.specs.Head.{highFirst}
+use Rattle.terminators.specs.Terminators.{stringEnd, lineEnd}
 use Rattle.listing.specs.Listing.{stringsIn}
 
 pub printed : (f : List ℕ) (a e : ℕ) (ss : List Str) → a ≤ e → e ≤ length f → Spells Strict (highFirst f) (stringEnd f) (lineEnd f) ss (part a e f)

@@ -29,7 +29,8 @@ use Rattle.note.specs.Note.{lineLen, linesOf, line-ends, starts-fits}
 use Rattle.strings.specs.Strings.{frameOf, placeOf, onText, placesFrom, placesOf, keyIn, valueIn}
 use Rattle.strings.specs.Walks.{Fits, place-fits}
 use Rattle.strings.specs.Spelled.{strsIn}
-use Rattle.head.specs.Head.{maximum, highFirst, roomOf, countOf, stringEnd, lineEnd}
+use Rattle.head.specs.Head.{maximum, highFirst, roomOf, countOf}
+use Rattle.terminators.specs.Terminators.{stringEnd, lineEnd}
 use Rattle.block.specs.Block.{blockSize, dataSize, sampleCount, formatCode, dataAt, endAt}
 use Rattle.image.specs.Image.{imageOf}
 use Rattle.image.specs.Keeps.{traceAt, endBefore}

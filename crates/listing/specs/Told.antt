@@ -22,8 +22,9 @@ use Rattle.strings.specs.Strings.{placesOf}
 use Rattle.strings.specs.Spelled.{strsIn}
 use Rattle.head.specs.declared.FileBlock.{FileBlock}
 use Rattle.block.specs.declared.TraceBlock.{TraceBlock}
-use Rattle.head.specs.Head.{maximum, highFirst, countOf, stringEnd, lineEnd, goodTerminator}
-use Rattle.head.specs.HeadLaws.{good-most, length-terminator}
+use Rattle.head.specs.Head.{maximum, highFirst, countOf}
+use Rattle.terminators.specs.Terminators.{stringEnd, lineEnd, goodTerminator}
+use Rattle.terminators.specs.TerminatorLaws.{good-most, length-terminator}
 use Rattle.block.specs.Block.{pointerOf, traceBlockOf}
 use Rattle.head.specs.Head.{fileBlockOf}
 use Rattle.image.specs.Image.{imageOf, checkOf}

@@ -125,8 +125,8 @@ fn put_trace(out: &mut [u8], at: usize, f: &[u8], k: u16) -> usize
         from,
         to,
         high,
-        head::string_end(f),
-        head::line_end(f),
+        terminators::string_end(f),
+        terminators::line_end(f),
     )
 }
 
@@ -164,8 +164,8 @@ fn put_file(out: &mut [u8], f: &[u8]) -> usize
         start,
         first,
         high,
-        head::string_end(f),
-        head::line_end(f),
+        terminators::string_end(f),
+        terminators::line_end(f),
     );
     put_traces(out, d, f, b.n as u16)
 }

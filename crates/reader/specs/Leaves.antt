@@ -18,7 +18,8 @@ use Rattle.head.specs.declared.Purpose.the-variants.{Read}
 use Rattle.refusal.specs.Verdicts.{asked}
 use Rattle.sample.specs.Needed.{needed}
 use Rattle.block.specs.declared.TraceBlock.{TraceBlock}
-use Rattle.head.specs.Head.{maximum, highFirst, roomOf, stringEnd}
+use Rattle.head.specs.Head.{maximum, highFirst, roomOf}
+use Rattle.terminators.specs.Terminators.{stringEnd}
 use Rattle.block.specs.Block.{pointerOf, blockSize}
 use Rattle.image.specs.Image.{checkOf}
 use Rattle.reader.specs.declared.Whose.the-variants.{Whole, One}

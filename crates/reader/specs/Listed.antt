@@ -21,17 +21,18 @@ use Rattle.strings.specs.declared.Found.the-variants.{Nothing, Is}
 use Rattle.strings.specs.Strings.{placesOf, keyIn, valueIn, nthOf, findOf, keyFound, valueFound}
 use Rattle.strings.specs.Spelled.{Str, Spells, nthStr, valueOfKey, hasKey}
 use Rattle.strings.specs.Paper.{spelled-once, spelled-places, spelled-count, spelled-nth, found, spelled-value, find-first}
-use Rattle.head.specs.Head.{highFirst, roomOf, countOf, stringEnd, lineEnd}
+use Rattle.head.specs.Head.{highFirst, roomOf, countOf}
+use Rattle.terminators.specs.Terminators.{stringEnd, lineEnd}
 use Rattle.block.specs.Block.{dataAt}
 use Rattle.image.specs.Image.{checkOf}
 use Rattle.image.specs.Keeps.{traceAt, stringsEnd, Strings}
 use Rattle.image.specs.Accepted.{accepted-keeps}
 use Rattle.decimal.specs.declared.NumberAnswer.the-variants as number
 use Rattle.double.specs.declared.DoubleAnswer.the-variants as double
-use Rattle.double.specs.declared.LocationAnswer.the-variants as location
+use Rattle.location.specs.declared.LocationAnswer.the-variants as location
 use Rattle.decimal.specs.Number.{numberIn}
 use Rattle.double.specs.Double.{doubleOf}
-use Rattle.double.specs.Location.{locationOf}
+use Rattle.location.specs.Location.{locationOf}
 use Rattle.reader.specs.declared.Whose.the-variants.{Whole, One}
 use Rattle.reader.specs.declared.Area.the-variants.{From}
 use Rattle.reader.specs.declared.Opened.the-variants as opened

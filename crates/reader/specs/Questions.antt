@@ -31,13 +31,14 @@ use Rattle.decimal.specs.declared.NumberAnswer.{NumberAnswer}
 use Rattle.decimal.specs.declared.NumberAnswer.the-variants as number
 use Rattle.double.specs.declared.DoubleAnswer.{DoubleAnswer}
 use Rattle.double.specs.declared.DoubleAnswer.the-variants as double
-use Rattle.double.specs.declared.LocationAnswer.{LocationAnswer}
-use Rattle.double.specs.declared.LocationAnswer.the-variants as location
+use Rattle.location.specs.declared.LocationAnswer.{LocationAnswer}
+use Rattle.location.specs.declared.LocationAnswer.the-variants as location
 use Rattle.decimal.specs.Number.{numberIn}
 use Rattle.double.specs.Double.{doubleOf}
-use Rattle.double.specs.Location.{locationOf}
+use Rattle.location.specs.Location.{locationOf}
 use Rattle.head.specs.declared.Purpose.the-variants.{Read}
-use Rattle.head.specs.Head.{highFirst, roomOf, countOf, stringEnd, refused, fileBlockOf}
+use Rattle.head.specs.Head.{highFirst, roomOf, countOf, refused, fileBlockOf}
+use Rattle.terminators.specs.Terminators.{stringEnd}
 use Rattle.block.specs.declared.TraceBlock.{TraceBlock}
 use Rattle.block.specs.Block.{sampleCount, formatCode, dataAt, traceBlockOf}
 use Rattle.image.specs.Image.{checkOf}

@@ -25,7 +25,8 @@ use Rattle.strings.specs.declared.Found.the-variants.{Nothing, Is}
 use Rattle.strings.specs.Strings.{PlaceIn, nthOf, findOf}
 use Rattle.lookup.specs.Lists.{AllIn, area-in, nth-in, find-in}
 use Rattle.block.specs.declared.TraceBlock.{TraceBlock}
-use Rattle.head.specs.Head.{maximum, highFirst, roomOf, countOf, stringEnd, goodTerminator, refused}
+use Rattle.head.specs.Head.{maximum, highFirst, roomOf, countOf, refused}
+use Rattle.terminators.specs.Terminators.{stringEnd, goodTerminator}
 use Rattle.block.specs.Block.{dataAt, traceBlockOf}
 use Rattle.image.specs.Image.{imageOf, badLength, checkOf}
 use Rattle.block.specs.BlockLaws.{Pointed, Blocked}

@@ -1,14 +1,15 @@
 // The questions on a file: blocks, strings, keywords and numbers in values (document 01, rows 18, 20 to 23). Questions
 // has the definitions, those of samples too; Listed, Answers and Reach are the second view. Every question checks the
 // whole file first; its answer is one of the image, the first `n` bytes of the lent buffer. A part is -1 for the file,
-// else the trace; `how` is the manner of reading. Stands on `image`, `lookup`, `double` and what they stand on.
+// else the trace; `how` is the manner of reading. Stands on `image`, `lookup`, `location`, `double` and what they
+// stand on.
 // The rules in words: docs/FORMAT.md, "Strings".
 use block::TraceAnswer;
 use decimal::NumberAnswer;
 use double::DoubleAnswer;
-use double::LocationAnswer;
 use head::FileAnswer;
 use head::Purpose;
+use location::LocationAnswer;
 use refusal::Refusal;
 use refusal::Rule;
 use refusal::Verdict;
@@ -172,7 +173,14 @@ pub fn string_count(buffer: &[u8], n: usize, part: i32, how: Manner) -> CountAns
         Opened::Bad(r) => CountAnswer::Refused(r),
         Opened::From(a, e) => {
             let f = &buffer[..n];
-            CountAnswer::Is(lookup::count(f, a, e, head::is_high(f), head::string_end(f), how))
+            CountAnswer::Is(lookup::count(
+                f,
+                a,
+                e,
+                head::is_high(f),
+                terminators::string_end(f),
+                how,
+            ))
         }
     }
 }
@@ -196,7 +204,15 @@ pub fn string(buffer: &[u8], n: usize, part: i32, i: usize, how: Manner) -> Stri
         Opened::Bad(r) => StringAnswer::Refused(r),
         Opened::From(a, e) => {
             let f = &buffer[..n];
-            there(lookup::nth(f, a, e, head::is_high(f), head::string_end(f), i, how))
+            there(lookup::nth(
+                f,
+                a,
+                e,
+                head::is_high(f),
+                terminators::string_end(f),
+                i,
+                how,
+            ))
         }
     }
 }
@@ -210,7 +226,15 @@ pub fn find(buffer: &[u8], n: usize, part: i32, key: &[u8], how: Manner) -> Stri
         Opened::Bad(r) => StringAnswer::Refused(r),
         Opened::From(a, e) => {
             let f = &buffer[..n];
-            there(lookup::find(f, a, e, head::is_high(f), head::string_end(f), key, how))
+            there(lookup::find(
+                f,
+                a,
+                e,
+                head::is_high(f),
+                terminators::string_end(f),
+                key,
+                how,
+            ))
         }
     }
 }
@@ -287,5 +311,5 @@ pub fn location(buffer: &[u8], n: usize, part: i32, key: &[u8], how: Manner) -> 
     if let StringAnswer::Refused(r) = s {
         return LocationAnswer::Refused(r);
     }
-    double::location(value_at(buffer, s))
+    location::location(value_at(buffer, s))
 }

@@ -1,18 +1,18 @@
 // The face for other languages: thin functions on numbers and byte slices, each with a whole promise and no `requires`.
 // include/seg2.h declares them. The answers are those of `image`, `reader`, `samples`, `start`, `writer`, `decimal` and
-// `numeral`, as `face` hands them over. Strings are read in the strict manner.
+// `numeral`, as `face` and `face_values` hand them over. Strings are read in the strict manner.
 // The rules in words: docs/FORMAT.md, "Refusal numbers, in order of checking".
 use face::Seg2Count;
-use face::Seg2Double;
 use face::Seg2File;
-use face::Seg2Keyword;
 use face::Seg2Length;
-use face::Seg2Location;
-use face::Seg2Number;
-use face::Seg2String;
 use face::Seg2Trace;
-use face::Seg2Value;
 use face::Seg2Verdict;
+use face_values::Seg2Double;
+use face_values::Seg2Keyword;
+use face_values::Seg2Location;
+use face_values::Seg2Number;
+use face_values::Seg2String;
+use face_values::Seg2Value;
 use head::Purpose;
 use text::Manner;
 ghost use mathlib.Core.Path.{_≡_};
@@ -28,8 +28,8 @@ ghost use Rattle.reader.specs.Questions.{bitsAnswer, patternsLeft, classesLeft}
 ghost use Rattle.layout.specs.Layout.{integersTrace, patternsTrace};
 ghost use Rattle.start.specs.Start.{startAnswer, startLeft};
 ghost use Rattle.writer.specs.Answers.{addAnswer, addLeft};
-ghost use Rattle.face.specs.Face.{asVerdict, asFile, asTrace, asCount, asString, asKeyword, asValue, asNumber};
-ghost use Rattle.face.specs.Face.{asDouble, asLocation, asLength, asGiven};
+ghost use Rattle.face.specs.Face.{asVerdict, asFile, asTrace, asCount, asLength};
+ghost use Rattle.face_values.specs.FaceValues.{asString, asKeyword, asValue, asNumber, asDouble, asLocation, asGiven};
 
 // ---- questions
 
@@ -71,7 +71,7 @@ pub extern "C" fn seg2_string_count(buffer: &[u8], n: usize, part: i32) -> Seg2C
 pub extern "C" fn seg2_string(buffer: &[u8], n: usize, part: i32, index: usize) -> Seg2String
     ensures { λ r. ⌜ r ≡ asString (nthAnswer Strict (now (buffer .entry)) n part index) ⌝ }
 {
-    face::string_told(reader::string(buffer, n, part, index, Manner::Strict))
+    face_values::string_told(reader::string(buffer, n, part, index, Manner::Strict))
 }
 
 // Whether a keyword is there: one of the two calls of a keyword question.
@@ -79,7 +79,7 @@ pub extern "C" fn seg2_string(buffer: &[u8], n: usize, part: i32, index: usize) 
 pub extern "C" fn seg2_keyword(buffer: &[u8], n: usize, part: i32, key: &[u8]) -> Seg2Keyword
     ensures { λ r. ⌜ r ≡ asKeyword (keywordAnswer Strict (now (buffer .entry)) n part (now (key .entry))) ⌝ }
 {
-    face::keyword_told(reader::keyword(buffer, n, part, key, Manner::Strict))
+    face_values::keyword_told(reader::keyword(buffer, n, part, key, Manner::Strict))
 }
 
 // A keyword's value: the other one.
@@ -87,7 +87,7 @@ pub extern "C" fn seg2_keyword(buffer: &[u8], n: usize, part: i32, key: &[u8]) -
 pub extern "C" fn seg2_value(buffer: &[u8], n: usize, part: i32, key: &[u8]) -> Seg2Value
     ensures { λ r. ⌜ r ≡ asValue (findAnswer Strict (now (buffer .entry)) n part (now (key .entry))) ⌝ }
 {
-    face::value_told(reader::find(buffer, n, part, key, Manner::Strict))
+    face_values::value_told(reader::find(buffer, n, part, key, Manner::Strict))
 }
 
 // The number that a keyword's value is.
@@ -95,7 +95,7 @@ pub extern "C" fn seg2_value(buffer: &[u8], n: usize, part: i32, key: &[u8]) -> 
 pub extern "C" fn seg2_number(buffer: &[u8], n: usize, part: i32, key: &[u8]) -> Seg2Number
     ensures { λ r. ⌜ r ≡ asNumber (numberAnswer Strict (now (buffer .entry)) n part (now (key .entry))) ⌝ }
 {
-    face::number_told(reader::number(buffer, n, part, key, Manner::Strict))
+    face_values::number_told(reader::number(buffer, n, part, key, Manner::Strict))
 }
 
 // The double that a keyword's value is.
@@ -103,7 +103,7 @@ pub extern "C" fn seg2_number(buffer: &[u8], n: usize, part: i32, key: &[u8]) ->
 pub extern "C" fn seg2_double(buffer: &[u8], n: usize, part: i32, key: &[u8]) -> Seg2Double
     ensures { λ r. ⌜ r ≡ asDouble (doubleAnswer Strict (now (buffer .entry)) n part (now (key .entry))) ⌝ }
 {
-    face::double_told(reader::double(buffer, n, part, key, Manner::Strict))
+    face_values::double_told(reader::double(buffer, n, part, key, Manner::Strict))
 }
 
 // The location that a keyword's value is.
@@ -111,7 +111,7 @@ pub extern "C" fn seg2_double(buffer: &[u8], n: usize, part: i32, key: &[u8]) ->
 pub extern "C" fn seg2_location(buffer: &[u8], n: usize, part: i32, key: &[u8]) -> Seg2Location
     ensures { λ r. ⌜ r ≡ asLocation (locationAnswer Strict (now (buffer .entry)) n part (now (key .entry))) ⌝ }
 {
-    face::location_told(reader::location(buffer, n, part, key, Manner::Strict))
+    face_values::location_told(reader::location(buffer, n, part, key, Manner::Strict))
 }
 
 // The samples of a trace of code 1 to 3, into a row of as many.
@@ -195,7 +195,7 @@ pub extern "C" fn seg2_add_bits(
 pub extern "C" fn seg2_read_number(text: &[u8]) -> Seg2Number
     ensures { λ r. ⌜ r ≡ asNumber (numberIn (now (text .entry))) ⌝ }
 {
-    face::number_told(decimal::number(text))
+    face_values::number_told(decimal::number(text))
 }
 
 // A number as text with its own decimals, at the start of the lent bytes: minus is 0 or not.
@@ -212,6 +212,6 @@ pub extern "C" fn seg2_write_number(
     ensures left { λ _. ⌜ now (text .exit) ≡ numeralLeft (now (text .entry))
         (asGiven minus coefficient power decimals) ⌝ }
 {
-    let n = face::number_given(minus, coefficient, power, decimals);
+    let n = face_values::number_given(minus, coefficient, power, decimals);
     face::length_told(numeral::write(text, n))
 }

@@ -1,14 +1,14 @@
 // The worked values of document 01 and the examples of the paper (document 001), run against the proved functions. Each
 // group writes one line, and the stored output is what they have to write. Stands on the leaves (`image`, `strings`,
-// `lookup`, `decode`, `encode`, `decimal`, `double`) and, for what is written and read back, on `start`, `writer` and
-// `samples`.
+// `lookup`, `decode`, `encode`, `decimal`, `double`, `location`) and, for what is written and read back, on `start`,
+// `writer` and `samples`.
 // The rules in words: docs/FORMAT.md, "Worked values".
 use chars::Kind;
 use decimal::NumberAnswer;
 use double::DoubleAnswer;
-use double::LocationAnswer;
 use fit::Fit;
 use head::Purpose;
+use location::LocationAnswer;
 use refusal::Part;
 use refusal::Verdict;
 use refusal::Written;
@@ -57,7 +57,7 @@ fn double_refused(text: &[u8], number: u32) -> bool {
 }
 
 fn location_is(text: &[u8], count: u32, x: f64, y: f64, z: f64) -> bool {
-    let answer = double::location(text);
+    let answer = location::location(text);
     match answer {
         LocationAnswer::Is(c) => (c.count == count) & ((c.x == x) & ((c.y == y) & (c.z == z))),
         LocationAnswer::Refused(_) => false,
@@ -65,7 +65,7 @@ fn location_is(text: &[u8], count: u32, x: f64, y: f64, z: f64) -> bool {
 }
 
 fn location_refused(text: &[u8], number: u32) -> bool {
-    let answer = double::location(text);
+    let answer = location::location(text);
     match answer {
         LocationAnswer::Is(_) => false,
         LocationAnswer::Refused(r) => {

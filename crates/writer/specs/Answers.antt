@@ -20,7 +20,8 @@ use Rattle.fit.specs.declared.Fit.the-variants.{All, At}
 use Rattle.sheet.specs.declared.Measured.{Measured}
 use Rattle.sheet.specs.declared.Measured.the-variants as measured
 use Rattle.sheet.specs.Area.{measuredOf}
-use Rattle.head.specs.Head.{roomOf, countOf, stringEnd, lineEnd}
+use Rattle.head.specs.Head.{roomOf, countOf}
+use Rattle.terminators.specs.Terminators.{stringEnd, lineEnd}
 use Rattle.image.specs.Image.{checkOf}
 use Rattle.refusal.specs.declared.Written.{Written}
 use Rattle.refusal.specs.declared.Written.the-variants.{Refused}

@@ -24,7 +24,8 @@ use Rattle.fit.specs.declared.Fit.the-variants.{All, At}
 use Rattle.sheet.specs.declared.Measured.{Measured}
 use Rattle.sheet.specs.declared.Measured.the-variants as measured
 use Rattle.sheet.specs.Area.{areaSize, measuredOf}
-use Rattle.head.specs.Head.{maximum, highFirst, roomOf, countOf, stringEnd, lineEnd, refused}
+use Rattle.head.specs.Head.{maximum, highFirst, roomOf, countOf, refused}
+use Rattle.terminators.specs.Terminators.{stringEnd, lineEnd}
 use Rattle.head.specs.HeadLaws.{Headed}
 use Rattle.text.specs.declared.Manner.the-variants.{Strict}
 use Rattle.head.specs.declared.Purpose.the-variants.{Grow}

@@ -25,7 +25,8 @@ use Rattle.decode.specs.Sample.{integersAsked, bitsAsked}
 use Rattle.sheet.specs.declared.Measured.the-variants as measured
 use Rattle.sheet.specs.Area.{areaSize, measuredOf}
 use Rattle.area.specs.Spelling.{measured-size}
-use Rattle.head.specs.Head.{maximum, roomOf, countOf, stringEnd, lineEnd, goodTerminator, refused, fileBlockOf}
+use Rattle.head.specs.Head.{maximum, roomOf, countOf, refused, fileBlockOf}
+use Rattle.terminators.specs.Terminators.{stringEnd, lineEnd, goodTerminator}
 use Rattle.text.specs.declared.Manner.the-variants.{Strict}
 use Rattle.head.specs.declared.Purpose.the-variants.{Grow}
 use Rattle.image.specs.Image.{checkOf}

@@ -38,7 +38,7 @@ fn opened(buffer: &[u8], n: usize, sheet: &[u8]) -> Measured
     if b.m < 4 * b.n + 4 {
         return Measured::Refused(refusal::of_file(Rule::NoSlot, 0));
     }
-    sheet::measure(sheet, head::string_end(f), head::line_end(f))
+    sheet::measure(sheet, terminators::string_end(f), terminators::line_end(f))
 }
 
 // ---- rows 28 and 29, by the kind of the samples

@@ -1,5 +1,6 @@
 //! The exported functions as they are: what `include/seg2.h` declares, in Rust. The
-//! answers' fields have the header's names, as those of `crates/face` have.
+//! answers' fields have the header's names, as those of `crates/face` and
+//! `crates/face_values` have.
 //!
 //! A slice goes as its pointer and its size, one behind the other. A struct of more
 //! than 16 bytes comes back through a place that is the first argument, on x86-64 and

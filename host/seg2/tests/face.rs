@@ -1,6 +1,7 @@
 //! The three places that name the face agree: the crates (functions in
-//! `crates/seg2`, structs in `crates/face`), `include/seg2.h` and `src/raw.rs` have the
-//! same functions and structs with the same fields in the same order, laid out alike.
+//! `crates/seg2`, structs in `crates/face` and `crates/face_values`), `include/seg2.h`
+//! and `src/raw.rs` have the same functions and structs with the same fields in the same
+//! order, laid out alike.
 
 mod c;
 
@@ -13,8 +14,9 @@ fn read(path: std::path::PathBuf) -> String {
 }
 
 fn face() -> String {
-    let sources = ["crates/face/src/lib.rt", "crates/seg2/src/lib.rt"];
-    sources.map(|source| read(root().join(source))).concat()
+    let crates = ["face", "face_values", "seg2"];
+    let source = |name| read(root().join(format!("crates/{name}/src/lib.rt")));
+    crates.map(source).concat()
 }
 
 fn header() -> String {
@@ -145,7 +147,7 @@ fn structs_in_c(text: &str) -> BTreeMap<String, Vec<String>> {
     structs
 }
 
-/// The structs of `crates/face` whose fields the header does not have, by name and in order.
+/// The structs of the crates whose fields the header does not have, by name and in order.
 fn named_otherwise(face: &str, header: &str) -> Vec<String> {
     let declared = structs_in_c(header);
     let library = structs_in_rattle(face).into_iter();

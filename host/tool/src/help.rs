@@ -102,7 +102,7 @@ than another has empty cells at its end.
         more: "
 -1 is the file too. Each line of a NOTE is printed as a line. A number is printed with the
 decimals that it was written with, 0.250 and not 0.25, and without zeros in front; a
-location as x, or x, y and z with spaces between them, as doubles. RECEIVER_GEOMETRY and
+location as x, or x, y and z with spaces between them, each so. RECEIVER_GEOMETRY and
 SOURCE_GEOMETRY may stand several times in a part: this is the first of them, and `seg2
 list` shows them all. A keyword that is not there: nothing is printed, the exit status is
 1, and standard error says so.

@@ -107,7 +107,7 @@ fn number(part: &Part, keyword: &[u8], kind: Kind) -> Result<String, Refusal> {
     Ok(match kind {
         Kind::Number => part.number(keyword)?.text()?,
         Kind::Double => decimal(part.double(keyword)?),
-        Kind::Location => coordinates(part.location(keyword)?),
+        Kind::Location => coordinates(part, keyword)?,
     })
 }
 
@@ -143,8 +143,12 @@ fn text(file: &File, keyword: &[u8], value: &[u8]) -> Vec<u8> {
     file.lines(value).collect::<Vec<_>>().join(&b'\n')
 }
 
-/// As many values as there are.
-fn coordinates(location: Location) -> String {
-    let values = [location.x, location.y, location.z].map(decimal);
-    values[..location.count as usize].join(" ")
+/// As many values as there are, each with the decimals that it was written with.
+fn coordinates(part: &Part, keyword: &[u8]) -> Result<String, Refusal> {
+    part.location(keyword)?;
+    let value = part.value(keyword).unwrap_or_default();
+    let texts = value.split(|byte| b" \t".contains(byte));
+    let texts = texts.filter(|text| !text.is_empty());
+    let values: Result<Vec<_>, _> = texts.map(|text| Number::read(text)?.text()).collect();
+    Ok(values?.join(" "))
 }

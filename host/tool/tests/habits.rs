@@ -284,7 +284,7 @@ fn a_value_is_printed_as_it_was_asked_for() {
     let folder = Folder::new("value");
     let sheet = b"CLIENT\t\nDATUM\t-2.30E6\nUNITS\tMETERS\nNOTE\tWET\nNOTE\t COLD\n";
     let mut shot = Builder::start(Order::High, 1, sheet).expect("a start");
-    let sheet = b"DELAY\t-0.020\nRECEIVER_LOCATION\t1 -2.5 3\n";
+    let sheet = b"DELAY\t-0.020\nRECEIVER_LOCATION\t01.250  -2.50E-3 3 \n";
     shot.add_integers(sheet, 1, &[]).expect("a trace");
     let shot = folder.keep("shot", shot.bytes());
     for (part, keyword, kind, said) in [
@@ -297,8 +297,8 @@ fn a_value_is_printed_as_it_was_asked_for() {
         ("0", "DELAY", "double", "-0.02\n"),
         ("F", "DATUM", "number", "-2.30E6\n"),
         ("F", "DATUM", "double", "-2300000.0\n"),
-        ("0", "DELAY", "location", "-0.02\n"),
-        ("0", "RECEIVER_LOCATION", "location", "1.0 -2.5 3.0\n"),
+        ("0", "DELAY", "location", "-0.020\n"),
+        ("0", "RECEIVER_LOCATION", "location", "1.250 -2.50E-3 3\n"),
     ] {
         let out = run!("value", shot, part, keyword, "--as", kind);
         assert_eq!(out, (0, said.into(), "".into()), "{keyword} as {kind}");

@@ -1,7 +1,6 @@
 -- `encode::bits` meets its contract. A number that is not negative is its own bits; of minus k and one they are the
 -- bits of k turned over. Assumes nothing.
 use mathlib.Core.Path.{sym}
-use Prim.Native.Nat.{_-_}
 use native.Mathlib.Omega.{arith}
 use mir.Syntax.{w32}
 use Rattle.word.specs.Signed.{kept, sign, flips, plus-size}

@@ -2,7 +2,7 @@
 use mathlib.Core.Path.{sym, ap, _∙_}
 use lib.ListN.{length}
 use lib.Seq.{length-take-le}
-use Rattle.head.specs.HeadLaws.{good-most, length-terminator}
+use Rattle.terminators.specs.TerminatorLaws.{good-most, length-terminator}
 use Rattle.image.specs.ImageLaws.{in-words, head-bad, head-shown, head-room, head-count, head-rest}
 use borrow.Author.Needs.{needs}
 use native.Mathlib.Omega.{arith}

@@ -3,8 +3,8 @@ use mathlib.Core.Path.{sym, _∙_}
 use lib.IntN.{ℤ}
 use borrow.Author.Needs.{needs}
 use mir.Syntax.{w32}
-use Rattle.double.specs.Location.{locationOf}
-use Rattle.double.specs.declared.LocationAnswer.the-variants as location
+use Rattle.location.specs.Location.{locationOf}
+use Rattle.location.specs.declared.LocationAnswer.the-variants as location
 use Rattle.reader.specs.Reach.{find-lent, value-made}
 use Rattle.reader.specs.Questions.{findAnswer, locationAnswer}
 use Rattle.word.specs.Signed.{handed}

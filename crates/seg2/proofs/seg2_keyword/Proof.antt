@@ -2,7 +2,7 @@
 use mathlib.Core.Path.{ap, _∙_}
 use mir.Syntax.{w32}
 use mir.Facts.{toZ-ofZ}
-use Rattle.face.specs.Face.{asKeyword}
+use Rattle.face_values.specs.FaceValues.{asKeyword}
 use borrow.Author.Needs.{needs}
 use Rattle.seg2.proofs.seg2_keyword.Statement.{statement}
 use Rattle.seg2.proofs.seg2_keyword.Tie as tie

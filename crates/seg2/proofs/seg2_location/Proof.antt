@@ -2,7 +2,7 @@
 use mathlib.Core.Path.{ap, _∙_}
 use mir.Syntax.{w32}
 use mir.Facts.{toZ-ofZ}
-use Rattle.face.specs.Face.{asLocation}
+use Rattle.face_values.specs.FaceValues.{asLocation}
 use borrow.Author.Needs.{needs}
 use Rattle.seg2.proofs.seg2_location.Statement.{statement}
 use Rattle.seg2.proofs.seg2_location.Tie as tie

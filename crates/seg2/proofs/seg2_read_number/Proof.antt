@@ -1,6 +1,6 @@
 -- `seg2::seg2_read_number` meets its contract. The answer of the function below it, as it crosses. Assumes nothing.
 use mathlib.Core.Path.{ap, _∙_}
-use Rattle.face.specs.Face.{asNumber}
+use Rattle.face_values.specs.FaceValues.{asNumber}
 use borrow.Author.Needs.{needs}
 use Rattle.seg2.proofs.seg2_read_number.Statement.{statement}
 use Rattle.seg2.proofs.seg2_read_number.Tie as tie

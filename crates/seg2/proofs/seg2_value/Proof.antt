@@ -2,7 +2,7 @@
 use mathlib.Core.Path.{ap, _∙_}
 use mir.Syntax.{w32}
 use mir.Facts.{toZ-ofZ}
-use Rattle.face.specs.Face.{asValue}
+use Rattle.face_values.specs.FaceValues.{asValue}
 use borrow.Author.Needs.{needs}
 use Rattle.seg2.proofs.seg2_value.Statement.{statement}
 use Rattle.seg2.proofs.seg2_value.Tie as tie

@@ -1,0 +1,2 @@
+pub mod Float20
+pub mod Float20Laws

@@ -1,0 +1,2 @@
+pub mod Terminators
+pub mod TerminatorLaws
