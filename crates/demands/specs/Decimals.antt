@@ -23,7 +23,7 @@ use Rattle.refusal.specs.Rows.{pick}
 use Rattle.refusal.specs.Verdicts.{asked}
 use Rattle.refusal.specs.Writing.{refuse}
 use Rattle.text.specs.declared.Manner.the-variants.{Strict}
-use Rattle.digits.specs.Digits.{digits, digits-few}
+use Rattle.digits.specs.Digits.{digits, digits-few, digits-below}
 use Rattle.decimal.specs.declared.Decimal.{Decimal}
 use Rattle.decimal.specs.declared.NumberAnswer.{NumberAnswer}
 use Rattle.decimal.specs.declared.NumberAnswer.the-variants as number
@@ -33,7 +33,7 @@ use Rattle.decimal.specs.Meaning.{number-means}
 use Rattle.reader.specs.declared.StringAnswer.{StringAnswer}
 use Rattle.reader.specs.declared.StringAnswer.the-variants as string
 use Rattle.reader.specs.Questions.{onString, findAnswer, valueAnswer, numberAnswer}
-use Rattle.numeral.specs.LastDigits.{lastDigits, digits-below}
+use Rattle.digits.specs.LastDigits.{lastDigits}
 use Rattle.numeral.specs.Numeral.{unlessZero, partsFor, numeralOf, numeralAnswer, numeralLeft}
 use Rattle.numeral.specs.Stored.{count-many, count-large, count-few, after-many, after-few}
 use Rattle.numeral.specs.Plain.{Plain, Shows, shown-exactly}

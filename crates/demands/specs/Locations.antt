@@ -25,7 +25,8 @@ use Rattle.location.specs.declared.CoordinateAnswer.the-variants as coordinate
 use Rattle.location.specs.declared.Coordinates.{Coordinates}
 use Rattle.location.specs.declared.LocationAnswer.the-variants as location
 use Rattle.double.specs.Double.{onNumber, doubleOf}
-use Rattle.location.specs.Location.{valueCount, decimalsOf, counted, coordinateOf, alone, together, onCoordinate, oneOf, threeOf, located, locationOf}
+use Rattle.location.specs.Location.{absent, valueCount, decimalsOf, counted, coordinateOf, alone, together, onCoordinate, oneOf, threeOf, located}
+use Rattle.location.specs.Location.{locationOf}
 use Rattle.location.specs.Values.{Value, Parted, parted, one-split}
 use Rattle.demands.specs.QuestionRows.{inTurn, oneOrThree, location-refused-first}
 
@@ -58,11 +59,15 @@ coordinate-exactly t c = (go (numberIn t) refl, λ s. ap₂ counted (ap decimals
     go (number.Is n) f g = let p = counted-of (n .decimals) (onNumber (number.Is n)) c g in (n, f, ap onNumber f ∙ p .0, p .1)
     go (number.Refused r) f g = let z : _≡_ {A = ℕ} 0 1 = cc in absurd (omega arith)
 
--- these values say this location
+-- these values say this location, field by field: each value with its own count, absent ones 0 with count 0
 pub data Says : List Value → Coordinates → Type 0 where
-  one : {u : Value} {x : Coordinate} → coordinateOf (u .1) ≡ coordinate.Is x → Says (u ∷ []) (alone x)
+  one : {u : Value} {x : Coordinate} → coordinateOf (u .1) ≡ coordinate.Is x
+      → Says (u ∷ []) (record { x = x .value; y = absent; z = absent; count = 1; «x_decimals» = x .decimals; «y_decimals» = 0; «z_decimals» = 0 })
   three : {u v w : Value} {x y z : Coordinate} → coordinateOf (u .1) ≡ coordinate.Is x → coordinateOf (v .1) ≡ coordinate.Is y
-      → coordinateOf (w .1) ≡ coordinate.Is z → Says (u ∷ v ∷ w ∷ []) (together x y z)
+      → coordinateOf (w .1) ≡ coordinate.Is z
+      → Says (u ∷ v ∷ w ∷ []) (
+      record { x = x .value; y = y .value; z = z .value; count = 3; «x_decimals» = x .decimals; «y_decimals» = y .decimals; «z_decimals» = z .decimals }
+      )
 
 said : (vs : List Value) (c : Coordinates) → Says vs c → located vs ≡ location.Is c
 unfolding located oneOf threeOf

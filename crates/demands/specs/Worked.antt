@@ -27,7 +27,7 @@ use Rattle.chars.specs.Runs.{run}
 use Rattle.decimal.specs.Number.{has, past, powerOf, decimalOf, judged, partsOf, numberIn}
 use Rattle.digits.specs.Value.{worth, value}
 use Rattle.digits.specs.Digits.{onto, digits}
-use Rattle.numeral.specs.LastDigits.{lastDigits}
+use Rattle.digits.specs.LastDigits.{lastDigits}
 use Rattle.numeral.specs.Numeral.{partsFor, signText, pointText, powerText, spelling, numeralOf, numeralAnswer}
 use Rattle.layout.specs.Layout.{Samples.integers, fitting, unfit}
 use Rattle.writer.specs.Answers.{samplesVerdict}

@@ -2,18 +2,17 @@
 -- Assumes nothing.
 use mathlib.Core.Path.{_≡_, refl, sym, ap, _∙_}
 use mathlib.Core.Bool.{Bool, true, false}
-use mathlib.Core.List.{List, [], _∷_}
+use mathlib.Core.List.{List, [], _∷_, _++_, append-assoc}
 use Prim.Native.Nat.{ℕ, zero, suc, _+_, _-_, _*_, _^_, _/_, _%_, _≤_, _<_}
-use native.Mathlib.Nat.{pow-suc}
+use native.Mathlib.Nat.{pow-suc, one-mul, pow-le-pow-right, lt-of-lt-of-le}
 use native.Mathlib.Omega.{arith}
-use lib.ListN.{length, getD, drop, set, length-set}
+use lib.ListN.{length, getD, length-append}
 use lib.Dec.{ltb}
 use borrow.Author.Tests.{lt-ltb, le-ltb, ltb-true, ltb-false, le-leb}
-use Rattle.word.specs.Part.{part, part-rest}
 use Rattle.refusal.specs.Rows.{pick}
 use Rattle.chars.specs.Chars.{digit}
 use Rattle.chars.specs.Runs.{all}
-use Rattle.digits.specs.Value.{worth, worth-of, value}
+use Rattle.digits.specs.Value.{worth, worth-of, value, value-le}
 
 -- the digits of n before those that are there: the last digit first. The first number bounds how many there are; one
 -- more than n is enough
@@ -98,54 +97,57 @@ pub digits-few : (k n : ℕ) → 0 < k → n < 10 ^ k → length (digits n) ≤ 
 unfolding digits
 digits-few k n p h = omega (arith, onto-few (suc n) n k [] p h)
 
--- ---- turns of the loop that stores them from the end of a row
-drop-set-here : (row : List ℕ) (i b : ℕ) → i < length row → drop i (set row i b) ≡ b ∷ drop (i + 1) row
-drop-set-here [] i b h = absurd (omega arith)
-drop-set-here (x ∷ row) zero b h = refl
-drop-set-here (x ∷ row) (suc i) b h = let e : suc i + 1 ≡ suc (i + 1) = omega arith in rw e (drop-set-here row i b (omega arith))
+-- and one that has at most k is below ten to the k
+digits-upto : (n : ℕ) → n < 10 ^ length (digits n)
+digits-upto n = let v = value-le 0 (digits n) in let m = digits-mean n in let o = one-mul (10 ^ length (digits n)) in omega arith
 
--- what is left, before the digits that are stored, is the whole
-abbrev pub Storing : ℕ → List ℕ → ℕ → ℕ → Type 0
-Storing n row i left = (0 < i) × (left < 10 ^ i) × ((m : ℕ) × (left < m) × (onto m left (drop i row) ≡ digits n))
+pub digits-below : (n k : ℕ) → length (digits n) ≤ k → n < 10 ^ k
+digits-below n k h = lt-of-lt-of-le (digits-upto n) (pow-le-pow-right {n = 10} (omega arith) h)
 
-pub storing-start : (n : ℕ) (row : List ℕ) → length row ≡ 20 → n < 18446744073709551616 → Storing n row 20 n
-unfolding digits
-storing-start n row l h =
-    let e : 10 ^ 20 ≡ 100000000000000000000 = refl in
-    let d : drop 20 row ≡ [] = lib.ListN.drop-of-length-le row {i = 20} (omega arith) in
-    (omega arith, rw e (omega arith), (suc n, omega arith, rw d))
+-- ---- the last of them, and those before it
 
-pub storing-turn : (n : ℕ) (row : List ℕ) (i left : ℕ) → i ≤ length row → Storing n row i left → 10 ≤ left
-    → (1 < i) × Storing n (set row (i - 1) (48 + left % 10)) (i - 1) (left / 10)
+onto-behind : (m n : ℕ) (there : List ℕ) → onto m n there ≡ onto m n [] ++ there
 unfolding onto
-storing-turn n row i left f (p, q, (m, r, e)) h =
-    let b = below left i h q in
-    let j : i - 1 + 1 ≡ i = omega (arith, b .0) in
-    let d : drop (i - 1) (set row (i - 1) (48 + left % 10)) ≡ (48 + left % 10) ∷ drop i row =
-    drop-set-here row (i - 1) (48 + left % 10) (omega (arith, b .0)) ∙ rw j in
-    (b .0, (omega (arith, b .0), b .1, go m r e d))
+onto-behind zero n there = refl
+onto-behind (suc m) n there = go (ltb n 10)
+    (onto-behind m (n / 10) ((48 + n % 10) ∷ there)
+    ∙ sym (ap (λ (ds : List ℕ). ds ++ there) (onto-behind m (n / 10) ((48 + n % 10) ∷ [])) ∙ append-assoc (onto m (n / 10) []) ((48 + n % 10) ∷ []) there))
   where
-    go : (m : ℕ) → left < m → onto m left (drop i row) ≡ digits n → drop (i - 1) (set row (i - 1) (48 + left % 10)) ≡ (48 + left % 10) ∷ drop i row
-        → (m : ℕ) × (left / 10 < m) × (onto m (left / 10) (drop (i - 1) (set row (i - 1) (48 + left % 10))) ≡ digits n)
-    go zero r e d = absurd (omega arith)
-    go (suc m) r e d = (m, omega arith, rw d (sym (rw (le-ltb left 10 h)) ∙ e))
+    go : (w : Bool) → onto m (n / 10) ((48 + n % 10) ∷ there) ≡ onto m (n / 10) ((48 + n % 10) ∷ []) ++ there
+        → pick w ((48 + n) ∷ there) (onto m (n / 10) ((48 + n % 10) ∷ there)) ≡ pick w ((48 + n) ∷ []) (onto m (n / 10) ((48 + n % 10) ∷ [])) ++ there
+    go true i = refl
+    go false i = i
 
-storing-over : (n : ℕ) (row : List ℕ) (i left : ℕ) → i ≤ length row → Storing n row i left → left < 10
-    → drop (i - 1) (set row (i - 1) (48 + left)) ≡ digits n
+-- any bound above n is enough
+onto-enough : (m k n : ℕ) (there : List ℕ) → n < m → n < k → onto m n there ≡ onto k n there
 unfolding onto
-storing-over n row i left f (p, q, (m, r, e)) h =
-    let j : i - 1 + 1 ≡ i = omega arith in
-    let d : drop (i - 1) (set row (i - 1) (48 + left)) ≡ (48 + left) ∷ drop i row =
-    drop-set-here row (i - 1) (48 + left) (omega arith) ∙ rw j in
-    d ∙ go m r e
+onto-enough zero k n there h l = absurd (omega arith)
+onto-enough (suc m) zero n there h l = absurd (omega arith)
+onto-enough (suc m) (suc k) n there h l = go (ltb n 10) refl (onto-enough m k (n / 10) ((48 + n % 10) ∷ there))
   where
-    go : (m : ℕ) → left < m → onto m left (drop i row) ≡ digits n → (48 + left) ∷ drop i row ≡ digits n
-    go zero r e = absurd (omega arith)
-    go (suc m) r e = sym (rw (lt-ltb left 10 h)) ∙ e
+    go : (w : Bool) → ltb n 10 ≡ w
+        → (n / 10 < m → n / 10 < k → onto m (n / 10) ((48 + n % 10) ∷ there) ≡ onto k (n / 10) ((48 + n % 10) ∷ there))
+        → pick w ((48 + n) ∷ there) (onto m (n / 10) ((48 + n % 10) ∷ there)) ≡ pick w ((48 + n) ∷ there) (onto k (n / 10) ((48 + n % 10) ∷ there))
+    go true e i = refl
+    go false e i = let s = ltb-false n 10 e in i (omega arith) (omega arith)
 
-pub storing-whole : (n : ℕ) (row : List ℕ) (i left : ℕ) → length row ≡ 20 → i ≤ 20 → Storing n row i left → left < 10
-    → part (i - 1) 20 (set row (i - 1) (48 + left)) ≡ digits n
-storing-whole n row i left l f s h =
-    let k : 20 ≡ length (set row (i - 1) (48 + left)) = sym (length-set row (i - 1) (48 + left) ∙ l) in
-    ap (λ (e : ℕ). part (i - 1) e (set row (i - 1) (48 + left))) k
-    ∙ part-rest (i - 1) (set row (i - 1) (48 + left)) ∙ storing-over n row i left (omega arith) s h
+pub digits-more : (n : ℕ) → 10 ≤ n → digits n ≡ digits (n / 10) ++ ((48 + n % 10) ∷ [])
+unfolding digits onto
+digits-more n h =
+    rw (le-ltb n 10 h) (onto-behind n (n / 10) ((48 + n % 10) ∷ [])
+    ∙ ap (λ (ds : List ℕ). ds ++ ((48 + n % 10) ∷ [])) (onto-enough n (suc (n / 10)) (n / 10) [] (omega arith) (omega arith)))
+
+pub digits-one : (n : ℕ) → n < 10 → digits n ≡ (48 + n) ∷ []
+unfolding digits onto
+digits-one n h = rw (lt-ltb n 10 h)
+
+-- one digit more than its tenth has
+pub more-long : (n : ℕ) → 10 ≤ n → length (digits n) ≡ length (digits (n / 10)) + 1
+more-long n h = ap length (digits-more n h) ∙ length-append (digits (n / 10)) ((48 + n % 10) ∷ [])
+
+pub digits-some : (n : ℕ) → 0 < length (digits n)
+digits-some n = go (ltb n 10) refl
+  where
+    go : (w : Bool) → ltb n 10 ≡ w → 0 < length (digits n)
+    go true e = let l = ap length (digits-one n (ltb-true n 10 e)) in omega arith
+    go false e = let l = more-long n (ltb-false n 10 e) in omega arith

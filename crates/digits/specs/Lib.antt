@@ -1,2 +1,3 @@
 pub mod Value
 pub mod Digits
+pub mod LastDigits

@@ -1,4 +1,4 @@
-pub mod LastDigits
+pub mod Leading
 pub mod Numeral
 pub mod Stored
 pub mod Plain

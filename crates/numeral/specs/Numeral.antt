@@ -18,7 +18,7 @@ use Rattle.refusal.specs.Writing.{refuse, onWritten}
 use Rattle.digits.specs.Digits.{digits}
 use Rattle.decimal.specs.declared.Decimal.{Decimal}
 use Rattle.decimal.specs.Grammar.{Parts}
-use Rattle.numeral.specs.LastDigits.{lastDigits}
+use Rattle.digits.specs.LastDigits.{lastDigits}
 
 -- ---- the parts of the text
 

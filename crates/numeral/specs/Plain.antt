@@ -10,7 +10,7 @@ use mathlib.Core.Logic.{_⊎_, inl, inr, _↔_}
 use Prim.Native.Nat.{ℕ, zero, suc, _+_, _-_, _^_, _/_, _≤_, _<_}
 use native.Mathlib.Nat.{one-le-pow, le-trans}
 use native.Mathlib.Omega.{arith}
-use lib.IntN.{ℤ, pos, negsuc, natAbs, _+ℤ_, _-ℤ_, +ℤ-negℤ-cancel, -ℤ-+ℤ-cancel}
+use lib.IntN.{ℤ, pos, negsuc, natAbs, _+ℤ_, +ℤ-negℤ-cancel, -ℤ-+ℤ-cancel}
 use lib.ListN.{length, getD}
 use lib.Signed.{ltZ}
 use lib.Dec.{ltb, eqb}
@@ -22,14 +22,15 @@ use Rattle.refusal.specs.Rows.{pick, Clear, through, clear}
 use Rattle.refusal.specs.Writing.{refuse}
 use Rattle.chars.specs.Chars.{digit}
 use Rattle.digits.specs.Value.{value}
-use Rattle.digits.specs.Digits.{digits, digits-mean, digits-first}
+use Rattle.digits.specs.Digits.{digits, digits-mean, digits-first, digits-some}
 use Rattle.decimal.specs.declared.Decimal.{Decimal}
 use Rattle.decimal.specs.Run.{All}
 use Rattle.decimal.specs.Grammar.{Parts, Sign, Sign.dash, Sign.nothing, Digits, Fraction, Fraction.no-point, Fraction.point}
 use Rattle.decimal.specs.Grammar.{Power, Power.no-power, Power.power, Writes, Short}
 use Rattle.decimal.specs.Number.{signed, powerOf, decimalOf, partsAre}
-use Rattle.numeral.specs.LastDigits.{lastDigits, last-length, last-digits, last-mean, last-value, before-value, Leading, leading-least}
-use Rattle.numeral.specs.LastDigits.{digits-some, each-digit, digits-leading, digits-value}
+use Rattle.digits.specs.LastDigits.{lastDigits, last-length}
+use Rattle.numeral.specs.Leading.{last-digits, last-mean, last-value, before-value, Leading, leading-least}
+use Rattle.numeral.specs.Leading.{each-digit, digits-leading, digits-value}
 use Rattle.numeral.specs.Numeral.{raised, unlessZero, partsFor, signText, pointText, powerText, spelling, numeralOf}
 use Rattle.numeral.specs.Numeral.{numeralRows, fitted, numeralAnswer}
 use Rattle.numeral.specs.Stored.{not-zero}

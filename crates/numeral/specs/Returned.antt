@@ -23,9 +23,9 @@ use Rattle.digits.specs.Digits.{onto, digits, digits-few}
 use Rattle.decimal.specs.declared.Decimal.{Decimal}
 use Rattle.decimal.specs.declared.NumberAnswer.the-variants.{Is}
 use Rattle.decimal.specs.Grammar.{Parts, Writes, Short}
-use Rattle.decimal.specs.Number.{has, past, decimalOf, numberIn}
+use Rattle.decimal.specs.Number.{decimalOf, numberIn}
 use Rattle.decimal.specs.Agreed.{is-number}
-use Rattle.numeral.specs.LastDigits.{lastDigits, last-length}
+use Rattle.digits.specs.LastDigits.{lastDigits, last-length}
 use Rattle.numeral.specs.Numeral.{raised, unlessZero, partsFor, signText, pointText, powerText, spelling, numeralOf}
 use Rattle.numeral.specs.Numeral.{numeralRows, numeralAnswer, numeralLeft}
 use Rattle.numeral.specs.Stored.{text-most, after-few}

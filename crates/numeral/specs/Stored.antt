@@ -2,27 +2,26 @@
 use mathlib.Core.Path.{_≡_, refl, sym, ap, _∙_}
 use mathlib.Core.Bool.{Bool, true, false, _&&_}
 use mathlib.Core.List.{List, [], _∷_, _++_}
-use Prim.Native.Nat.{ℕ, zero, suc, _+_, _-_, _*_, _^_, _/_, _%_, _≤_, _<_}
+use Prim.Native.Nat.{ℕ, zero, suc, _+_, _-_, _*_, _^_, _/_, _≤_, _<_}
 use native.Mathlib.Nat.{one-le-pow, div-lt-iff-lt-mul, div-one}
 use native.Mathlib.Omega.{arith}
 use lib.IntN.{ℤ, pos, negsuc, natAbs}
 use lib.ListN.{length, set, length-set, length-append}
 use lib.Pow.{pow-add}
-use lib.Seq.{set-comm}
 use lib.Signed.{ltZ}
 use lib.Dec.{ltb, eqb}
 use borrow.Author.Tests.{lt-ltb, le-ltb, ltb-true, ltb-false}
-use Rattle.word.specs.Put.{put, put-append}
+use Rattle.word.specs.Put.{put}
 use Rattle.word.specs.Wrote.{Room, Wrote, joined, room-back}
 use Rattle.refusal.specs.declared.Rule.the-variants.{NoNumber, Digits, NoRoom}
 use Rattle.refusal.specs.declared.Written.{Written}
 use Rattle.refusal.specs.declared.Written.the-variants.{To}
 use Rattle.refusal.specs.Rows.{pick}
 use Rattle.refusal.specs.Writing.{refuse, onWritten}
-use Rattle.digits.specs.Digits.{digits, digits-few}
+use Rattle.digits.specs.Digits.{digits, digits-few, digits-some, digits-below}
 use Rattle.decimal.specs.declared.Decimal.{Decimal}
 use Rattle.decimal.specs.Grammar.{Parts, Short}
-use Rattle.numeral.specs.LastDigits.{lastDigits, last-length, last-turn, before-turn, digits-some, digits-below}
+use Rattle.digits.specs.LastDigits.{lastDigits, last-length, before-turn}
 use Rattle.numeral.specs.Numeral.{raised, unlessZero, partsWith, partsFor, signText, pointText, powerText, spelling, numeralOf}
 use Rattle.numeral.specs.Numeral.{fitted, numeralAnswer, numeralLeft}
 
@@ -68,50 +67,6 @@ pub before-over : (c k left i : ℕ) → i ≤ k → k ≤ i → left / 10 ^ (k 
 before-over c k left i h l e =
     let s : k - i ≡ 0 = omega arith in
     sym (div-one left) ∙ ap (λ (n : ℕ). left / 10 ^ n) (sym s) ∙ e
-
--- ---- the last digits, from the last to the first: those that are to come stand before those that are stored
-
-set-past : {A : Type 0} (bs xs : List A) (at i : ℕ) (b : A) → at + length bs ≤ i → set (put xs at bs) i b ≡ put (set xs i b) at bs
-unfolding put
-set-past [] xs at i b h = refl
-set-past {A = A} (x ∷ bs) xs at i b h =
-    let n : at ≡ i → ⊥ = λ e. omega arith in
-    set-past bs (set xs at x) (at + 1) i b (omega arith) ∙ ap (λ (ys : List A). put ys (at + 1) bs) (set-comm xs at i x b n)
-
-put-last : (bs xs : List ℕ) (at b : ℕ) → put (set xs (at + length bs) b) at bs ≡ put xs at (bs ++ (b ∷ []))
-unfolding put
-put-last bs xs at b = sym (set-past bs xs at (at + length bs) b (omega arith)) ∙ sym (put-append bs (b ∷ []) xs at)
-
--- the digits that are left, stored from here on, are all of them stored in what was lent
-pub record StoringLast (xs : List ℕ) (at c k : ℕ) (ys : List ℕ) (left i : ℕ) : Type 0 where
-  pub upto : i ≤ k
-  pub long : length ys ≡ length xs
-  pub whole : put ys at (lastDigits i left) ≡ put xs at (lastDigits k c)
-
-pub last-start : (xs : List ℕ) (at c k : ℕ) → StoringLast xs at c k xs c k
-last-start xs at c k = record { upto = omega arith; long = refl; whole = refl }
-
-pub last-again : {xs : List ℕ} {at c k : ℕ} {ys : List ℕ} {left i : ℕ} → StoringLast xs at c k ys left i → 0 < i
-    → StoringLast xs at c k (set ys (at + (i - 1)) (48 + left % 10)) (left / 10) (i - 1)
-last-again {xs} {at} {c} {k} {ys} {left} {i} s h =
-    let e : i ≡ suc (i - 1) = omega arith in
-    let l = last-length (i - 1) (left / 10) in
-    let p : put (set ys (at + (i - 1)) (48 + left % 10)) at (lastDigits (i - 1) (left / 10)) ≡ put ys at (lastDigits (suc (i - 1)) left) =
-    ap (λ (n : ℕ). put (set ys (at + n) (48 + left % 10)) at (lastDigits (i - 1) (left / 10))) (sym l)
-    ∙ put-last (lastDigits (i - 1) (left / 10)) ys at (48 + left % 10)
-    ∙ ap (λ (ds : List ℕ). put ys at ds) (sym (last-turn (i - 1) left)) in
-    record {
-      upto = omega (arith, s .upto);
-      long = length-set ys (at + (i - 1)) (48 + left % 10) ∙ s .long;
-      whole = p ∙ ap (λ (n : ℕ). put ys at (lastDigits n left)) (sym e) ∙ s .whole;
-    }
-
-pub last-over : {xs : List ℕ} {at c k : ℕ} {ys : List ℕ} {left i : ℕ} → StoringLast xs at c k ys left i → i ≤ 0 → Wrote xs at (lastDigits k c) (at + k) ys
-unfolding put lastDigits
-last-over {at = at} {c = c} {k = k} {ys = ys} {left = left} {i = i} s h =
-    let e : i ≡ 0 = omega arith in
-    let l = last-length k c in
-    (omega arith, ap (λ (n : ℕ). put ys at (lastDigits n left)) (sym e) ∙ s .whole)
 
 -- ---- the point with its digits, and E with its power
 

@@ -1,6 +1,6 @@
 // A number answer as text for a sheet, with its own decimals (document 02 §4, and rows 20, 21 and 30). Every refusal is
 // found before the first byte is written. Numeral has the definitions, Plain the same by the grammar, Returned that
-// what the reader gave is written and reads back; LastDigits and Stored have the laws. Stands on `decimal`, `digits`,
+// what the reader gave is written and reads back; Leading and Stored have the laws. Stands on `decimal`, `digits`,
 // `word`.
 // The rules in words: docs/FORMAT.md, "Numbers in values".
 use decimal::Decimal;
@@ -15,7 +15,7 @@ ghost use Rattle.word.specs.Put.{put};
 ghost use Rattle.word.specs.Wrote.{Room, Wrote};
 ghost use Rattle.refusal.specs.Writing.{refuse, onWritten};
 ghost use Rattle.digits.specs.Digits.{digits};
-ghost use Rattle.numeral.specs.LastDigits.{lastDigits};
+ghost use Rattle.digits.specs.LastDigits.{lastDigits};
 ghost use Rattle.numeral.specs.Numeral.{raised, unlessZero, partsWith, signText, pointText, powerText};
 ghost use Rattle.numeral.specs.Numeral.{spelling, fitted, numeralAnswer, numeralLeft};
 
@@ -69,44 +69,6 @@ fn before_last(c: u64, k: u32) -> u64
     left
 }
 
-// The last k digits, from the last to the first.
-fn put_last(out: &mut [u8], at: usize, c: u64, k: usize) -> usize
-    requires { ⌜ Room (now out) at (lastDigits k c) ⌝ }
-    ensures { λ r. ⌜ Wrote (now (out .entry)) at (lastDigits k c) r (now (out .exit)) ⌝ }
-{
-    let mut left = c;
-    let mut i = k;
-    while 0 < i {
-        i -= 1;
-        out[at + i] = 48 + (left % 10) as u8;
-        left = left / 10;
-    }
-    at + k
-}
-
-// How many digits a number has; no number of 64 bits has more than 20.
-fn digit_count(n: u64) -> usize
-    ensures { λ r. ⌜ (r ≡ length (digits n)) × (r ≤ 20) ⌝ }
-{
-    let mut left = n;
-    let mut k: usize = 1;
-    while 10 <= left {
-        left = left / 10;
-        k += 1;
-    }
-    k
-}
-
-// A number in decimal. Its digits are counted first and stored where they belong: gathered in a row and copied, as
-// `digits::put_digits` does it, they would be a call of C's `memcpy`.
-fn put_counted(out: &mut [u8], at: usize, n: u64) -> usize
-    requires { ⌜ Room (now out) at (digits n) ⌝ }
-    ensures { λ r. ⌜ Wrote (now (out .entry)) at (digits n) r (now (out .exit)) ⌝ }
-{
-    let k = digit_count(n);
-    put_last(out, at, n, k)
-}
-
 fn put_sign(out: &mut [u8], at: usize, minus: bool) -> usize
     requires { ⌜ Room (now out) at (signText minus) ⌝ }
     ensures { λ r. ⌜ Wrote (now (out .entry)) at (signText minus) r (now (out .exit)) ⌝ }
@@ -127,7 +89,7 @@ fn put_point(out: &mut [u8], at: usize, c: u64, k: usize) -> usize
         return at;
     }
     out[at] = b'.';
-    put_last(out, at + 1, c, k)
+    digits::put_last(out, at + 1, c, k)
 }
 
 // E, a minus or nothing, and the digits, or nothing where they would mean 0.
@@ -140,7 +102,7 @@ fn put_power(out: &mut [u8], at: usize, down: bool, far: u64) -> usize
     }
     out[at] = b'E';
     let behind = put_sign(out, at + 1, down);
-    put_counted(out, behind, far)
+    digits::put_digits(out, behind, far)
 }
 
 // The whole text.
@@ -151,7 +113,7 @@ fn put_text(out: &mut [u8], minus: bool, c: u64, k: u32, to: Raised) -> usize
 {
     let a = put_sign(out, 0, minus);
     let whole = before_last(c, k);
-    let b = put_counted(out, a, whole);
+    let b = digits::put_digits(out, a, whole);
     let d = put_point(out, b, c, k as usize);
     put_power(out, d, to.down, to.far)
 }
@@ -177,7 +139,7 @@ fn power_size(to: Raised) -> usize
     if to.far < 1 {
         return 0;
     }
-    1 + sign_size(to.down) + digit_count(to.far)
+    1 + sign_size(to.down) + digits::digit_count(to.far)
 }
 
 // How long the text is.
@@ -185,7 +147,7 @@ fn text_size(minus: bool, c: u64, k: u32, to: Raised) -> usize
     ensures { λ r. ⌜ r ≡ length (spelling (partsWith minus c k (to .down) (to .far))) ⌝ }
 {
     let whole = before_last(c, k);
-    sign_size(minus) + digit_count(whole) + point_size(c, k) + power_size(to)
+    sign_size(minus) + digits::digit_count(whole) + point_size(c, k) + power_size(to)
 }
 
 // Row 30, and the text at the start of the lent bytes where it is not met.

@@ -27,15 +27,15 @@ put-power-spec =
     let start = at-if1 .before .before in
     power-room (start .args .out .now) _ _ _ (at-if1 .if1 .left) (start .pre) .2 _ _ (at-put-sign .put-sign .ensures))
     (λ c.
-    let at-put-counted = c .before .before in
-    let at-put-sign = at-put-counted .before .before .before .before in
+    let at-put-digits = c .before .before in
+    let at-put-sign = at-put-digits .before .before .before .before in
     let start = at-put-sign .before .before .before .before in
-    ap length (at-put-counted .put-counted .ensures .1) ∙ length-put _ _ _ ∙ ap length (at-put-sign .put-sign .ensures .1) ∙ length-put _ _ _
+    ap length (at-put-digits .put-digits .ensures .1) ∙ length-put _ _ _ ∙ ap length (at-put-sign .put-sign .ensures .1) ∙ length-put _ _ _
     ∙ length-set (start .args .out .now) (start .args .at) 69)
     (λ c.
-    let at-put-counted = c .before .before in
-    let at-put-sign = at-put-counted .before .before .before .before in
+    let at-put-digits = c .before .before in
+    let at-put-sign = at-put-digits .before .before .before .before in
     let at-if1 = at-put-sign .before .before in
     let start = at-if1 .before .before in
     power-there (start .args .out .now) (start .args .at) (start .args .far) (start .args .down) (at-if1 .if1 .left) _ _ _ _
-    (at-put-sign .put-sign .ensures) (at-put-counted .put-counted .ensures)))
+    (at-put-sign .put-sign .ensures) (at-put-digits .put-digits .ensures)))

@@ -31,31 +31,31 @@ put-text-spec =
     let w = ap (λ (n : ℕ). length (digits n)) (at-before-last .before-last .ensures) in
     omega (arith, l, w, start .pre, at-put-sign .put-sign .ensures .0))
     (λ c κs.
-    let at-put-counted = c .before .before .before in
-    let at-before-last = at-put-counted .before .before in
+    let at-put-digits = c .before .before .before in
+    let at-before-last = at-put-digits .before .before in
     let at-put-sign = at-before-last .before .before .before in
     let start = at-put-sign .before .before .before in
     let args = start .args in
     let l = text-length (partsWith (args .minus) (args .c) (args .k) (args .to .down) (args .to .far)) in
     let w = ap (λ (n : ℕ). length (digits n)) (at-before-last .before-last .ensures) in
-    omega (arith, l, w, start .pre, at-put-sign .put-sign .ensures .0, at-put-counted .put-counted .ensures .0))
+    omega (arith, l, w, start .pre, at-put-sign .put-sign .ensures .0, at-put-digits .put-digits .ensures .0))
     (λ c κs.
     let at-put-point = c .before .before .before in
-    let at-put-counted = at-put-point .before .before .before .before in
-    let at-before-last = at-put-counted .before .before in
+    let at-put-digits = at-put-point .before .before .before .before in
+    let at-before-last = at-put-digits .before .before in
     let at-put-sign = at-before-last .before .before .before in
     let start = at-put-sign .before .before .before in
     let args = start .args in
     let l = text-length (partsWith (args .minus) (args .c) (args .k) (args .to .down) (args .to .far)) in
     let w = ap (λ (n : ℕ). length (digits n)) (at-before-last .before-last .ensures) in
-    omega (arith, l, w, start .pre, at-put-sign .put-sign .ensures .0, at-put-counted .put-counted .ensures .0, at-put-point .put-point .ensures .0))
+    omega (arith, l, w, start .pre, at-put-sign .put-sign .ensures .0, at-put-digits .put-digits .ensures .0, at-put-point .put-point .ensures .0))
     (λ c. search needs)
     (λ c.
     let at-put-power = c .before .before in
     let at-put-point = at-put-power .before .before .before .before in
-    let at-put-counted = at-put-point .before .before .before .before in
-    let at-before-last = at-put-counted .before .before in
+    let at-put-digits = at-put-point .before .before .before .before in
+    let at-before-last = at-put-digits .before .before in
     let at-put-sign = at-before-last .before .before .before in
     joined _ _ _ _ _ _ _ _ (at-put-sign .put-sign .ensures)
-    (joined _ _ _ _ _ _ _ _ (rw (at-before-last .before-last .ensures) at (at-put-counted .put-counted .ensures))
+    (joined _ _ _ _ _ _ _ _ (rw (at-before-last .before-last .ensures) at (at-put-digits .put-digits .ensures))
     (joined _ _ _ _ _ _ _ _ (at-put-point .put-point .ensures) (at-put-power .put-power .ensures)))))

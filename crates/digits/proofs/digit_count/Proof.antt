@@ -1,13 +1,13 @@
--- `numeral::digit_count` meets its contract: those that are counted, and those of what is left, are one more than all.
+-- `digits::digit_count` meets its contract: those that are counted, and those of what is left, are one more than all.
 -- Assumes nothing.
 use mathlib.Core.Path.{refl}
 use Prim.Native.Nat.{_≤_}
 use native.Mathlib.Omega.{arith}
 use lib.ListN.{length}
-use Rattle.digits.specs.Digits.{digits}
-use Rattle.numeral.specs.LastDigits.{Counting, counting-turn, counting-over, at-most-twenty, digits-some}
-use Rattle.numeral.proofs.digit_count.Statement.{statement}
-use Rattle.numeral.proofs.digit_count.Tie as tie
+use Rattle.digits.specs.Digits.{digits, digits-some}
+use Rattle.digits.specs.LastDigits.{Counting, counting-turn, counting-over, at-most-twenty}
+use Rattle.digits.proofs.digit_count.Statement.{statement}
+use Rattle.digits.proofs.digit_count.Tie as tie
 
 abbrev Inv-loop : tie.InvT-loop
 Inv-loop n left₀ k₀ left k = Counting n left k × (length (digits n) ≤ 20)

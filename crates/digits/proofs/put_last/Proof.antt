@@ -1,12 +1,11 @@
--- `numeral::put_last` meets its contract: the digits that are left, stored from here on, are all of them. Assumes
+-- `digits::put_last` meets its contract: the digits that are left, stored from here on, are all of them. Assumes
 -- nothing.
 use Prim.Native.Nat.{_+_, _≤_}
 use native.Mathlib.Omega.{arith}
 use lib.ListN.{length, length-set}
-use Rattle.numeral.specs.LastDigits.{last-length}
-use Rattle.numeral.specs.Stored.{StoringLast, last-start, last-again, last-over}
-use Rattle.numeral.proofs.put_last.Statement.{statement}
-use Rattle.numeral.proofs.put_last.Tie as tie
+use Rattle.digits.specs.LastDigits.{last-length, StoringLast, last-start, last-again, last-over}
+use Rattle.digits.proofs.put_last.Statement.{statement}
+use Rattle.digits.proofs.put_last.Tie as tie
 
 abbrev Inv-loop : tie.InvT-loop
 Inv-loop out₀ at c k left₀ i₀ out left i = (at + k ≤ length out) × StoringLast out₀ at c k out left i
