@@ -19,7 +19,7 @@
  * `buffer` and `size` are the lent memory, `length` says how many of its first bytes are
  * the file; any length may be given, and one over `size` is refused by 1. A `part` is -1
  * for the file itself, else a trace, counted from 0. Every question about a file checks the
- * whole file first, so its refusal may be any row from 1 to 17 before one of its own.
+ * whole file first, so its refusal may be any row from 1 to 17, or 34, before one of its own.
  *
  * An answer begins with the refusal: `number` 0, `part` -1 and `place` 0 where there is
  * none. After a refusal the rest of the answer is 0 and no lent byte has changed. An answer
@@ -98,7 +98,10 @@ enum seg2_refusal {
     SEG2_START_VALUES = 31,  /* 0 */
     /* samples; the part is -1 */
     SEG2_ROW_LENGTH = 32,    /* 0 */
-    SEG2_CODE_KIND = 33      /* 0 */
+    SEG2_CODE_KIND = 33,     /* 0 */
+    /* channel numbers in all traces or none (document 02, section 7) */
+    SEG2_CHANNEL_NUMBER = 34, /* of the check, behind 17 of its trace: where the trace's strings start, 32 bytes behind its block's start */
+    SEG2_SHEET_CHANNEL = 35  /* 0; of an addition, behind 27 and before 28; the part is -1 */
 };
 
 /* Byte orders. */
@@ -239,7 +242,7 @@ typedef struct seg2_length {
 /* ---- questions: no lent byte changes but the answer, and the rows of samples where it says so */
 
 /* Whether the first `length` bytes are a file that keeps the rules; if not, the first row of the table that
- * they meet, 1 to 17, with its part and place. */
+ * they meet, 1 to 17 or 34, with its part and place. */
 seg2_verdict seg2_check(const uint8_t *buffer, size_t size, size_t length);
 
 /* The file block: byte order, M, N and the lengths of the terminators. */
@@ -315,7 +318,11 @@ void seg2_write_number(seg2_length *answer, uint8_t *text, size_t size, uint32_t
  *
  * A sheet is lines of text, each a keyword, a tab, a value and 0Ah, with the keywords rising. RECEIVER_GEOMETRY and
  * SOURCE_GEOMETRY may have several lines running, each a string of its own. Consecutive NOTE lines at its end are the
- * lines of one NOTE. An empty sheet is a list without strings. */
+ * lines of one NOTE. An empty sheet is a list without strings.
+ *
+ * A trace's sheet may have a CHANNEL_NUMBER: 1 to 32,767 in plain digits, without sign, point or E. The first trace of a
+ * file chooses: if its sheet has one, every later sheet has one, and if it has none, none has. The file's own sheet is
+ * free. */
 
 /* Writes the image of a new file without traces at the buffer's start and answers its length. `order` is enum
  * seg2_order, `slots` how many traces the file can take, 1 to SEG2_MAXIMUM_SLOTS. Refusals in order: 31, 25, 26 (line
@@ -324,7 +331,7 @@ void seg2_start(seg2_length *answer, uint8_t *buffer, size_t size, uint32_t orde
                 const uint8_t *sheet, size_t sheet_size);
 
 /* Adds a trace of code 1 to 3 behind the file, or new image, that the first `length` bytes are, and answers the new
- * length. Refusals in order: 1 to 17 for the file, 24, 25, 26 (line by line), 27, 28, 29, 30. */
+ * length. Refusals in order: 1 to 17 and 34 for the file, 24, 25, 26 (line by line), 27, 35, 28, 29, 30. */
 void seg2_add_integers(seg2_length *answer, uint8_t *buffer, size_t size, size_t length,
                        const uint8_t *sheet, size_t sheet_size, uint32_t code, const int32_t *row, size_t row_size);
 
@@ -466,6 +473,8 @@ static inline const char *seg2_text(uint32_t number) {
     case SEG2_START_VALUES: return "the pointer slots are not 1 to 16,383, or the byte order is not 0 or 1";
     case SEG2_ROW_LENGTH: return "the row's length is not the number of samples";
     case SEG2_CODE_KIND: return "integers are asked of code 4 or 5, or bit patterns of code 1 to 3";
+    case SEG2_CHANNEL_NUMBER: return "the trace's CHANNEL_NUMBER is not 1 to 32,767 in plain digits, or only one of this trace and trace 0 has it";
+    case SEG2_SHEET_CHANNEL: return "the sheet's CHANNEL_NUMBER is not 1 to 32,767 in plain digits, is missing where the file's traces have it, or there where they have none";
     default: return "a number that is not in the table";
     }
 }

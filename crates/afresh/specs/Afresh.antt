@@ -1,17 +1,24 @@
 -- Written afresh: every list of good traces that has its slots and its room is written, none of its calls refused, and
 -- what is left is the file that the list defines.
 -- Assumes nothing.
-use mathlib.Core.Path.{_≡_, refl, ap, _∙_}
-use mathlib.Core.Bool.{Bool}
+use mathlib.Core.Path.{_≡_, refl, sym, ap, _∙_}
+use mathlib.Core.Bool.{Bool, false}
 use mathlib.Core.List.{List, [], _∷_, _++_, append-assoc}
 use Prim.Native.Nat.{ℕ, _+_, _*_, _≤_, _<_}
 use native.Mathlib.Omega.{arith}
-use lib.ListN.{length, take}
+use lib.ListN.{length, getD, take}
 use lib.Dec.{eqb}
 use Rattle.head.specs.declared.Purpose.{Purpose}
 use Rattle.head.specs.declared.Purpose.the-variants.{Grow}
 use Rattle.text.specs.declared.Manner.the-variants.{Strict}
+use Rattle.word.specs.Tests.{never}
+use Rattle.sheet.specs.Lines.{sheetLines}
 use Rattle.sheet.specs.Area.{areaSize, measuredOf}
+use Rattle.channel.specs.Count.{counts}
+use Rattle.channel.specs.Channel.{channelNumber}
+use Rattle.sheet_channel.specs.SheetChannel.{valueOfLine}
+use Rattle.sheet_channel.specs.Meant.{keeps-sheet}
+use Rattle.image.specs.Accepted.{withOf}
 use Rattle.sheet.specs.declared.Measured.the-variants.{Size}
 use Rattle.refusal.specs.declared.Verdict.the-variants.{Accepted}
 use Rattle.image.specs.Image.{checkOf}
@@ -21,15 +28,16 @@ use Rattle.refusal.specs.declared.Written.{Written}
 use Rattle.refusal.specs.declared.Written.the-variants.{To, Refused}
 use Rattle.layout.specs.Layout.{slotsMost, nul, lineFeed, startSize, Trace, traceSize}
 use Rattle.start.specs.Start.{startAnswer, startLeft}
-use Rattle.writer.specs.Answers.{addAnswer, addLeft}
-use Rattle.afresh.specs.FileOf.{sizes, fileOf, fileSize, Measures, Good, AllGood}
-use Rattle.afresh.specs.FileLaws.{length-more, good-front, good-next, file-fronted}
+use Rattle.writer.specs.Answers.{wrongChannel, addAnswer, addLeft}
+use Rattle.afresh.specs.FileOf.{sizes, fileOf, fileSize, Measures, hasChannel, Good, Together, AllGood, Holds}
+use Rattle.afresh.specs.FileLaws.{length-more, good-front, good-next, file-fronted, has-last}
 use Rattle.start.specs.StartShown.{as-area, Started, started, starts}
 use Rattle.writer.specs.Shown.{Added, added, adds}
-use Rattle.afresh.specs.Step.{Holds, start-past, start-afresh, new-end, add-afresh, add-past}
+use Rattle.afresh.specs.Step.{start-past, start-afresh, new-end, add-afresh, add-past}
 use Rattle.afresh.specs.Calls.{lengthLeft, after, answersOf, acceptedOf, answers-to, accepted-to, Grew}
 use Rattle.afresh.specs.Calls.{start-grows}
-use Rattle.afresh.specs.Kept.{file-accepted}
+use Rattle.afresh.specs.Stands.{emptyTrace}
+use Rattle.afresh.specs.Kept.{file-with, file-accepted}
 
 -- "the new length is answered; it is where the new trace's D bytes end": the answers to the calls for a list, where the
 -- image ends at a place before them
@@ -38,6 +46,23 @@ lengths at [] = []
 lengths at (x ∷ ts) = To (at + traceSize nul lineFeed x) ∷ lengths (at + traceSize nul lineFeed x) ts
 
 module _ (high : Bool) (slots : ℕ) (sheet : List ℕ) (some : 1 ≤ slots) (measures : Measures sheet) where
+  -- a trace that goes on a good list meets no row 35: the first is free to choose, a later one is as the first
+  not-wrong : (ts : List Trace) (x : Trace) → Good x → AllGood ts → slots ≤ slotsMost → length ts ≤ slots → fileSize slots sheet ts ≤ maximum
+      → Together (ts ++ (x ∷ [])) → wrongChannel (fileOf high slots sheet ts) (x .sheet) ≡ false
+  unfolding wrongChannel
+  not-wrong ts x g good few slotted most t =
+      let f = file-fronted high slots sheet ts few slotted in
+      rw (f .count) (keeps-sheet (eqb (length ts) 0) (withOf Strict (fileOf high slots sheet ts)) (x .sheet) (
+        go ts t (file-with high slots sheet ts few good slotted most),
+        λ has. (let c = g .channel has in rw (counts (valueOfLine (sheetLines (x .sheet)) channelNumber) (c .0) (c .1)) (c .1 .least)),
+      ))
+    where
+      go : (l : List Trace) → Together (l ++ (x ∷ []))
+          → (0 < length l → withOf Strict (fileOf high slots sheet ts) ≡ hasChannel (getD l 0 emptyTrace)) → eqb (length l) 0 ≡ false
+          → hasChannel x ≡ withOf Strict (fileOf high slots sheet ts)
+      go [] t k e = absurd (never (sym e))
+      go (y ∷ l) t k e = has-last y l x t ∙ sym (k (omega arith))
+
   -- a trace that goes on a good list is added to the file of the list where there is a slot and room
   pub add-accepted : (ts : List Trace) (xs : List ℕ) (n : ℕ) (x : Trace) → Holds high slots sheet ts xs n → AllGood (ts ++ (x ∷ [])) → length ts < slots
       → n + traceSize nul lineFeed x ≤ length xs → n + traceSize nul lineFeed x ≤ maximum → addAnswer xs n x ≡ To (n + traceSize nul lineFeed x)
@@ -54,6 +79,7 @@ module _ (high : Bool) (slots : ℕ) (sheet : List ℕ) (some : 1 ≤ slots) (me
         accepted = file-accepted Grow high slots sheet ts xs n is some measures (omega arith) (λ z. refl);
         slot = omega arith;
         sized = as-area (stringEnd (take n xs)) (lineEnd (take n xs)) (x .sheet) (g' .0) m;
+        channel = rw (is .image) (not-wrong ts x g (is .good) (is .few) (is .slotted) (omega (arith, is .size)) (all .1));
         kind = g .kind;
         held = g .held;
         new = e;

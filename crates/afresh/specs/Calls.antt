@@ -16,9 +16,9 @@ use Rattle.layout.specs.Layout.{Trace}
 use Rattle.refusal.specs.Writing.{onWritten}
 use Rattle.start.specs.Start.{startAnswer, startLeft}
 use Rattle.writer.specs.Answers.{addAnswer, addLeft}
-use Rattle.afresh.specs.FileOf.{fileOf, fileSize}
+use Rattle.afresh.specs.FileOf.{fileOf, fileSize, Holds}
 use Rattle.writer.specs.Shown.{add-refused}
-use Rattle.afresh.specs.Step.{Holds, start-afresh, start-past, add-end, add-past, add-afresh}
+use Rattle.afresh.specs.Step.{start-afresh, start-past, add-end, add-past, add-afresh}
 
 -- ---- calls one behind the other, each given the bytes and the length that the calls before it left
 

@@ -1,11 +1,12 @@
 -- How long the pieces of that file are, what one trace more adds to each, and what stands in its first 32 bytes.
 -- Assumes nothing.
 use mathlib.Core.Path.{_≡_, refl, sym, ap, ap₂, _∙_}
-use mathlib.Core.Bool.{Bool}
+use mathlib.Core.Bool.{Bool, true, false}
 use mathlib.Core.List.{List, [], _∷_, _++_, append-nil, append-assoc}
-use Prim.Native.Nat.{ℕ, _+_, _-_, _*_, _%_, _≤_}
+use mathlib.Core.Logic.{inl, inr, ⊎-elim}
+use Prim.Native.Nat.{ℕ, zero, suc, _+_, _-_, _*_, _%_, _≤_, _<_}
 use native.Mathlib.Omega.{arith}
-use lib.ListN.{length, replicate, length-append, length-replicate}
+use lib.ListN.{length, getD, replicate, length-append, length-replicate}
 use Rattle.word.specs.Word.{bytesOf}
 use Rattle.word.specs.WordLaws.{length-bytesOf}
 use Rattle.sheet.specs.Area.{areaOf}
@@ -13,8 +14,8 @@ use Rattle.sheet.specs.Sizes.{length-area}
 use Rattle.layout.specs.Layout.{slotsMost, nul, lineFeed, fileBlock, startImage, startSize, Trace, traceSize}
 use Rattle.layout.specs.Layout.{traceBytes}
 use Rattle.layout.specs.LayoutLaws.{length-fileBlock, Fronted, fronted, length-traceBytes, area-whole, size-whole}
-use Rattle.afresh.specs.FileOf.{sizes, pointers, blocks, fileOf, fileSize, Good, EachGood, AllGood}
-use Rattle.afresh.specs.FileOf.{together-front}
+use Rattle.afresh.specs.FileOf.{sizes, pointers, blocks, fileOf, fileSize, hasChannel, Good, EachGood, EachHas}
+use Rattle.afresh.specs.FileOf.{Together, AllGood}
 
 -- ---- every size is a multiple of 4
 
@@ -129,6 +130,10 @@ pub good-append : (ts rest : List Trace) → EachGood ts → EachGood rest → E
 good-append [] rest g h = h
 good-append (x ∷ ts) rest g h = (g .0, good-append ts rest (g .1) h)
 
+-- more behind the last of five pieces
+pub behind : (h p z a b t : List ℕ) → (h ++ (p ++ (z ++ (a ++ b)))) ++ t ≡ h ++ (p ++ (z ++ (a ++ (b ++ t))))
+behind h p z a b t = simp append-assoc
+
 -- ---- the first 32 bytes
 
 pub file-fronted : (high : Bool) (slots : ℕ) (sheet : List ℕ) (ts : List Trace) → slots ≤ slotsMost → length ts ≤ slots
@@ -138,6 +143,38 @@ file-fronted high slots sheet ts few h =
     fronted (4 * slots) (length ts)
     (pointers high (startSize slots sheet) ts ++ (replicate (4 * (slots - length ts)) 0 ++ (areaOf high nul lineFeed sheet ++ blocks high ts)))
     (omega arith) (omega arith) high
+
+-- ---- channel numbers
+
+pub has-append : (w : Bool) (ts rest : List Trace) → EachHas w ts → EachHas w rest → EachHas w (ts ++ rest)
+has-append w [] rest h k = k
+has-append w (x ∷ ts) rest h k = (h .0, has-append w ts rest (h .1) k)
+
+has-split : (w : Bool) (ts rest : List Trace) → EachHas w (ts ++ rest) → EachHas w ts × EachHas w rest
+has-split w [] rest h = (tt, h)
+has-split w (x ∷ ts) rest h = let i = has-split w ts rest (h .1) in ((h .0, i .0), i .1)
+
+-- a list whose first trace is told: the others are as it
+pub together-first : (x : Trace) (ts : List Trace) → Together (x ∷ ts) → EachHas (hasChannel x) (x ∷ ts)
+together-first x ts t = ⊎-elim (λ h. rw (h .0) (refl, h .1)) (λ h. rw (h .0) (refl, h .1)) t
+
+pub first-together : (w : Bool) (ts : List Trace) → EachHas w ts → Together ts
+first-together true ts h = inl h
+first-together false ts h = inr h
+
+-- what holds of a list held of it before its last traces came
+together-front : (ts rest : List Trace) → Together (ts ++ rest) → Together ts
+together-front ts rest t = ⊎-elim (λ h. inl (has-split true ts rest h .0)) (λ h. inr (has-split false ts rest h .0)) t
+
+-- the trace k of a list that has them as w tells
+pub has-nth : (w : Bool) (d : Trace) (ts : List Trace) (k : ℕ) → EachHas w ts → k < length ts → hasChannel (getD ts k d) ≡ w
+has-nth w d [] k h l = absurd (omega arith)
+has-nth w d (x ∷ ts) zero h l = h .0
+has-nth w d (x ∷ ts) (suc k) h l = has-nth w d ts k (h .1) (omega arith)
+
+-- the last is as the first
+pub has-last : (x : Trace) (ts : List Trace) (y : Trace) → Together ((x ∷ ts) ++ (y ∷ [])) → hasChannel y ≡ hasChannel x
+has-last x ts y t = ⊎-elim (λ h. has-split true (x ∷ ts) (y ∷ []) h .1 .0 ∙ sym (h .0)) (λ h. has-split false (x ∷ ts) (y ∷ []) h .1 .0 ∙ sym (h .0)) t
 
 -- the front of a good list is good
 pub good-front : (ts rest : List Trace) → AllGood (ts ++ rest) → AllGood ts

@@ -4,15 +4,20 @@
 -- after the last D bytes". `high` is the byte order.
 -- Assumes nothing.
 use mathlib.Core.Path.{_≡_}
-use mathlib.Core.Bool.{Bool, true}
+use mathlib.Core.Bool.{Bool, true, false}
 use mathlib.Core.List.{List, [], _∷_, _++_}
-use Prim.Native.Nat.{ℕ, _+_, _-_, _*_}
-use lib.ListN.{length, replicate}
+use mathlib.Core.Logic.{_⊎_}
+use Prim.Native.Nat.{ℕ, _+_, _-_, _*_, _≤_}
+use lib.ListN.{length, take, replicate}
 use Rattle.word.specs.Word.{bytesOf}
 use Rattle.fit.specs.declared.Fit.the-variants.{All}
 use Rattle.sheet.specs.declared.Measured.the-variants.{Size}
+use Rattle.sheet.specs.Lines.{sheetLines}
 use Rattle.sheet.specs.Area.{areaOf, measuredOf}
-use Rattle.layout.specs.Layout.{nul, lineFeed, fileBlock, startSize, Trace, fitting, unfit, traceSize, traceBytes}
+use Rattle.channel.specs.Count.{Counts}
+use Rattle.channel.specs.Channel.{channelNumber}
+use Rattle.sheet_channel.specs.SheetChannel.{hasLine, valueOfLine}
+use Rattle.layout.specs.Layout.{slotsMost, nul, lineFeed, fileBlock, startSize, Trace, fitting, unfit, traceSize, traceBytes}
 
 -- "B and D of all traces"
 unfoldable pub sizes : List Trace → ℕ
@@ -43,9 +48,15 @@ fileSize slots sheet ts = startSize slots sheet + sizes ts
 abbrev pub Measures : List ℕ → Type 0
 Measures sheet = (b : ℕ) × (measuredOf nul lineFeed sheet ≡ Size b)
 
--- a trace that rows 25 to 29 let through there
+-- whether a trace's sheet has a channel number (document 02 §7)
+abbrev pub hasChannel : Trace → Bool
+hasChannel x = hasLine (sheetLines (x .sheet)) channelNumber
+
+-- a trace that rows 25 to 29 let through there; its channel number, if it has one, is "a number by document 01, 1 to
+-- 32,767, without point or E"
 pub record Good (x : Trace) : Type 0 where
   pub measures : Measures (x .sheet)
+  pub channel : hasChannel x ≡ true → (n : ℕ) × Counts (valueOfLine (sheetLines (x .sheet)) channelNumber) n
   pub kind : fitting (x .code) (x .samples) ≡ true
   pub held : unfit (x .code) (x .samples) ≡ All
 
@@ -54,13 +65,23 @@ abbrev pub EachGood : List Trace → Type 0
 EachGood [] = Unit {0}
 EachGood (x ∷ ts) = Good x × EachGood ts
 
--- and what the traces of one file must have in common: document 01 has no rule between traces
+-- and what the traces of one file must have in common: "if one trace block has it, all must", so each has a channel
+-- number, or none has
+abbrev pub EachHas : Bool → List Trace → Type 0
+EachHas w [] = Unit {0}
+EachHas w (x ∷ ts) = (hasChannel x ≡ w) × EachHas w ts
+
 abbrev pub Together : List Trace → Type 0
-Together ts = Unit {0}
+Together ts = EachHas true ts ⊎ EachHas false ts
 
 abbrev pub AllGood : List Trace → Type 0
 AllGood ts = EachGood ts × Together ts
 
--- what holds of a list held of it before its last traces came
-pub together-front : (ts rest : List Trace) → Together (ts ++ rest) → Together ts
-together-front ts rest h = tt
+-- the first n bytes of a buffer are the file of a list: what a call is given that goes on with it
+pub record Holds (high : Bool) (slots : ℕ) (sheet : List ℕ) (ts : List Trace) (xs : List ℕ) (n : ℕ) : Type 0 where
+  pub image : take n xs ≡ fileOf high slots sheet ts
+  pub size : n ≡ fileSize slots sheet ts
+  pub fits : n ≤ length xs
+  pub good : AllGood ts
+  pub slotted : length ts ≤ slots
+  pub few : slots ≤ slotsMost

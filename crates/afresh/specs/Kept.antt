@@ -4,7 +4,7 @@
 use mathlib.Core.Path.{_≡_, refl, sym, ap, _∙_}
 use mathlib.Core.Bool.{Bool, true, false}
 use mathlib.Core.List.{List, [], _∷_, _++_, append-assoc}
-use mathlib.Core.Logic.{inl}
+use mathlib.Core.Logic.{inl, inr}
 use Prim.Native.Nat.{ℕ, zero, suc, _+_, _-_, _*_, _%_, _≤_, _<_}
 use native.Mathlib.Omega.{arith}
 use lib.ListN.{length, getD, take, replicate, length-append, length-replicate}
@@ -17,23 +17,26 @@ use Rattle.word.specs.Part.{part, part-among}
 use Rattle.refusal.specs.Rows.{pick}
 use Rattle.refusal.specs.declared.Verdict.the-variants.{Accepted}
 use Rattle.chars.specs.Runs.{all}
-use Rattle.strings.specs.Spelled.{Spells}
+use Rattle.strings.specs.Spelled.{Spells, hasKey}
+use Rattle.channel.specs.Channel.{channelNumber}
+use Rattle.sheet_channel.specs.Meant.{has-meant, value-meant}
 use Rattle.sample.specs.Needed.{room}
 use Rattle.sheet.specs.Area.{sheetStrings, areaOf, areaSize}
 use Rattle.sheet.specs.Sizes.{length-area}
 use Rattle.note.specs.Note.{LineEnd}
-use Rattle.area.specs.Spelling.{area-spells}
+use Rattle.area.specs.Spelling.{measured-size, area-spells}
 use Rattle.head.specs.Head.{maximum, highFirst, countOf}
 use Rattle.terminators.specs.Terminators.{stringEnd, lineEnd, apart}
-use Rattle.block.specs.Block.{pointerOf, endAt}
+use Rattle.block.specs.Block.{pointerOf, dataSize, dataAt, endAt}
 use Rattle.image.specs.Image.{checkOf}
-use Rattle.image.specs.Keeps.{traceAt, endBefore, stringsEnd, KeepsTrace, Keeps}
-use Rattle.image.specs.Accepted.{keeps-accepted}
+use Rattle.image.specs.Keeps.{traceAt, endBefore, stringsEnd, GoodChannel, KeepsTrace, AllOrNone, Keeps}
+use Rattle.image.specs.Accepted.{withOf, channel-spelled, all-or-none, keeps-accepted}
 use Rattle.layout.specs.Layout.{slotsMost, nul, lineFeed, fileBlock, startSize, Trace, count}
-use Rattle.afresh.specs.FileOf.{pointers, blocks, fileOf, fileSize, Measures, Good, AllGood}
+use Rattle.afresh.specs.FileOf.{pointers, blocks, fileOf, fileSize, Measures, hasChannel, Good, EachHas, Together}
+use Rattle.afresh.specs.FileOf.{AllGood, Holds}
 use Rattle.layout.specs.LayoutLaws.{length-fileBlock, Fronted, kinded, room-enough, area-whole, Stands}
 use Rattle.afresh.specs.FileLaws.{length-pointers, length-file, file-whole, size-none, size-low, file-fronted}
-use Rattle.afresh.specs.Step.{Holds}
+use Rattle.afresh.specs.FileLaws.{has-nth}
 use Rattle.afresh.specs.Stands.{emptyTrace, Traced, file-traces}
 
 -- 0Ah is no character of a value
@@ -43,27 +46,40 @@ feed-ends = (omega arith, refl)
 spelled : (high : Bool) (sheet : List ℕ) → Measures sheet → Spells Strict high nul lineFeed (sheetStrings lineFeed sheet) (areaOf high nul lineFeed sheet)
 spelled high sheet m = area-spells high nul lineFeed sheet (m .0) feed-ends (m .1)
 
--- ---- a trace
+-- the channel number of a sheet's strings is that of its line
+meant : (x : Trace) → Measures (x .sheet) → hasKey Strict (sheetStrings lineFeed (x .sheet)) channelNumber ≡ hasChannel x
+meant x m = has-meant lineFeed (x .sheet) (measured-size nul lineFeed (x .sheet) (m .0) (m .1) .0)
+
+good-channel : (x : Trace) → Good x → GoodChannel Strict (sheetStrings lineFeed (x .sheet))
+good-channel x g has =
+    let m = g .measures in
+    rw (value-meant lineFeed (x .sheet) (measured-size nul lineFeed (x .sheet) (m .0) (m .1) .0)) (g .channel (sym (meant x m) ∙ has))
+
+-- ---- a trace: it keeps the rules, and has a channel number where its sheet has
 keeps-trace : (high : Bool) (f : List ℕ) (k p : ℕ) (x : Trace) → highFirst f ≡ high → stringEnd f ≡ nul → lineEnd f ≡ lineFeed → pointerOf high f k ≡ p
-    → Stands high nul lineFeed f p x → Good x → p % 4 ≡ 0 → endBefore f k ≤ p → KeepsTrace Strict f k
+    → Stands high nul lineFeed f p x → Good x → p % 4 ≡ 0 → endBefore f k ≤ p
+    → (t : KeepsTrace Strict f k) × (hasKey Strict (t .strings .0) channelNumber ≡ hasChannel x)
 keeps-trace high f k p x o s l at h g w b =
     let a = area-whole nul lineFeed (x .sheet) in
     let d = room-enough (x .code) (count (x .samples)) in
     let c = kinded (x .code) (x .samples) (g .kind) in
-    let i = h .inside in
-    record {
-      aligned = rw (o, at) w;
-      behind = rw (o, at) b;
-      mark = rw (o, at) (h .mark);
-      least = rw (o, at, h .block) (omega arith);
-      whole = rw (o, at, h .block) (omega arith);
-      data-whole = rw (o, at, h .bytes) (d .1);
-      inside = rw (o, at, h .block, h .bytes) (omega arith);
-      code = rw (o, at, h .code) (c .least, c .most);
-      groups = rw (o, at, h .code, h .number) (c .groups);
-      samples = rw (o, at, h .code, h .number, h .bytes) (d .0);
-      strings = (sheetStrings lineFeed (x .sheet), rw (o, s, l, at, h .block, h .area) (spelled high (x .sheet) (g .measures)));
-    }
+    let i = h .inside in (
+      record {
+        aligned = rw (o, at) w;
+        behind = rw (o, at) b;
+        mark = rw (o, at) (h .mark);
+        least = rw (o, at, h .block) (omega arith);
+        whole = rw (o, at, h .block) (omega arith);
+        data-whole = rw (o, at, h .bytes) (d .1);
+        inside = rw (o, at, h .block, h .bytes) (omega arith);
+        code = rw (o, at, h .code) (c .least, c .most);
+        groups = rw (o, at, h .code, h .number) (c .groups);
+        samples = rw (o, at, h .code, h .number, h .bytes) (d .0);
+        strings = (sheetStrings lineFeed (x .sheet), rw (o, s, l, at, h .block, h .area) (spelled high (x .sheet) (g .measures)));
+        channel = λ _. good-channel x g;
+      },
+      meant x (g .measures),
+    )
 
 -- ---- the file's strings
 ends-at : (c l t e : ℕ) → (c ≡ 0 → l ≡ e) → (0 < c → t ≡ e) → pick (eqb c 0) l t ≡ e
@@ -96,8 +112,8 @@ none-left [] h = refl
 none-left (x ∷ ts) h = absurd (omega arith)
 
 -- ---- the whole
-module _ (high : Bool) (slots : ℕ) (sheet : List ℕ) (ts : List Trace) (some : 1 ≤ slots) (few : slots ≤ slotsMost) (measures : Measures sheet)
-    (good : AllGood ts) (slotted : length ts ≤ slots) (most : fileSize slots sheet ts ≤ maximum) where
+module _ (high : Bool) (slots : ℕ) (sheet : List ℕ) (ts : List Trace) (few : slots ≤ slotsMost) (good : AllGood ts) (slotted : length ts ≤ slots)
+    (most : fileSize slots sheet ts ≤ maximum) where
   abbrev file : List ℕ
   file = fileOf high slots sheet ts
 
@@ -131,9 +147,23 @@ module _ (high : Bool) (slots : ℕ) (sheet : List ℕ) (ts : List Trace) (some 
       let t = here 0 e in
       rw (front .order) (t .pointer ∙ size-none slots sheet)))
 
-  pub file-keeps : (purpose : Purpose) → (length ts ≡ 0 → purpose ≡ Grow) → Keeps Strict purpose file
+  each-keeps : (k : ℕ) → k < length ts
+      → (t : KeepsTrace Strict file k) × (hasKey Strict (t .strings .0) channelNumber ≡ hasChannel (getD ts k emptyTrace))
+  each-keeps k l =
+      let t = here k l in
+      keeps-trace high file k (fileSize slots sheet (take k ts)) (getD ts k emptyTrace) (front .order) (front .strings) (front .lines) (t .pointer) (t .here)
+      (t .good) (file-whole slots sheet (take k ts)) (before k (omega arith))
+
+  -- so trace 0 has a channel number where the first of the list has
+  pub file-with : 0 < length ts → withOf Strict file ≡ hasChannel (getD ts 0 emptyTrace)
+  file-with some =
+      let t = each-keeps 0 some in
+      let i : dataAt (highFirst file) file (traceAt file 0) + dataSize (highFirst file) file (traceAt file 0) ≤ length file = t .0 .inside in
+      channel-spelled Strict file 0 (t .0 .strings .0) (t .0 .least) (omega arith) (t .0 .strings .1) .0 ∙ t .1
+
+  pub file-keeps : 1 ≤ slots → Measures sheet → (purpose : Purpose) → (length ts ≡ 0 → purpose ≡ Grow) → Keeps Strict purpose file
   unfolding apart all
-  file-keeps purpose none =
+  file-keeps some measures purpose none =
       let low = size-low slots sheet ts in
       record {
         file = record {
@@ -151,13 +181,17 @@ module _ (high : Bool) (slots : ℕ) (sheet : List ℕ) (ts : List Trace) (some 
             rw (strings-end, front .order, front .strings, front .lines, front .room, file-strings high slots sheet ts slotted) (spelled high sheet measures),
           );
         };
-        traces = λ k h.
-            (let l : k < length ts = rw (front .count) at h in
-            let t = here k l in
-            keeps-trace high file k (fileSize slots sheet (take k ts)) (getD ts k emptyTrace) (front .order) (front .strings) (front .lines)
-            (t .pointer) (t .here) (t .good)
-            (file-whole slots sheet (take k ts)) (before k (omega arith)));
+        traces = λ k h. each-keeps k (rw (front .count) at h) .0;
+        channels = λ _. together (good .1);
       }
+    where
+      told : (w : Bool) → EachHas w ts → (k : ℕ) (h : k < countOf file)
+          → hasKey Strict (each-keeps k (rw (front .count) at h) .0 .strings .0) channelNumber ≡ w
+      told w e k h = let l : k < length ts = rw (front .count) at h in each-keeps k l .1 ∙ has-nth w emptyTrace ts k e l
+
+      together : Together ts → AllOrNone (countOf file) (λ k h. hasKey Strict (each-keeps k (rw (front .count) at h) .0 .strings .0) channelNumber)
+      together (inl e) = all-or-none true (told true e)
+      together (inr e) = all-or-none false (told false e)
 
 -- and the check accepts it, in any buffer that holds it
 pub file-accepted : (purpose : Purpose) (high : Bool) (slots : ℕ) (sheet : List ℕ) (ts : List Trace) (xs : List ℕ) (n : ℕ)
@@ -165,5 +199,5 @@ pub file-accepted : (purpose : Purpose) (high : Bool) (slots : ℕ) (sheet : Lis
     → Measures sheet → n ≤ maximum → (length ts ≡ 0 → purpose ≡ Grow) → checkOf Strict purpose xs n ≡ Accepted
 file-accepted purpose high slots sheet ts xs n is some measures most none =
     let s = is .size in
-    let k = file-keeps high slots sheet ts some (is .few) measures (is .good) (is .slotted) (omega arith) purpose none in
+    let k = file-keeps high slots sheet ts (is .few) (is .good) (is .slotted) (omega arith) some measures purpose none in
     keeps-accepted Strict purpose xs n (is .fits) (rw (is .image) k)

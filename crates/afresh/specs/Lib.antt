@@ -1,9 +1,9 @@
 pub mod FileOf
 pub mod FileLaws
-pub mod Step
-pub mod Calls
 pub mod Stands
 pub mod Kept
+pub mod Step
+pub mod Calls
 pub mod Start
 pub mod Afresh
 pub mod Worked

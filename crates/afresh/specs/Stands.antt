@@ -18,8 +18,7 @@ use Rattle.layout.specs.Layout.{traceBytes}
 use Rattle.afresh.specs.FileOf.{sizes, pointers, blocks, fileOf, fileSize, Good, EachGood}
 use Rattle.layout.specs.LayoutLaws.{length-fileBlock, length-traceBytes, Stands, stands}
 use Rattle.afresh.specs.FileLaws.{length-pointers, length-blocks, length-file, pointers-append, blocks-append}
-use Rattle.afresh.specs.FileLaws.{size-append, size-more}
-use Rattle.afresh.specs.Step.{behind}
+use Rattle.afresh.specs.FileLaws.{size-append, size-more, behind}
 use Rattle.head.specs.Head.{maximum}
 
 -- a trace at the front of what is left of a file

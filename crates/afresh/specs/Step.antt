@@ -1,41 +1,45 @@
 -- A start gives the file of no traces; an addition to the file of a list gives the file of the list with that trace at
 -- its end (document 01, "What we write").
 -- Assumes nothing.
-use mathlib.Core.Path.{_≡_, sym, ap, ap₂, _∙_}
-use mathlib.Core.Bool.{Bool}
+use mathlib.Core.Path.{_≡_, refl, sym, ap, ap₂, _∙_}
+use mathlib.Core.Bool.{Bool, false}
 use mathlib.Core.List.{List, [], _∷_, _++_, append-assoc}
-use Prim.Native.Nat.{ℕ, _+_, _-_, _*_, _%_, _≤_, _<_}
+use mathlib.Core.Logic.{inl}
+use Prim.Native.Nat.{ℕ, suc, _+_, _-_, _*_, _%_, _≤_, _<_}
 use native.Mathlib.Omega.{arith}
-use lib.ListN.{length, take, drop, replicate, length-append, replicate-append-replicate}
+use lib.ListN.{length, getD, take, drop, replicate, length-append, replicate-append-replicate}
 use lib.Dec.{eqb}
+use borrow.Author.Tests.{ne-eqb}
+use Rattle.head.specs.declared.Purpose.the-variants.{Grow}
+use Rattle.text.specs.declared.Manner.the-variants.{Strict}
 use Rattle.word.specs.Put.{put, length-put, take-put, drop-put-after, put-among, take-put-end}
 use Rattle.word.specs.Round.{round4, round4-same}
 use Rattle.word.specs.Word.{bytesOf}
 use Rattle.word.specs.WordLaws.{length-bytesOf}
+use Rattle.sheet.specs.Lines.{sheetLines}
 use Rattle.sheet.specs.Area.{areaOf, areaSize}
+use Rattle.channel.specs.Count.{counted}
+use Rattle.channel.specs.Channel.{channelNumber}
+use Rattle.sheet_channel.specs.SheetChannel.{valueOfLine}
+use Rattle.sheet_channel.specs.Meant.{KeepsSheet, sheet-keeps}
 use Rattle.head.specs.Head.{roomOf, countOf}
 use Rattle.refusal.specs.declared.Written.the-variants.{To}
-use Rattle.layout.specs.Layout.{slotsMost, plainEnds, nul, lineFeed, fileBlock, startImage, startSize, Trace, traceSize}
+use Rattle.layout.specs.Layout.{plainEnds, nul, lineFeed, fileBlock, startImage, startSize, Trace, traceSize}
 use Rattle.layout.specs.Layout.{traceBytes}
 use Rattle.start.specs.Start.{startAnswer, startLeft}
 use Rattle.append.specs.Grown.{newLength, newBytes, grown}
-use Rattle.writer.specs.Answers.{addAnswer, addLeft}
-use Rattle.afresh.specs.FileOf.{sizes, pointers, blocks, fileOf, fileSize, Good, Together, AllGood}
+use Rattle.image.specs.Accepted.{withOf}
+use Rattle.writer.specs.Answers.{wrongChannel, addAnswer, addLeft}
+use Rattle.afresh.specs.FileOf.{sizes, pointers, blocks, fileOf, fileSize, hasChannel, Good, Together, Holds}
 use Rattle.layout.specs.LayoutLaws.{frontOf, length-front, around-count, length-fileBlock, length-startImage, Fronted}
 use Rattle.layout.specs.LayoutLaws.{length-traceBytes}
 use Rattle.start.specs.StartShown.{started, start-left}
-use Rattle.writer.specs.Shown.{Added, added, add-left}
+use Rattle.writer.specs.Shown.{placed, Added, added, add-left}
 use Rattle.afresh.specs.FileLaws.{file-whole, length-pointers, file-none, size-none, size-low, pointers-more}
-use Rattle.afresh.specs.FileLaws.{blocks-more, length-more, size-more, good-append, file-fronted}
-
--- the first n bytes of a buffer are the file of a list: what a call is given that goes on with it
-pub record Holds (high : Bool) (slots : ℕ) (sheet : List ℕ) (ts : List Trace) (xs : List ℕ) (n : ℕ) : Type 0 where
-  pub image : take n xs ≡ fileOf high slots sheet ts
-  pub size : n ≡ fileSize slots sheet ts
-  pub fits : n ≤ length xs
-  pub good : AllGood ts
-  pub slotted : length ts ≤ slots
-  pub few : slots ≤ slotsMost
+use Rattle.afresh.specs.FileLaws.{blocks-more, length-more, size-more, good-append, behind, file-fronted, has-append}
+use Rattle.afresh.specs.FileLaws.{together-first, first-together}
+use Rattle.afresh.specs.Stands.{emptyTrace}
+use Rattle.afresh.specs.Kept.{file-with}
 
 -- ---- the start
 
@@ -61,7 +65,7 @@ module _ (xs : List ℕ) (order slots : ℕ) (sheet : List ℕ) (e : ℕ) (to : 
         image = rw (start-left xs order slots sheet e to) ((rw k at i) ∙ sym (file-none (eqb order 1) slots sheet));
         size = sym (s .new) ∙ sym (size-none slots sheet);
         fits = omega (arith, start-past .1);
-        good = (tt, tt);
+        good = (tt, inl tt);
         slotted = omega arith;
         few = s .few;
       }
@@ -81,10 +85,6 @@ two-puts a c d e p q s r at h k l m =
     let around : (b : List ℕ) → (a ++ (b ++ e)) ++ w ≡ a ++ (b ++ (e ++ w)) =
     λ (b : List ℕ). append-assoc a (b ++ e) w ∙ ap (λ (z : List ℕ). a ++ z) (append-assoc b e w) in
     ap (λ (z : List ℕ). put z 6 d) (one ∙ around c) ∙ put-among a c d (e ++ w) 6 h k ∙ sym (around d)
-
--- more behind the last of five pieces
-pub behind : (h p z a b t : List ℕ) → (h ++ (p ++ (z ++ (a ++ b)))) ++ t ≡ h ++ (p ++ (z ++ (a ++ (b ++ t))))
-behind h p z a b t = simp append-assoc
 
 -- a free slot is the first of the free ones
 free-slot : (slots n : ℕ) → n < slots → _≡_ {A = List ℕ} (replicate (4 * (slots - n)) 0) (replicate 4 0 ++ replicate (4 * (slots - (n + 1))) 0)
@@ -149,14 +149,32 @@ module _ (high : Bool) (slots : ℕ) (sheet : List ℕ) (ts : List Trace) (xs : 
     shown : Added xs n x end
     shown = added xs n x end to
 
+    -- what row 35 let through: where there is a trace, a channel number as trace 0 has it
+    kept-channel : KeepsSheet (eqb (length ts) 0) (withOf Strict (fileOf high slots sheet ts)) (x .sheet)
+    unfolding wrongChannel
+    kept-channel =
+        let c = rw (is .image) at (shown .channel) in
+        sheet-keeps (eqb (length ts) 0) (withOf Strict (fileOf high slots sheet ts)) (x .sheet) (rw (front .count) at c)
+
     -- what it has in common with the traces before it
     together-new : Together (ts ++ (x ∷ []))
-    together-new = tt
+    together-new =
+        let most = placed Grow xs n (shown .accepted) .0 .1 in
+        go ts (is .good .1) (kept-channel .0)
+        (file-with high slots sheet ts (is .few) (is .good) (is .slotted) (omega (arith, is .size)))
+      where
+        go : (l : List Trace) → Together l → (eqb (length l) 0 ≡ false → hasChannel x ≡ withOf Strict (fileOf high slots sheet ts))
+            → (0 < length l → withOf Strict (fileOf high slots sheet ts) ≡ hasChannel (getD l 0 emptyTrace)) → Together (l ++ (x ∷ []))
+        go [] t h k = first-together (hasChannel x) (x ∷ []) (refl, tt)
+        go (y ∷ l) t h k =
+            first-together (hasChannel y) ((y ∷ l) ++ (x ∷ []))
+            (has-append (hasChannel y) (y ∷ l) (x ∷ []) (together-first y l t) (h (ne-eqb (suc (length l)) 0 (omega arith)) ∙ k (omega arith), tt))
 
     good-new : Good x
     good-new =
         record {
           measures = (areaSize nul lineFeed (x .sheet), rw (is .image, front .strings, front .lines) at (shown .sized));
+          channel = λ has. (_, counted (valueOfLine (sheetLines (x .sheet)) channelNumber) _ (kept-channel .1 has) refl);
           kind = shown .kind;
           held = shown .held;
         }

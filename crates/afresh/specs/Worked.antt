@@ -2,13 +2,15 @@
 -- samples 1, -1, 256 and sheet STACK 1: pointer 56, B 44, D 8, length 108", byte for byte. So the file that a list
 -- defines is the one that the document shows, and there are good traces.
 -- Assumes nothing.
-use mathlib.Core.Path.{_≡_, refl}
+use mathlib.Core.Path.{_≡_, refl, sym, _∙_}
 use mathlib.Core.Bool.{false}
 use mathlib.Core.List.{List, [], _∷_, _++_}
+use mathlib.Core.Logic.{inr}
 use Prim.Native.Nat.{ℕ, _≤_}
 use native.Mathlib.Omega.{arith}
 use lib.IntN.{pos, negsuc}
 use lib.ListN.{length, replicate}
+use Rattle.word.specs.Tests.{never}
 use Rattle.word.specs.Word.{lowBytes, bytesOf}
 use Rattle.chars.specs.Runs.{run, all, same}
 use Rattle.text.specs.Order.{rises-first}
@@ -19,9 +21,10 @@ use Rattle.encode.specs.Write.{flat, residue, fixedBytes, filledUp, integersDat
 use Rattle.sheet.specs.Lines.{lineLen, lineKeyLen, continues, lineJudged, lineStep, checkFrom, linesVerdict}
 use Rattle.sheet.specs.Lines.{sheetLinesFrom, sheetLines}
 use Rattle.sheet.specs.Area.{joined, sheetStrings, textSize, areaOf, areaSize, measuredOf}
+use Rattle.sheet_channel.specs.SheetChannel.{hasLine}
 use Rattle.layout.specs.Layout.{nul, lineFeed, fileBlock, startSize, Trace, Samples.integers, count, fitting, unfit}
 use Rattle.layout.specs.Layout.{samplesData, traceBlock, blockBytes, dataBytes, traceBytes}
-use Rattle.afresh.specs.FileOf.{sizes, pointers, blocks, fileOf, fileSize, Measures, AllGood}
+use Rattle.afresh.specs.FileOf.{sizes, pointers, blocks, fileOf, fileSize, Measures, hasChannel, AllGood}
 use Rattle.afresh.specs.Afresh.{Writable}
 
 -- UNITS, tab, METERS, 0Ah
@@ -51,6 +54,11 @@ unfolding fileOf fileBlock pointers blocks traceBytes traceBlock samplesData int
     texts startSize areaSize sheetStrings sheetLines sheetLinesFrom lineLen lineKeyLen run joined same textSize room needed count
 worked-bytes = refl
 
+-- it has no channel number
+pub shot-without : hasChannel shot ≡ false
+unfolding hasLine sheetLines sheetLinesFrom lineLen lineKeyLen run same
+shot-without = refl
+
 -- its sheets and its samples are let through
 pub worked-good : Measures units × AllGood (shot ∷ [])
 unfolding measuredOf linesVerdict checkFrom lineStep lineJudged continues all areaSize sheetStrings sheetLines sheetLinesFrom lineLen lineKeyLen run
@@ -58,7 +66,7 @@ unfolding measuredOf linesVerdict checkFrom lineStep lineJudged continues all ar
 worked-good =
     let u = rises-first (85 ∷ 78 ∷ 73 ∷ 84 ∷ 83 ∷ []) (omega arith) in
     let s = rises-first (83 ∷ 84 ∷ 65 ∷ 67 ∷ 75 ∷ []) (omega arith) in
-    ((20, rw u), ((record { measures = (12, rw s); kind = refl; held = refl }, tt), tt))
+    ((20, rw u), ((record { measures = (12, rw s); channel = λ e. absurd (never (sym shot-without ∙ e)); kind = refl; held = refl }, tt), inr (shot-without, tt)))
 
 -- so it is written, and no call refused, into every buffer of 108 bytes or more (`written-afresh`, `none-refused`)
 pub worked-writable : (xs : List ℕ) → 108 ≤ length xs → Writable xs 0 1 units (shot ∷ [])

@@ -5,6 +5,7 @@
 -- Assumes nothing.
 use mathlib.Core.Path.{_≡_, refl, sym, ap, _∙_}
 use mathlib.Core.List.{List, [], _∷_}
+use mathlib.Core.Logic.{inr}
 use Prim.Native.Nat.{ℕ, _+_, _*_, _≤_, _<_}
 use native.Mathlib.Omega.{arith}
 use lib.ListN.{length, getD, take}
@@ -43,7 +44,7 @@ use Rattle.afresh.specs.Stands.{emptyTrace, file-traces}
 use Rattle.afresh.specs.FileLaws.{file-fronted}
 use Rattle.afresh.specs.Afresh.{lengths, start-accepted, none-refused, written-afresh, afresh-accepted}
 use Rattle.afresh.specs.Afresh.{accepted-writable}
-use Rattle.afresh.specs.Worked.{units, shot, worked-sizes, worked-good, worked-writable}
+use Rattle.afresh.specs.Worked.{units, shot, worked-sizes, worked-good, worked-writable, shot-without}
 use Rattle.demands.specs.ListReads.{list-file-block}
 use Rattle.demands.specs.GoodLists.{GoodList, writable-is-good, good-is-writable}
 
@@ -84,7 +85,7 @@ two-good xs h =
       some = omega arith;
       few = omega arith;
       measures = worked-good .0;
-      good = ((worked-good .1 .0 .0, (worked-good .1 .0 .0, tt)), tt);
+      good = ((worked-good .1 .0 .0, (worked-good .1 .0 .0, tt)), inr (shot-without, (shot-without, tt)));
       slotted = omega arith;
       fits = omega arith;
       most = omega arith;

@@ -1,17 +1,18 @@
 -- Demand 1, the check. "every call ends with an answer for all bytes and all numbers given to it; input that meets rows
 -- of the refusal table gets the first of them in its order, with its place": rows 1 to 17 of an image, in document 01's
 -- order ("1 to 7 first, then the first pointer, then the file's strings, then each trace 8 to 17. Strings are taken one
--- by one, 14 to 17 each"), are one list, and the check answers the first of it that is met.
+-- by one, 14 to 17 each"), with 34 "after 17 within each trace" (document 02 §7), are one list, and the check answers the
+-- first of it that is met.
 -- Assumes nothing.
 use mathlib.Core.Path.{_≡_, refl, sym, ap, ap₂, _∙_}
-use mathlib.Core.Bool.{Bool, true, false, not}
+use mathlib.Core.Bool.{Bool, true, false, not, _&&_}
 use mathlib.Core.List.{List, [], _∷_, _++_}
 use Prim.Native.Nat.{ℕ, zero, suc, _+_, _*_}
 use lib.ListN.{length, take, drop}
 use lib.IntN.{ℤ, pos, negsuc}
 use lib.Dec.{eqb}
 use Rattle.word.specs.Part.{part}
-use Rattle.refusal.specs.declared.Rule.the-variants.{Length, Pointer, StringOffset}
+use Rattle.refusal.specs.declared.Rule.the-variants.{Length, Pointer, StringOffset, ChannelNumber}
 use Rattle.refusal.specs.declared.Part.{Part}
 use Rattle.refusal.specs.declared.Part.the-variants.{File, Trace}
 use Rattle.refusal.specs.declared.Verdict.{Verdict}
@@ -22,20 +23,21 @@ use Rattle.refusal.specs.Verdicts.{andThen}
 use Rattle.refusal.specs.FirstRow.{row, firstOf, first-nothing, first-one, first-row, first-more, flat, first-flat}
 use Rattle.refusal.specs.FirstRow.{rowsAt, rule-first, each, Refuses, first-each}
 use Rattle.text.specs.declared.Manner.{Manner}
-use Rattle.text.specs.Manner.{openEnd}
+use Rattle.text.specs.Manner.{openEnd, asksChannels}
 use Rattle.strings.specs.declared.Frame.{Frame}
 use Rattle.strings.specs.declared.Frame.the-variants.{End, Broken, Text}
 use Rattle.strings.specs.declared.Judged.{Judged}
 use Rattle.strings.specs.declared.Judged.the-variants.{Keyword, Wrong}
 use Rattle.strings.specs.Strings.{offset, body, keyLen, frameRows, endOrText, frameOf, textRows, judgedOf, onJudged}
-use Rattle.strings.specs.Strings.{onFrame, stepOf, onStep, stringsFrom, stringsOf}
+use Rattle.strings.specs.Strings.{onFrame, stepOf, onStep, stringsFrom, stringsOf, found, valueFound}
 use Rattle.head.specs.declared.Purpose.{Purpose}
 use Rattle.head.specs.Head.{highFirst, roomOf, countOf, headRows, headOf}
 use Rattle.terminators.specs.Terminators.{stringEnd, lineEnd}
 use Rattle.block.specs.Block.{pointerOf, blockSize, endAt, badPointer, pointerRow, blockRows, blockOf}
 use Rattle.block.specs.BlockLaws.{headAt}
-use Rattle.image.specs.Image.{areaVerdict, traceChecks, traceOf, tracesFrom, filledChecks, restOf, imageOf, badLength}
-use Rattle.image.specs.Image.{checkOf}
+use Rattle.image.specs.Image.{areaVerdict, channelAt, withChannel, traceChecks, traceOf, tracesFrom, filledChecks, restOf}
+use Rattle.image.specs.Image.{imageOf, badLength, checkOf}
+use Rattle.channel.specs.Channel.{badChannel}
 
 -- ---- the strings of an area, from one at the place `at` on: 14 and 15 (`frameRows` of `strings`), 16 and 17
 -- (`textRows`), and then the next string's.
@@ -102,9 +104,15 @@ area-first how high t u f p a e =
     pick-first (eqb (length (part a e f)) 0) (stringsFrom how (length (part a e f)) high t u p [] (part a e f) a)
     (stringRows how (length (part a e f)) high t u p [] (part a e f) a) (strings-first how (length (part a e f)) high t u p [] (part a e f) a)
 
--- ---- a trace k behind what ends at prev: 8 at its slot, then 9 to 13 (`blockRows` of `block`), then its strings
+-- ---- a trace k behind what ends at prev: 8 at its slot, then 9 to 13 (`blockRows` of `block`), then its strings, then
+-- 34 at p+32 (document 02 §7): `badChannel` of `channel`, for its string CHANNEL_NUMBER and whether trace 0 has one
 abbrev pub pointerTest : ℕ → ℕ → ℕ → ℕ → Verdict
 pointerTest end k prev p = row (badPointer end prev p) Pointer (Trace k) (32 + 4 * k)
+
+abbrev pub channelTest : Manner → Bool → List ℕ → List ℕ → ℕ → ℕ → Verdict
+channelTest how high t f k p =
+    let s = channelAt how high t f p in
+    row (asksChannels how && badChannel (withChannel how high t f) (found s) (valueFound f s)) ChannelNumber (Trace k) (p + 32)
 
 abbrev pub oneTraceRows : Manner → Bool → List ℕ → List ℕ → List ℕ → ℕ → ℕ → List (List Verdict)
 oneTraceRows how high t u f k prev =
@@ -112,6 +120,7 @@ oneTraceRows how high t u f k prev =
     (pointerTest (length f) k prev p ∷ [])
     ∷ each (blockRows high (headAt f p) (length f) k p)
     ∷ areaRows how high t u f (Trace k) (p + 32) (p + blockSize high f p)
+    ∷ (channelTest how high t f k p ∷ [])
     ∷ []
 
 -- the traces, so many of them from k on
@@ -133,7 +142,10 @@ trace-first how high t u f k prev =
     let p : ℕ = pointerOf high f k in
     first-flat (traceChecks how high t u f k prev) (oneTraceRows how high t u f k prev) (
       first-one (pointerTest (length f) k prev p),
-      (block-first high (headAt f p) (length f) k p, (area-first how high t u f (Trace k) (p + 32) (p + blockSize high f p), tt)),
+      (
+        block-first high (headAt f p) (length f) k p,
+        (area-first how high t u f (Trace k) (p + 32) (p + blockSize high f p), (first-one (channelTest how high t f k p), tt)),
+      ),
     )
 
 traces-first : (how : Manner) (high : Bool) (t u f : List ℕ) (left k prev : ℕ)

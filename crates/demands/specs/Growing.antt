@@ -46,8 +46,8 @@ use Rattle.growth.specs.Kept.{count-grown}
 use Rattle.growth.specs.StillKeeps.{grown-accepted}
 use Rattle.growth.specs.StillRead as still
 use Rattle.growth.specs.AllBytes.{grown-are-bytes, start-are-bytes}
-use Rattle.afresh.specs.FileOf.{fileOf, fileSize, AllGood}
-use Rattle.afresh.specs.Step.{Holds, start-afresh, add-afresh}
+use Rattle.afresh.specs.FileOf.{fileOf, fileSize, AllGood, Holds}
+use Rattle.afresh.specs.Step.{start-afresh, add-afresh}
 use Rattle.afresh.specs.Calls.{after, answersOf, acceptedOf, after-to, after-refused, after-accepted, start-grows}
 use Rattle.afresh.specs.Calls.{calls-afresh}
 use Rattle.afresh.specs.Afresh.{lengths, none-refused, image-afresh, accepted-writable}

@@ -17,3 +17,4 @@ pub mod Notes
 pub mod Ignored
 pub mod Repeats
 pub mod Decimals
+pub mod Channels

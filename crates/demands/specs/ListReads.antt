@@ -25,9 +25,8 @@ use Rattle.reader.specs.Listed.{file-area}
 use Rattle.layout.specs.Layout.{slotsMost, nul, lineFeed, Trace}
 use Rattle.growth.specs.Answered.{AnswersBy, answered}
 use Rattle.growth.specs.TraceReads.{Standing, ReadsAs, reads-as}
-use Rattle.afresh.specs.FileOf.{fileOf, fileSize, Measures, EachGood}
+use Rattle.afresh.specs.FileOf.{fileOf, fileSize, Measures, EachGood, Holds}
 use Rattle.afresh.specs.FileLaws.{size-none, file-fronted}
-use Rattle.afresh.specs.Step.{Holds}
 use Rattle.afresh.specs.Stands.{emptyTrace, file-traces}
 use Rattle.afresh.specs.Kept.{feed-ends, file-strings, file-accepted}
 

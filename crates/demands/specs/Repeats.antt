@@ -10,6 +10,7 @@ use Prim.Native.Nat.{ℕ, _≤_, _<_}
 use native.Mathlib.Omega.{arith}
 use lib.IntN.{ℤ, pos}
 use lib.ListN.{length, take}
+use Rattle.word.specs.Tests.{never}
 use Rattle.text.specs.declared.Manner.the-variants.{Strict}
 use Rattle.chars.specs.Chars.{keyChar, note}
 use Rattle.chars.specs.Runs.{run, all, same}
@@ -27,6 +28,8 @@ use Rattle.sheet.specs.Lines.{Line, plain, spaced, lineLen, lineKeyLen, sheetLi
 use Rattle.sheet.specs.Area.{areaMost, joined, sheetStrings, textSize, areaSize, areaOf, measuredOf}
 use Rattle.sheet.specs.Sizes.{length-area}
 use Rattle.sheet.specs.Paper.{sheetOf, GoodLines, lines-read}
+use Rattle.channel.specs.Channel.{channelNumber}
+use Rattle.sheet_channel.specs.SheetChannel.{hasLine}
 use Rattle.area.specs.Meaning.{strsOf}
 use Rattle.reader.specs.declared.KeywordAnswer.the-variants.{Yes}
 use Rattle.reader.specs.Questions.{yesOrNo, valueThere, nthAnswer, findAnswer, keywordAnswer, valueAnswer, numberAnswer}
@@ -36,7 +39,7 @@ use Rattle.refusal.specs.declared.Written.the-variants.{To}
 use Rattle.layout.specs.Layout.{nul, lineFeed, startSize, Trace, count, traceSize}
 use Rattle.start.specs.Start.{startAnswer, startLeft}
 use Rattle.growth.specs.Answered.{AnswersBy}
-use Rattle.afresh.specs.FileOf.{sizes, fileOf, fileSize}
+use Rattle.afresh.specs.FileOf.{sizes, fileOf, fileSize, hasChannel}
 use Rattle.afresh.specs.Calls.{answersOf}
 use Rattle.afresh.specs.Afresh.{Writable, lengths, start-accepted, none-refused, written-afresh}
 use Rattle.afresh.specs.Worked.{units, shot, worked-sizes, worked-good}
@@ -154,6 +157,12 @@ each-good : Each GoodValue positions
 unfolding all
 each-good = ((refl, refl), ((refl, refl), ((refl, refl), ((refl, refl), ((refl, refl), ((refl, refl), tt))))))
 
+none-numbered : hasChannel group ≡ false
+unfolding hasLine same
+none-numbered =
+    let ls = good-lines receiverGeometry (inl refl) [] positions (rises-first receiverGeometry (omega arith)) each-good in
+    ap (λ (ms : List Line). hasLine ms channelNumber) (lines-read [] phones ls)
+
 can-be-written : (xs : List ℕ) → 236 ≤ length xs → Writable xs 0 1 units (group ∷ [])
 can-be-written xs h =
     let s = worked-good .1 .0 .0 in
@@ -163,7 +172,10 @@ can-be-written xs h =
       some = omega arith;
       few = omega arith;
       measures = worked-good .0;
-      good = ((record { measures = (_, m); kind = s .kind; held = s .held }, tt), tt);
+      good = (
+        (record { measures = (_, m); channel = λ e. absurd (never (sym none-numbered ∙ e)); kind = s .kind; held = s .held }, tt),
+        inr (none-numbered, tt),
+      );
       slotted = omega arith;
       fits = omega (arith, sized .2);
       most = omega (arith, sized .2);

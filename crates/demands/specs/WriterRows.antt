@@ -1,6 +1,7 @@
 -- Demand 1, the writers: "Starting: 31 .., 25, 26, 27, 30. Adding: 1 to 17, then 24 .., 25 bad sheet line, 26 sheet
--- order (place: the line's start; line by line, 25 first), 27 .., 28 .., 29 .. (first index), 30 .." (document 01),
--- each as one list of rows, and the answer is the first of it that is met, or else the length that the layout has.
+-- order (place: the line's start; line by line, 25 first), 27 .., 28 .., 29 .. (first index), 30 .." (document 01), with
+-- 35 "after 27" (document 02 §7), each as one list of rows, and the answer is the first of it that is met, or else the
+-- length that the layout has.
 -- Assumes nothing.
 use mathlib.Core.Path.{_≡_, refl, sym, ap, _∙_}
 use mathlib.Core.Bool.{Bool, true, false, not, cond, _||_}
@@ -11,7 +12,7 @@ use lib.Dec.{ltb, leb, eqb}
 use Rattle.head.specs.declared.Purpose.the-variants.{Grow}
 use Rattle.refusal.specs.Verdicts.{asked, andThen}
 use Rattle.refusal.specs.declared.Rule.the-variants.{NoSlot, SheetLine, AreaSize, EntryCode, SampleRange, NoRoom}
-use Rattle.refusal.specs.declared.Rule.the-variants.{StartValues}
+use Rattle.refusal.specs.declared.Rule.the-variants.{StartValues, SheetChannel}
 use Rattle.refusal.specs.declared.Part.the-variants.{File}
 use Rattle.refusal.specs.declared.Verdict.{Verdict}
 use Rattle.refusal.specs.declared.Verdict.the-variants.{Accepted, Refused}
@@ -22,6 +23,7 @@ use Rattle.fit.specs.Unfit.{firstFrom, unfitInteger, unfitPattern, unfitInteger
 use Rattle.strings.specs.declared.Judged.{Judged}
 use Rattle.strings.specs.declared.Judged.the-variants.{Keyword, Wrong}
 use Rattle.sheet.specs.declared.Step.the-variants.{Bad}
+use Rattle.sheet.specs.declared.Measured.{Measured}
 use Rattle.sheet.specs.declared.Measured.the-variants as measured
 use Rattle.sheet.specs.Lines.{lineLen, lineOf, lineKeyLen, lineRows, lineJudged, onLineJudged, lineStep, onLineStep}
 use Rattle.sheet.specs.Lines.{checkFrom, linesVerdict}
@@ -34,7 +36,7 @@ use Rattle.layout.specs.Layout.{nul, lineFeed, startSize, Trace, Samples, Sampl
 use Rattle.layout.specs.Layout.{unfit}
 use Rattle.start.specs.Start.{onMeasured, badStart, startAnswer}
 use Rattle.append.specs.Grown.{newLength}
-use Rattle.writer.specs.Answers.{noSlot, areaAnswer, onFit, samplesVerdict, addAnswer}
+use Rattle.writer.specs.Answers.{noSlot, wrongChannel, withRow, takenOf, areaAnswer, onFit, samplesVerdict, addAnswer}
 use Rattle.refusal.specs.FirstRow.{row, firstOf, first-nothing, first-row, first-more, rowsAt, rule-first, asked-more}
 use Rattle.refusal.specs.FirstRow.{asked-row, asked-none}
 use Rattle.demands.specs.FileRows.{pick-first, checkRows, check-answers-first}
@@ -152,11 +154,12 @@ addRows xs n x =
     checkRows Strict Grow xs n
     ++ (row (noSlot (roomOf f) (countOf f)) NoSlot File 0
     ∷ (sheetRows (stringEnd f) (lineEnd f) (x .sheet)
-    ++ (row (not (fitting (x .code) (x .samples))) EntryCode File 0
+    ++ (row (wrongChannel f (x .sheet)) SheetChannel File 0
+    ∷ row (not (fitting (x .code) (x .samples))) EntryCode File 0
     ∷ (unfitRows (x .code) (x .samples) ++ (row (ltb (length xs) end || ltb maximum end) NoRoom File 0 ∷ [])))))
 
 -- the steps of the definition, one behind the other
-steps : (c : Verdict) (s : Bool) (m : Rattle.sheet.specs.declared.Measured.Measured) (k : Bool) (f : Verdict) (w more : Written)
+steps : (c : Verdict) (s : Bool) (m : Measured) (k : Bool) (f : Verdict) (w more : Written)
     → onMeasured m (pick k (written.Refused (refusal EntryCode File 0)) (asked written.Refused f w)) ≡ more
     → onMeasured (asked measured.Refused c (pick s (measured.Refused (refusal NoSlot File 0)) m))
     (asked written.Refused (pick k (Refused (refusal EntryCode File 0)) f) w)
@@ -168,11 +171,18 @@ steps Accepted false (measured.Size b) true f w more h = h
 steps Accepted false (measured.Size b) false Accepted w more h = h
 steps Accepted false (measured.Size b) false (Refused r) w more h = h
 
+-- 35 behind the sheet's own rows
+channel-first : (w : Bool) (m : Measured) (more : Written)
+    → onMeasured (withRow w m) more ≡ onMeasured m (pick w (written.Refused (refusal SheetChannel File 0)) more)
+channel-first true (measured.Size b) more = refl
+channel-first false (measured.Size b) more = refl
+channel-first w (measured.Refused r) more = refl
+
 -- Rules out an addition that skips a row, takes them in another order, refuses what no row refuses, or answers another
 -- length.
 pub addition-answers-first : (xs : List ℕ) (n : ℕ) (x : Trace)
     → addAnswer xs n x ≡ asked written.Refused (firstOf (addRows xs n x)) (written.To (newLength (take n xs) n x))
-unfolding addAnswer areaAnswer samplesVerdict
+unfolding addAnswer areaAnswer takenOf samplesVerdict
 addition-answers-first xs n x =
     let f : List ℕ = take n xs in
     let end : ℕ = newLength f n x in
@@ -181,22 +191,27 @@ addition-answers-first xs n x =
     let last : List Verdict = row full NoRoom File 0 ∷ [] in
     let us : List Verdict = unfitRows (x .code) (x .samples) in
     let kind : Bool = not (fitting (x .code) (x .samples)) in
+    let wrong : Bool = wrongChannel f (x .sheet) in
     let ss : List Verdict = sheetRows (stringEnd f) (lineEnd f) (x .sheet) in
     let slot : Bool = noSlot (roomOf f) (countOf f) in
+    let behind : List Verdict = row kind EntryCode File 0 ∷ (us ++ last) in
     let within : Written = pick full (written.Refused (refusal NoRoom File 0)) new in
-    let tail : asked written.Refused (firstOf (ss ++ (row kind EntryCode File 0 ∷ (us ++ last)))) new
-    ≡ onMeasured (measuredOf (stringEnd f) (lineEnd f) (x .sheet))
-    (pick kind (written.Refused (refusal EntryCode File 0)) (asked written.Refused (firstOf us) within)) =
-    asked-more written.Refused ss (row kind EntryCode File 0 ∷ (us ++ last)) new
-    ∙ ap (asked written.Refused (firstOf ss))
-    (asked-row written.Refused kind EntryCode File 0 (us ++ last) new
+    let ends : Written = pick kind (written.Refused (refusal EntryCode File 0)) (asked written.Refused (firstOf us) within) in
+    let fits : asked written.Refused (firstOf behind) new ≡ ends =
+    asked-row written.Refused kind EntryCode File 0 (us ++ last) new
     ∙ ap (λ (v : Written). pick kind (written.Refused (refusal EntryCode File 0)) v)
-    (asked-more written.Refused us last new ∙ ap (asked written.Refused (firstOf us)) (sym (room-first full end))))
-    ∙ sym (sheet-first (stringEnd f) (lineEnd f) (x .sheet) (pick kind (written.Refused (refusal EntryCode File 0))
-    (asked written.Refused (firstOf us) within))) in
+    (asked-more written.Refused us last new ∙ ap (asked written.Refused (firstOf us)) (sym (room-first full end))) in
+    let tail : asked written.Refused (firstOf (ss ++ (row wrong SheetChannel File 0 ∷ behind))) new
+    ≡ onMeasured (withRow wrong (measuredOf (stringEnd f) (lineEnd f) (x .sheet))) ends =
+    asked-more written.Refused ss (row wrong SheetChannel File 0 ∷ behind) new
+    ∙ ap (asked written.Refused (firstOf ss))
+    (asked-row written.Refused wrong SheetChannel File 0 behind new
+    ∙ ap (λ (v : Written). pick wrong (written.Refused (refusal SheetChannel File 0)) v) fits)
+    ∙ sym (sheet-first (stringEnd f) (lineEnd f) (x .sheet) (pick wrong (written.Refused (refusal SheetChannel File 0)) ends))
+    ∙ sym (channel-first wrong (measuredOf (stringEnd f) (lineEnd f) (x .sheet)) ends) in
     rw (check-answers-first Strict Grow xs n, unfit-first (x .code) (x .samples))
-    (steps (firstOf (checkRows Strict Grow xs n)) slot (measuredOf (stringEnd f) (lineEnd f) (x .sheet)) kind (firstOf us) within _ (sym tail)
+    (steps (firstOf (checkRows Strict Grow xs n)) slot (withRow wrong (measuredOf (stringEnd f) (lineEnd f) (x .sheet))) kind (firstOf us) within _ (sym tail)
     ∙ sym
-    (asked-more written.Refused (checkRows Strict Grow xs n) (row slot NoSlot File 0 ∷ (ss ++ (row kind EntryCode File 0 ∷ (us ++ last)))) new
+    (asked-more written.Refused (checkRows Strict Grow xs n) (row slot NoSlot File 0 ∷ (ss ++ (row wrong SheetChannel File 0 ∷ behind))) new
     ∙ ap (asked written.Refused (firstOf (checkRows Strict Grow xs n)))
-    (asked-row written.Refused slot NoSlot File 0 (ss ++ (row kind EntryCode File 0 ∷ (us ++ last))) new)))
+    (asked-row written.Refused slot NoSlot File 0 (ss ++ (row wrong SheetChannel File 0 ∷ behind)) new)))

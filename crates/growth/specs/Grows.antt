@@ -4,7 +4,7 @@
 -- trace's D bytes end"). An accepted addition makes such an image.
 -- Assumes nothing.
 use mathlib.Core.Path.{_≡_, refl, sym, ap, _∙_}
-use mathlib.Core.Bool.{true}
+use mathlib.Core.Bool.{true, false}
 use mathlib.Core.List.{List, [], _++_}
 use Prim.Native.Nat.{ℕ, _+_, _-_, _*_, _≤_}
 use native.Mathlib.Omega.{arith}
@@ -26,6 +26,7 @@ use Rattle.image.specs.Keeps.{Keeps}
 use Rattle.image.specs.Accepted.{accepted-keeps}
 use Rattle.layout.specs.Layout.{Trace, fitting, unfit, traceSize, traceBytes}
 use Rattle.append.specs.Grown.{newBytes, newLength, grown}
+use Rattle.writer.specs.Answers.{wrongChannel}
 use Rattle.writer.specs.Shown.{Added}
 use Rattle.growth.specs.Frame.{lies, length-grown, grown-front, grown-middle, grown-rest, grown-new, grown-count}
 use Rattle.growth.specs.Frame.{grown-pointer}
@@ -35,6 +36,7 @@ pub record Grows (f g : List ℕ) (x : Trace) : Type 0 where
   pub old : Keeps Strict Grow f
   pub slot : 4 * countOf f + 4 ≤ roomOf f
   pub sized : measuredOf (stringEnd f) (lineEnd f) (x .sheet) ≡ Size (areaSize (stringEnd f) (lineEnd f) (x .sheet))
+  pub channel : wrongChannel f (x .sheet) ≡ false
   pub kind : fitting (x .code) (x .samples) ≡ true
   pub held : unfit (x .code) (x .samples) ≡ All
   -- the old bytes but N's two and the four of slot N
@@ -90,6 +92,7 @@ grown-grows {xs} {n} {x} {end} by h =
       old = accepted-keeps Strict Grow xs n by (h .accepted) .1;
       slot = h .slot;
       sized = h .sized;
+      channel = h .channel;
       kind = h .kind;
       held = h .held;
       front = λ a e k. part-take end a e y (omega (arith, l .some)) ∙ grown-front h a e k ∙ sym (part-take n a e xs (omega (arith, l .some)));

@@ -1,7 +1,7 @@
 -- The grown image is a file: it keeps all rules, with a trace or without one before it, so the reader and the next
 -- addition accept it.
 -- Assumes nothing.
-use mathlib.Core.Path.{_≡_, refl, ap, ap₂, _∙_}
+use mathlib.Core.Path.{_≡_, refl, sym, ap, ap₂, _∙_}
 use mathlib.Core.Bool.{Bool, false}
 use mathlib.Core.List.{List, [], _∷_, _++_, append-assoc}
 use Prim.Native.Nat.{ℕ, zero, suc, _+_, _-_, _%_, _≤_, _<_}
@@ -22,18 +22,24 @@ use Rattle.word.specs.Word.{bytesOf}
 use Rattle.refusal.specs.Rows.{pick}
 use Rattle.refusal.specs.declared.Verdict.the-variants.{Accepted}
 use Rattle.strings.specs.Spelled.{Str, textOf, sizeOf, texts, markedEnd, Spells, Spells.empty, Ends.mark, Ends.none}
-use Rattle.strings.specs.Spelled.{Spells.full}
+use Rattle.strings.specs.Spelled.{Spells.full, hasKey}
+use Rattle.channel.specs.Count.{countIn, counted}
+use Rattle.channel.specs.Channel.{channelNumber}
 use Rattle.sheet.specs.Area as area
 use Rattle.sheet.specs.Area.{areaSize}
-use Rattle.area.specs.Spelling.{area-bounds, area-spells}
+use Rattle.sheet.specs.Lines.{linesVerdict, sheetLines}
+use Rattle.sheet_channel.specs.SheetChannel.{hasLine, valueOfLine}
+use Rattle.sheet_channel.specs.Meant.{has-meant, value-meant, KeepsSheet, sheet-keeps}
+use Rattle.area.specs.Spelling.{measured-size, area-bounds, area-spells}
 use Rattle.head.specs.Head.{highFirst, roomOf, countOf}
 use Rattle.terminators.specs.Terminators.{stringEnd, lineEnd}
 use Rattle.block.specs.Block.{dataSize, dataAt, endAt}
 use Rattle.image.specs.Image.{checkOf}
-use Rattle.image.specs.Keeps.{traceAt, endBefore, stringsEnd, KeepsTrace, Keeps}
-use Rattle.image.specs.Accepted.{keeps-accepted, kept-ends}
+use Rattle.image.specs.Keeps.{traceAt, endBefore, stringsEnd, GoodChannel, KeepsTrace, Keeps}
+use Rattle.image.specs.Accepted.{withOf, channel-spelled, all-or-none, as-first, keeps-accepted, kept-ends}
 use Rattle.layout.specs.Layout.{Trace, count}
 use Rattle.append.specs.Grown.{grown}
+use Rattle.writer.specs.Answers.{wrongChannel}
 use Rattle.writer.specs.Shown.{Added}
 use Rattle.growth.specs.Frame.{length-grown}
 use Rattle.growth.specs.Grows.{Grows, grown-grows}
@@ -134,24 +140,31 @@ module _ {f g : List ℕ} {x : Trace} (w : Grows f g x) where
   ends-inside zero l = w .old .file .room .2
   ends-inside (suc k) l = w .old .traces k (omega arith) .inside
 
-  old-keeps : (k : ℕ) → k < countOf f → KeepsTrace Strict g k
+  -- a trace that keeps the rules, with these strings
+  abbrev With : ℕ → List Str → Type 0
+  With k ss = (t : KeepsTrace Strict g k) × (t .strings .0 ≡ ss)
+
+  old-keeps : (k : ℕ) (l : k < countOf f) → With k (w .old .traces k l .strings .0)
   old-keeps k l =
       let t = w .old .traces k l in
       let s = trace-kept w k l in
-      let inside : dataAt (highFirst f) f (traceAt f k) + dataSize (highFirst f) f (traceAt f k) ≤ length f = t .inside in
-      record {
-        aligned = rw (s .at) (t .aligned);
-        behind = rw (ends-kept k (omega arith), s .at) (t .behind);
-        mark = s .mark ∙ t .mark;
-        least = rw (s .block) (t .least);
-        whole = rw (s .block) (t .whole);
-        data-whole = rw (s .size) (t .data-whole);
-        inside = rw (s .begins, s .size) (omega (arith, longer w));
-        code = rw (s .code) (t .code);
-        groups = rw (s .code, s .count) (t .groups);
-        samples = rw (s .code, s .count, s .size) (t .samples);
-        strings = (t .strings .0, trace-spelled-kept k l (t .strings .1));
-      }
+      let inside : dataAt (highFirst f) f (traceAt f k) + dataSize (highFirst f) f (traceAt f k) ≤ length f = t .inside in (
+        record {
+          aligned = rw (s .at) (t .aligned);
+          behind = rw (ends-kept k (omega arith), s .at) (t .behind);
+          mark = s .mark ∙ t .mark;
+          least = rw (s .block) (t .least);
+          whole = rw (s .block) (t .whole);
+          data-whole = rw (s .size) (t .data-whole);
+          inside = rw (s .begins, s .size) (omega (arith, longer w));
+          code = rw (s .code) (t .code);
+          groups = rw (s .code, s .count) (t .groups);
+          samples = rw (s .code, s .count, s .size) (t .samples);
+          strings = (t .strings .0, trace-spelled-kept k l (t .strings .1));
+          channel = t .channel;
+        },
+        refl,
+      )
 
   -- the new one's area spells the strings that its sheet means
   pub new-spelled : Spells Strict (highFirst g) (stringEnd g) (lineEnd g) (area.sheetStrings (lineEnd f) (x .sheet))
@@ -162,31 +175,75 @@ module _ {f g : List ℕ} {x : Trace} (w : Grows f g x) where
       rw (has-new w .strings, high-kept w, string-end-kept w, line-end-kept w)
       (area-spells (highFirst f) t u (x .sheet) (areaSize t u (x .sheet)) (kept-ends (w .old)) (w .sized))
 
-  new-keeps : KeepsTrace Strict g (countOf f)
+  -- its channel number is as the sheet's line says, which row 35 let through
+  abbrev news : List Str
+  news = area.sheetStrings (lineEnd f) (x .sheet)
+
+  lines : linesVerdict (x .sheet) ≡ Accepted
+  lines = measured-size (stringEnd f) (lineEnd f) (x .sheet) (areaSize (stringEnd f) (lineEnd f) (x .sheet)) (w .sized) .0
+
+  kept-channel : KeepsSheet (eqb (countOf f) 0) (withOf Strict f) (x .sheet)
+  unfolding wrongChannel
+  kept-channel = sheet-keeps (eqb (countOf f) 0) (withOf Strict f) (x .sheet) (w .channel)
+
+  new-channel : GoodChannel Strict news
+  new-channel has =
+      let v = value-meant (lineEnd f) (x .sheet) lines in
+      let some : 0 < countIn (valueOfLine (sheetLines (x .sheet)) channelNumber) = kept-channel .1 (sym (has-meant (lineEnd f) (x .sheet) lines) ∙ has) in
+      rw v (countIn (valueOfLine (sheetLines (x .sheet)) channelNumber), counted (valueOfLine (sheetLines (x .sheet)) channelNumber) _ some refl)
+
+  new-keeps : With (countOf f) news
   new-keeps =
       let s = has-new w in
       let k = kinded (x .code) (x .samples) (w .kind) in
       let b = area-bounds (highFirst f) (stringEnd f) (lineEnd f) (x .sheet) (areaSize (stringEnd f) (lineEnd f) (x .sheet)) (w .sized) in
-      let r = room-enough (x .code) (count (x .samples)) in
-      record {
-        aligned = rw (s .at) (round4-whole (length f));
-        behind = rw (ends-kept (countOf f) (omega arith), s .at) (omega (arith, ends-inside (countOf f) (omega arith)));
-        mark = s .mark;
-        least = rw (s .block) (omega arith);
-        whole = rw (s .block) (omega (arith, b .1));
-        data-whole = rw (s .size) (r .1);
-        inside = rw (s .begins, s .size, w .size) (omega arith);
-        code = rw (s .code) (k .least, k .most);
-        groups = rw (s .code, s .count) (k .groups);
-        samples = rw (s .code, s .count, s .size) (r .0);
-        strings = (area.sheetStrings (lineEnd f) (x .sheet), new-spelled);
-      }
+      let r = room-enough (x .code) (count (x .samples)) in (
+        record {
+          aligned = rw (s .at) (round4-whole (length f));
+          behind = rw (ends-kept (countOf f) (omega arith), s .at) (omega (arith, ends-inside (countOf f) (omega arith)));
+          mark = s .mark;
+          least = rw (s .block) (omega arith);
+          whole = rw (s .block) (omega (arith, b .1));
+          data-whole = rw (s .size) (r .1);
+          inside = rw (s .begins, s .size, w .size) (omega arith);
+          code = rw (s .code) (k .least, k .most);
+          groups = rw (s .code, s .count) (k .groups);
+          samples = rw (s .code, s .count, s .size) (r .0);
+          strings = (news, new-spelled);
+          channel = λ _. new-channel;
+        },
+        refl,
+      )
 
-  each-keeps : (k : ℕ) → k < countOf f + 1 → KeepsTrace Strict g k
-  each-keeps k l = elim (decLe (countOf f) k) [ yes q ↦ here q | no q ↦ old-keeps k (lt-of-not-le q) ]
+  -- every trace has a channel number as the new one has: an old one as trace 0 has, and so has the new one where there
+  -- is a trace 0
+  abbrev Alike : ℕ → Type 0
+  Alike k = (t : KeepsTrace Strict g k) × (hasKey Strict (t .strings .0) channelNumber ≡ hasKey Strict news channelNumber)
+
+  as-the-first : 0 < countOf f → hasKey Strict news channelNumber ≡ withOf Strict f
+  as-the-first some =
+      has-meant (lineEnd f) (x .sheet) lines ∙ kept-channel .0 (ne-eqb (countOf f) 0 (λ (e : countOf f ≡ 0). omega arith))
+
+  each-keeps : (k : ℕ) → k < countOf f + 1 → Alike k
+  each-keeps k l = elim (decLe (countOf f) k) [ yes q ↦ here q | no q ↦ before (lt-of-not-le q) ]
     where
-      here : countOf f ≤ k → KeepsTrace Strict g k
-      here q = let e : countOf f ≡ k = omega arith in rw e at new-keeps
+      here : countOf f ≤ k → Alike k
+      here q =
+          let e : countOf f ≡ k = omega arith in
+          let n : Alike (countOf f) = (new-keeps .0, ap (λ (ss : List Str). hasKey Strict ss channelNumber) (new-keeps .1)) in
+          rw e at n
+
+      before : k < countOf f → Alike k
+      before q =
+          let o = old-keeps k q in
+          (o .0, ap (λ (ss : List Str). hasKey Strict ss channelNumber) (o .1) ∙ as-first (w .old) k q refl ∙ sym (as-the-first (omega arith)))
+
+  -- so trace 0 has one where the new sheet has
+  pub grown-numbered : withOf Strict g ≡ hasLine (sheetLines (x .sheet)) channelNumber
+  grown-numbered =
+      let t = each-keeps 0 (omega arith) in
+      let i : dataAt (highFirst g) g (traceAt g 0) + dataSize (highFirst g) g (traceAt g 0) ≤ length g = t .0 .inside in
+      channel-spelled Strict g 0 (t .0 .strings .0) (t .0 .least) (omega arith) (t .0 .strings .1) .0 ∙ t .1 ∙ has-meant (lineEnd f) (x .sheet) lines
 
   -- ---- the whole
 
@@ -216,7 +273,8 @@ module _ {f g : List ℕ} {x : Trace} (w : Grows f g x) where
           ends-apart = rw (string-end-kept w, line-end-kept w) (o .ends-apart);
           strings = (s .0, file-spelled-kept (s .1));
         };
-        traces = λ k m. each-keeps k (omega arith);
+        traces = λ k m. each-keeps k (omega arith) .0;
+        channels = λ _. all-or-none (hasKey Strict news channelNumber) (λ k m. each-keeps k (omega arith) .1);
       }
 
 -- a file is also an image that an addition takes
@@ -237,6 +295,7 @@ keeps-any purpose h =
         strings = o .strings;
       };
       traces = h .traces;
+      channels = h .channels;
     }
 
 pub grown-kept : {xs : List ℕ} {n : ℕ} {x : Trace} {end : ℕ} → Bytes xs → Added xs n x end → Keeps Strict Read (take end (grown xs n x))

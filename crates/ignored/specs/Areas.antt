@@ -7,10 +7,10 @@ use mathlib.Core.Bool.{Bool, true, false}
 use mathlib.Core.List.{List, [], _∷_}
 use Prim.Native.Nat.{ℕ, zero, suc, _+_, _-_, _≤_}
 use native.Mathlib.Omega.{arith}
-use lib.ListN.{length, take, drop, length-drop}
+use lib.ListN.{length, take, drop, length-take, length-drop}
 use lib.Seq.{take-all, take-take}
 use Rattle.text.specs.declared.Manner.the-variants.{Strict}
-use Rattle.word.specs.Part.{part, length-part, drop-take, part-drop, part-take, part-part, part-none}
+use Rattle.word.specs.Part.{part, drop-take, part-drop, part-take, part-part, part-none}
 use Rattle.word.specs.Word.{wordAt}
 use Rattle.word.specs.WordLaws.{word-take}
 use Rattle.refusal.specs.Rows.{pick}
@@ -176,6 +176,10 @@ abbrev pub SameAt : List ℕ → List ℕ → List Place → Type 0
 SameAt f g [] = Unit {0}
 SameAt f g (s ∷ ss) = ((keyIn f s ≡ keyIn g s) × (valueIn f s ≡ valueIn g s)) × SameAt f g ss
 
+-- an area has no more bytes than its places say
+part-within : (a e : ℕ) (f : List ℕ) → length (part a e f) ≤ e - a
+part-within a e f = let k = length-take (e - a) (drop a f) in omega arith
+
 -- a part within the first o bytes of an area
 piece-same : (f g : List ℕ) (at e o i j : ℕ) → at + o ≤ e → j ≤ o → take o (part at e f) ≡ take o (part at e g)
     → part (at + i) (at + j) f ≡ part (at + i) (at + j) g
@@ -183,31 +187,31 @@ piece-same f g at e o i j h k q =
     sym (part-part i j at e f (omega arith)) ∙ part-same i j o (part at e f) (part at e g) k q ∙ part-part i j at e g (omega arith)
 
 module _ (high : Bool) (t f g : List ℕ) where
-  place-same : (at e o : ℕ) → at ≤ e → e ≤ length f → frameOf Strict high t (part at e f) ≡ Text o → take o (part at e f) ≡ take o (part at e g)
+  place-same : (at e o : ℕ) → frameOf Strict high t (part at e f) ≡ Text o → take o (part at e f) ≡ take o (part at e g)
       → (keyIn f (placeOf t o (part at e f) at) ≡ keyIn g (placeOf t o (part at e f) at))
       × (valueIn f (placeOf t o (part at e f) at) ≡ valueIn g (placeOf t o (part at e f) at))
-  place-same at e o low fits w q =
+  place-same at e o w q =
       let l : List ℕ = part at e f in
       let b : List ℕ = body t o l in
       let s = place-fits Strict high t l at o w in
-      let n = length-part at e f fits in
+      let n = part-within at e f in
       let k : at + 2 + keyLen b ≡ at + (2 + keyLen b) = omega arith in
       let v : at + 2 + keyLen b + gapLen (afterKey b) ≡ at + (2 + keyLen b + gapLen (afterKey b)) = omega arith in (
         rw k (piece-same f g at e o 2 (2 + keyLen b) (omega (arith, s .within)) (omega (arith, s .inside .1, s .inside .2, s .inside .3)) q),
         rw v (piece-same f g at e o (2 + keyLen b + gapLen (afterKey b)) (o - length t) (omega (arith, s .within)) (omega arith) q),
       )
 
-  texts-from : (m at e : ℕ) → at ≤ e → e ≤ length f
+  texts-from : (m at e : ℕ)
       → take (usedFrom m high t (part at e f)) (part at e f) ≡ take (usedFrom m high t (part at e f)) (part at e g)
       → SameAt f g (placesFrom Strict m high t (part at e f) at)
   unfolding placesFrom usedFrom onText
-  texts-from zero at e low fits q = tt
-  texts-from (suc m) at e low fits q = go (frameOf Strict high t (part at e f)) refl q (texts-from m)
+  texts-from zero at e q = tt
+  texts-from (suc m) at e q = go (frameOf Strict high t (part at e f)) refl q (texts-from m)
     where
       go : (w : Frame) → frameOf Strict high t (part at e f) ≡ w
           → take (readOf w (length (part at e f)) (λ o. usedFrom m high t (drop o (part at e f)))) (part at e f)
           ≡ take (readOf w (length (part at e f)) (λ o. usedFrom m high t (drop o (part at e f)))) (part at e g)
-          → ((at e : ℕ) → at ≤ e → e ≤ length f
+          → ((at e : ℕ)
           → take (usedFrom m high t (part at e f)) (part at e f) ≡ take (usedFrom m high t (part at e f)) (part at e g)
           → SameAt f g (placesFrom Strict m high t (part at e f) at))
           → SameAt f g (onText w [] (λ o. placeOf t o (part at e f) at ∷ placesFrom Strict m high t (drop o (part at e f)) (at + o)))
@@ -216,21 +220,19 @@ module _ (high : Bool) (t f g : List ℕ) where
       go (Text o) w q again =
           let l : List ℕ = part at e f in
           let r : List ℕ = part at e g in
-          let i = in-frame Strict high t l o w in
-          let n = length-part at e f fits in
           let d : drop o l ≡ part (at + o) e f = part-drop o at e f in
           let d' : drop o r ≡ part (at + o) e g = part-drop o at e g in
           let u = usedFrom m high t (drop o l) in
           let h : take u (drop o l) ≡ take u (drop o r) = rest-same o u l r q in (
-            place-same at e o low fits w (front-same o (o + u) l r (omega arith) q),
-            rw d (again (at + o) e (omega (arith, i .fit)) fits (rw (d, d') at h)),
+            place-same at e o w (front-same o (o + u) l r (omega arith) q),
+            rw d (again (at + o) e (rw (d, d') at h)),
           )
 
   -- an area that is alike up to its end mark has the same strings
-  pub texts-same : (a e : ℕ) → a ≤ e → e ≤ length f → take (usedOf high t (part a e f)) (part a e f) ≡ take (usedOf high t (part a e f)) (part a e g)
+  pub texts-same : (a e : ℕ) → take (usedOf high t (part a e f)) (part a e f) ≡ take (usedOf high t (part a e f)) (part a e g)
       → SameAt f g (placesOf Strict high t (part a e f) a)
   unfolding placesOf usedOf
-  texts-same a e low fits q = texts-from (length (part a e f)) a e low fits q
+  texts-same a e q = texts-from (length (part a e f)) a e q
 
 -- so a keyword is found at the same place, with the same value
 pub find-same : (f g : List ℕ) (ps : List Place) (key : List ℕ) → SameAt f g ps → findOf Strict f ps key ≡ findOf Strict g ps key

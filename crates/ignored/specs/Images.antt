@@ -30,11 +30,14 @@ use Rattle.head.specs.Head.{highFirst, revisionOf, roomOf, countOf}
 use Rattle.terminators.specs.Terminators.{terminatorAt, stringEnd, lineEnd, goodTerminator}
 use Rattle.head.specs.Head.{headOf}
 use Rattle.block.specs.Block.{pointerOf, markAt, blockSize, dataSize, sampleCount, formatCode, dataAt, endAt, blockOf}
-use Rattle.image.specs.Image.{areaVerdict, traceOf, tracesFrom, filledChecks, restOf, imageOf}
+use Rattle.image.specs.Image.{areaVerdict, channelAt, withChannel, traceOf, tracesFrom, filledChecks, restOf, imageOf}
 use Rattle.block.specs.BlockLaws.{headAt, own-mark, own-size, own-data, own-samples, own-code}
 use Rattle.refusal.specs.FirstRow.{firstOf}
 use Rattle.image.specs.Keeps.{traceAt, stringsEnd}
-use Rattle.ignored.specs.Areas.{usedOf, strings-same}
+use Rattle.strings.specs.declared.Place.{Place}
+use Rattle.strings.specs.Strings.{placesOf, findOf, found, valueFound}
+use Rattle.channel.specs.Channel.{channelNumber}
+use Rattle.ignored.specs.Areas.{usedOf, strings-same, places-same, SameAt, texts-same, find-same, value-same}
 
 -- the strings of f that stand from a to e are the same in g, up to and with the end mark
 abbrev pub AlikeStrings : List ℕ → List ℕ → ℕ → ℕ → Type 0
@@ -221,13 +224,44 @@ module _ {f g : List ℕ} (a : Alike f g) where
       )
       (rw (same-mark t, same-block t, same-data t, same-count t, same-code t, a .size))
 
+  -- a trace's channel number
+  same-channel : (p : ℕ) → AlikeTrace f g p
+      → (channelAt Strict (highFirst f) (stringEnd f) f p ≡ channelAt Strict (highFirst f) (stringEnd f) g p)
+      × (valueFound f (channelAt Strict (highFirst f) (stringEnd f) f p) ≡ valueFound g (channelAt Strict (highFirst f) (stringEnd f) g p))
+  unfolding channelAt
+  same-channel p t =
+      let e : ℕ = dataAt (highFirst f) f p in
+      let ps : List Place = placesOf Strict (highFirst f) (stringEnd f) (part (p + 32) e f) (p + 32) in
+      let s : SameAt f g ps = texts-same (highFirst f) (stringEnd f) f g (p + 32) e (t .strings) in
+      let q : ps ≡ placesOf Strict (highFirst f) (stringEnd f) (part (p + 32) (dataAt (highFirst f) g p) g) (p + 32) =
+      places-same (highFirst f) (stringEnd f) (part (p + 32) e f) (part (p + 32) e g) (p + 32) (part-long (p + 32) e f g (a .size)) (t .strings)
+      ∙ ap (λ (b : ℕ). placesOf Strict (highFirst f) (stringEnd f) (part (p + 32) (p + b) g) (p + 32)) (same-block t) in (
+        find-same f g ps channelNumber s ∙ ap (λ (rs : List Place). findOf Strict g rs channelNumber) q,
+        value-same f g ps channelNumber s ∙ ap (λ (rs : List Place). valueFound g (findOf Strict g rs channelNumber)) q,
+      )
+
+  same-with : 0 < countOf f → withChannel Strict (highFirst f) (stringEnd f) f ≡ withChannel Strict (highFirst f) (stringEnd f) g
+  same-with low =
+      ap found (same-channel (pointerOf (highFirst f) f 0) (a .traces 0 low) .0)
+      ∙ ap (λ (p : ℕ). found (channelAt Strict (highFirst f) (stringEnd f) g p)) (same-pointer 0 low)
+
   same-trace : (u : List ℕ) (k prev : ℕ) → k < countOf f
       → traceOf Strict (highFirst f) (stringEnd f) u f k prev ≡ traceOf Strict (highFirst f) (stringEnd f) u g k prev
   unfolding traceOf
   same-trace u k prev low =
       let t = a .traces k low in
       let q : ℕ = pointerOf (highFirst f) f k in
-      rw (same-rows k q t, same-area u (Trace k) (q + 32) (q + blockSize (highFirst f) f q) (t .strings), same-block t, a .size, same-pointer k low)
+      let c = same-channel q t in
+      rw (
+        same-rows k q t,
+        same-area u (Trace k) (q + 32) (q + blockSize (highFirst f) f q) (t .strings),
+        same-block t,
+        a .size,
+        c .1,
+        c .0,
+        same-with (omega arith),
+        same-pointer k low,
+      )
 
   same-walk : (u : List ℕ) (left k prev : ℕ) → k + left ≡ countOf f
       → tracesFrom Strict (highFirst f) (stringEnd f) u f left k prev ≡ tracesFrom Strict (highFirst f) (stringEnd f) u g left k prev

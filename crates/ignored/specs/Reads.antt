@@ -41,7 +41,7 @@ use Rattle.reader.specs.Questions.{valueThere, valueAnswer, numberAnswer, doubl
 use Rattle.reader.specs.Questions.{dataOf, integersVerdict, bitsVerdict, integersAnswer, bitsAnswer, samplesIn}
 use Rattle.reader.specs.Questions.{patternsIn, classesIn, samplesOf, patternsOf, classesOf, integersLeft, patternsLeft}
 use Rattle.reader.specs.Questions.{classesLeft, kept}
-use Rattle.reader.specs.Reach.{checked, whose-trace, some-trace, area-fits, trace-blocked}
+use Rattle.reader.specs.Reach.{checked, whose-trace, some-trace, trace-blocked}
 use Rattle.reader.specs.Listed.{found-value}
 use Rattle.reader.specs.Answers.{integers-accepted, bits-accepted}
 use Rattle.ignored.specs.Areas.{SameAt, places-same, texts-same, find-same, value-same}
@@ -85,22 +85,22 @@ module _ {f g : List ℕ} (a : Alike f g) where
       places-same (highFirst f) (stringEnd f) (part x e f) (part x e g) x (part-long x e f g (a .size)) s
       ∙ ap₂ (λ (o : Bool) (t : List ℕ). placesOf Strict o t (part x e g) x) (same-order a) (a .string-end)
 
-  texts-alike : (x e : ℕ) → x ≤ e → e ≤ length f → AlikeStrings f g x e → SameAt f g (placesIn Strict f x e)
+  texts-alike : (x e : ℕ) → AlikeStrings f g x e → SameAt f g (placesIn Strict f x e)
   unfolding placesIn
-  texts-alike x e low fits s = texts-same (highFirst f) (stringEnd f) f g x e low fits s
+  texts-alike x e s = texts-same (highFirst f) (stringEnd f) f g x e s
 
-  find-alike : (x e : ℕ) (key : List ℕ) → x ≤ e → e ≤ length f → AlikeStrings f g x e
+  find-alike : (x e : ℕ) (key : List ℕ) → AlikeStrings f g x e
       → findOf Strict f (placesIn Strict f x e) key ≡ findOf Strict g (placesIn Strict g x e) key
-  find-alike x e key low fits s =
-      find-same f g (placesIn Strict f x e) key (texts-alike x e low fits s) ∙ ap (λ (ps : List Place). findOf Strict g ps key) (places-alike x e s)
+  find-alike x e key s =
+      find-same f g (placesIn Strict f x e) key (texts-alike x e s) ∙ ap (λ (ps : List Place). findOf Strict g ps key) (places-alike x e s)
 
-  value-alike : (x e : ℕ) (key : List ℕ) → x ≤ e → e ≤ length f → AlikeStrings f g x e
+  value-alike : (x e : ℕ) (key : List ℕ) → AlikeStrings f g x e
       → valueFound f (findOf Strict f (placesIn Strict f x e) key) ≡ valueFound g (findOf Strict g (placesIn Strict g x e) key)
-  value-alike x e key low fits s =
-      value-same f g (placesIn Strict f x e) key (texts-alike x e low fits s)
+  value-alike x e key s =
+      value-same f g (placesIn Strict f x e) key (texts-alike x e s)
       ∙ ap (λ (ps : List Place). valueFound g (findOf Strict g ps key)) (places-alike x e s)
 
-  -- ---- in an accepted image the area of each part lies in it
+  -- ---- in an accepted image there is a trace, so the file's strings end at its pointer
   module _ (ok : Rattle.image.specs.Image.imageOf Strict Read f ≡ Accepted) where
     file-strings : AlikeStrings f g (32 + roomOf f) (traceAt f 0)
     file-strings =
@@ -108,19 +108,17 @@ module _ {f g : List ℕ} (a : Alike f g) where
         let z : stringsEnd f ≡ traceAt f 0 = rw (ne-eqb (countOf f) 0 (omega arith)) in
         rw z at (a .strings)
 
-    on-area : {A : Type 0} (none : A) (p q : ℕ → ℕ → A) → ((x e : ℕ) → x ≤ e → e ≤ length f → AlikeStrings f g x e → p x e ≡ q x e) → (z : ℤ)
+    on-area : {A : Type 0} (none : A) (p q : ℕ → ℕ → A) → ((x e : ℕ) → AlikeStrings f g x e → p x e ≡ q x e) → (z : ℤ)
         → onArea (areaAsked f z) none p ≡ onArea (areaAsked g z) none q
     unfolding areaNamed
     on-area none p q h z = rw (← same-traces a) (go (whoseOf z (countOf f)) refl)
       where
         go : (w : Whose) → whoseOf z (countOf f) ≡ w → onArea (areaNamed f w) none p ≡ onArea (areaNamed g w) none q
         go Whole e =
-            let b = area-fits Strict f ok z (32 + roomOf f) (traceAt f 0) (rw e) in
-            h (32 + roomOf f) (traceAt f 0) (b .0) (b .1) file-strings ∙ ap₂ q (ap (λ (m : ℕ). 32 + m) (same-room a)) (at-same 0 (some-trace Strict f ok))
+            h (32 + roomOf f) (traceAt f 0) file-strings ∙ ap₂ q (ap (λ (m : ℕ). 32 + m) (same-room a)) (at-same 0 (some-trace Strict f ok))
         go (One k) e =
             let low = whose-trace z (countOf f) k e .1 in
-            let b = area-fits Strict f ok z (traceAt f k + 32) (dataAt (highFirst f) f (traceAt f k)) (rw e) in
-            h (traceAt f k + 32) (dataAt (highFirst f) f (traceAt f k)) (b .0) (b .1) (a .traces k low .strings)
+            h (traceAt f k + 32) (dataAt (highFirst f) f (traceAt f k)) (a .traces k low .strings)
             ∙ ap₂ q (ap (λ (m : ℕ). m + 32) (at-same k low)) (begin-same k low)
         go Nobody e = refl
 
@@ -179,17 +177,17 @@ module _ (xs ys : List ℕ) (n : ℕ) (fx : n ≤ length xs) (fy : n ≤ length 
 
   pub alike-count : (z : ℤ) → countAnswer Strict xs n z ≡ countAnswer Strict ys n z
   unfolding countAnswer
-  alike-count z = on-check count.Refused _ _ (λ ok. on-area a ok _ _ _ (λ x e low fits s. ap (λ (ps : List Place). count.Is (length ps))
+  alike-count z = on-check count.Refused _ _ (λ ok. on-area a ok _ _ _ (λ x e s. ap (λ (ps : List Place). count.Is (length ps))
       (places-alike a x e s)) z)
 
   pub alike-nth : (z : ℤ) (i : ℕ) → nthAnswer Strict xs n z i ≡ nthAnswer Strict ys n z i
   unfolding nthAnswer
-  alike-nth z i = on-check string.Refused _ _ (λ ok. on-area a ok _ _ _ (λ x e low fits s. ap (λ (ps : List Place). there (nthOf ps i))
+  alike-nth z i = on-check string.Refused _ _ (λ ok. on-area a ok _ _ _ (λ x e s. ap (λ (ps : List Place). there (nthOf ps i))
       (places-alike a x e s)) z)
 
   pub alike-find : (z : ℤ) (key : List ℕ) → findAnswer Strict xs n z key ≡ findAnswer Strict ys n z key
   unfolding findAnswer
-  alike-find z key = on-check string.Refused _ _ (λ ok. on-area a ok _ _ _ (λ x e low fits s. ap there (find-alike a x e key low fits s)) z)
+  alike-find z key = on-check string.Refused _ _ (λ ok. on-area a ok _ _ _ (λ x e s. ap there (find-alike a x e key s)) z)
 
   pub alike-keyword : (z : ℤ) (key : List ℕ) → keywordAnswer Strict xs n z key ≡ keywordAnswer Strict ys n z key
   unfolding keywordAnswer
@@ -209,7 +207,7 @@ module _ (xs ys : List ℕ) (n : ℕ) (fx : n ≤ length xs) (fy : n ≤ length 
       (λ ok.
       through-area (valueThere f) (areaAsked f z) (string.Refused noTrace) _
       ∙ on-area a ok [] _ _
-      (λ x e low fits s. found-value f (findOf Strict f (placesIn Strict f x e) key) ∙ value-alike a x e key low fits s
+      (λ x e s. found-value f (findOf Strict f (placesIn Strict f x e) key) ∙ value-alike a x e key s
       ∙ sym (found-value g (findOf Strict g (placesIn Strict g x e) key))) z
       ∙ sym (through-area (valueThere g) (areaAsked g z) (string.Refused noTrace) _))
       ∙ sym (through-check (valueThere g) string.Refused (checkOf Strict Read ys n) _)

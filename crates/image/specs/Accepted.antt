@@ -14,31 +14,39 @@ use lib.Seq.{length-take-le}
 use lib.Dec.{eqb}
 use borrow.Author.Tests.{ne-eqb, eqb-true, eqb-false}
 use Rattle.refusal.specs.Verdicts.{refused-not, and-then, then-and}
-use Rattle.refusal.specs.FirstRow.{firstOf, NoneMet, passed-met-none, met-none-passed}
+use Rattle.refusal.specs.FirstRow.{row, firstOf, NoneMet, passed-met-none, met-none-passed}
 use Rattle.word.specs.Tests.{both}
 use Rattle.word.specs.Part.{part}
 use Rattle.word.specs.Bytes.{Bytes, bytes-part, bytes-take}
 use Rattle.refusal.specs.Rows.{pick, pick-second}
 use Rattle.refusal.specs.declared.Part.{Part}
 use Rattle.refusal.specs.declared.Part.the-variants.{File, Trace}
-use Rattle.refusal.specs.declared.Rule.the-variants.{Length}
+use Rattle.refusal.specs.declared.Refusal.{Refusal}
+use Rattle.refusal.specs.declared.Rule.the-variants.{Length, ChannelNumber}
 use Rattle.refusal.specs.declared.Verdict.{Verdict}
-use Rattle.refusal.specs.declared.Verdict.the-variants.{Accepted}
+use Rattle.refusal.specs.declared.Verdict.the-variants.{Accepted, Refused}
 use Rattle.text.specs.declared.Manner.{Manner}
+use Rattle.text.specs.Manner.{asksChannels}
 use Rattle.head.specs.declared.Purpose.{Purpose}
 use Rattle.note.specs.Note.{LineEnd}
-use Rattle.strings.specs.Paper.{spelled-accepted, accepted-spelled}
+use Rattle.strings.specs.declared.Found.{Found}
+use Rattle.strings.specs.Strings.{found, valueFound}
+use Rattle.strings.specs.Spelled.{Str, Spells, valueOfKey, hasKey}
+use Rattle.strings.specs.Paper.{spelled-accepted, accepted-spelled, spelled-value}
+use Rattle.channel.specs.Count.{countIn, counted, counts}
+use Rattle.channel.specs.Channel.{channelNumber, badChannel, keeps-channel, channel-kept}
 use Rattle.head.specs.Head.{maximum, known, highFirst, roomOf, countOf, headOf}
 use Rattle.terminators.specs.Terminators.{stringEnd, lineEnd, goodTerminator}
 use Rattle.head.specs.Head.{refused}
 use Rattle.head.specs.HeadLaws.{Headed, headed, head-accepts}
 use Rattle.terminators.specs.TerminatorLaws.{good-length, good-chars, good-ends}
 use Rattle.block.specs.Block.{blockSize, dataSize, dataAt, endAt}
-use Rattle.image.specs.Image.{areaVerdict, traceChecks, traceOf, tracesFrom, filledChecks, restOf, imageOf}
-use Rattle.image.specs.Image.{badLength, checkOf}
+use Rattle.image.specs.Image.{areaVerdict, channelAt, withChannel, channelVerdict, traceChecks, traceOf, tracesFrom, filledChecks, restOf}
+use Rattle.image.specs.Image.{imageOf, badLength, checkOf}
 use Rattle.block.specs.BlockLaws.{Pointed, pointed, pointer-accepts, Blocked, blocked, block-accepts}
 use Rattle.image.specs.ImageLaws.{long-enough, length-accepts}
-use Rattle.image.specs.Keeps.{traceAt, endBefore, stringsEnd, Strings, KeepsTerminator, KeepsTrace, Keeps}
+use Rattle.image.specs.Keeps.{traceAt, endBefore, stringsEnd, Strings, GoodChannel, KeepsTerminator, KeepsTrace}
+use Rattle.image.specs.Keeps.{AllOrNone, Keeps}
 
 -- ---- an area
 area-kept : (how : Manner) (f : List ℕ) (whose : Part) (a e : ℕ) → LineEnd (lineEnd f) → Bytes f
@@ -51,33 +59,106 @@ area-accepts : (how : Manner) (f : List ℕ) (whose : Part) (a e : ℕ) → Line
 unfolding areaVerdict
 area-accepts how f whose a e ends s = spelled-accepted how whose a ends (s .1)
 
+-- ---- a trace's channel number
+
+-- the string, and whether trace 0 has one
+abbrev pub channelOf : Manner → List ℕ → ℕ → Found
+channelOf how f k = channelAt how (highFirst f) (stringEnd f) f (traceAt f k)
+
+abbrev pub withOf : Manner → List ℕ → Bool
+withOf how f = withChannel how (highFirst f) (stringEnd f) f
+
+-- a row that is not met
+unmet : (w : Bool) (r : Refusal) → pick w (Refused r) Accepted ≡ Accepted → w ≡ false
+unmet true r e = absurd (refused-not r e)
+unmet false r e = refl
+
+-- ss are the strings that the trace k spells
+module _ (how : Manner) (f : List ℕ) (k : ℕ) (ss : List Str) (low : 32 ≤ blockSize (highFirst f) f (traceAt f k))
+    (fits : dataAt (highFirst f) f (traceAt f k) ≤ length f)
+    (s : Spells how (highFirst f) (stringEnd f) (lineEnd f) ss (part (traceAt f k + 32) (dataAt (highFirst f) f (traceAt f k)) f)) where
+  -- what was found is told by the strings
+  pub channel-spelled : (found (channelOf how f k) ≡ hasKey how ss channelNumber) × (valueFound f (channelOf how f k) ≡ valueOfKey how ss channelNumber)
+  unfolding channelAt
+  channel-spelled =
+      spelled-value how f (stringEnd f) (lineEnd f) (highFirst f) (traceAt f k + 32) (dataAt (highFirst f) f (traceAt f k)) ss channelNumber (omega arith) fits s
+
+  row-kept : (with : Bool) → channelVerdict how with f k (traceAt f k) (channelOf how f k) ≡ Accepted → asksChannels how ≡ true
+      → (hasKey how ss channelNumber ≡ with) × GoodChannel how ss
+  row-kept with e asks =
+      let c = channel-spelled in
+      let u = unmet (asksChannels how && badChannel with (found (channelOf how f k)) (valueFound f (channelOf how f k))) _ e in
+      let bad : badChannel with (hasKey how ss channelNumber) (valueOfKey how ss channelNumber) ≡ false = rw (asks, c .0, c .1) at u in
+      let h = keeps-channel with (hasKey how ss channelNumber) (valueOfKey how ss channelNumber) bad in
+      (h .0, λ has. (countIn (valueOfKey how ss channelNumber), counted (valueOfKey how ss channelNumber) _ (h .1 has) refl))
+
+  row-accepts : (with : Bool) → (asksChannels how ≡ true → (hasKey how ss channelNumber ≡ with) × GoodChannel how ss)
+      → channelVerdict how with f k (traceAt f k) (channelOf how f k) ≡ Accepted
+  row-accepts with h =
+      let c = channel-spelled in
+      rw (c .0, c .1) (go (asksChannels how) h)
+    where
+      good : (hasKey how ss channelNumber ≡ with) × GoodChannel how ss → badChannel with (hasKey how ss channelNumber) (valueOfKey how ss channelNumber) ≡ false
+      good g =
+          channel-kept with (hasKey how ss channelNumber) (valueOfKey how ss channelNumber)
+          (g .0, λ has. (let n = g .1 has in rw (counts (valueOfKey how ss channelNumber) (n .0) (n .1)) (n .1 .least)))
+
+      go : (w : Bool) → (w ≡ true → (hasKey how ss channelNumber ≡ with) × GoodChannel how ss)
+          → row (w && badChannel with (hasKey how ss channelNumber) (valueOfKey how ss channelNumber)) ChannelNumber (Trace k) (traceAt f k + 32) ≡ Accepted
+      go false q = refl
+      go true q = rw (good (q refl))
+
 -- ---- a trace
 abbrev pub Traced : Manner → List ℕ → ℕ → Type 0
 Traced how f k = traceOf how (highFirst f) (stringEnd f) (lineEnd f) f k (endBefore f k) ≡ Accepted
 
-trace-kept : (how : Manner) (f : List ℕ) (k : ℕ) → LineEnd (lineEnd f) → Bytes f → Traced how f k → KeepsTrace how f k
+-- what its checks show: the pointer, the block, the strings and the channel number
+record Shown (how : Manner) (f : List ℕ) (k : ℕ) : Type 0 where
+  place : Pointed (length f) (endBefore f k) (traceAt f k)
+  block : Blocked (highFirst f) f (traceAt f k)
+  strings : areaVerdict how (highFirst f) (stringEnd f) (lineEnd f) f (Trace k) (traceAt f k + 32) (dataAt (highFirst f) f (traceAt f k)) ≡ Accepted
+  channel : channelVerdict how (withOf how f) f k (traceAt f k) (channelOf how f k) ≡ Accepted
+
+shown : (how : Manner) (f : List ℕ) (k : ℕ) → Traced how f k → Shown how f k
 unfolding traceOf
-trace-kept how f k ends by h =
+shown how f k h =
     let a = passed-met-none (traceChecks how (highFirst f) (stringEnd f) (lineEnd f) f k (endBefore f k)) h in
-    let p = pointed (length f) k (endBefore f k) (traceAt f k) (a .0) in
-    let q = blocked (highFirst f) f k (traceAt f k) (a .1 .0) in
     record {
-      aligned = p .whole;
-      behind = p .behind;
-      mark = q .mark;
-      least = q .least;
-      whole = q .whole;
-      data-whole = q .data-whole;
-      inside = q .data-fits;
-      code = q .code;
-      groups = q .groups;
-      samples = q .samples;
-      strings = area-kept how f (Trace k) (traceAt f k + 32) (dataAt (highFirst f) f (traceAt f k)) ends by (a .1 .1 .0);
+      place = pointed (length f) k (endBefore f k) (traceAt f k) (a .0);
+      block = blocked (highFirst f) f k (traceAt f k) (a .1 .0);
+      strings = a .1 .1 .0;
+      channel = a .1 .1 .1 .0;
     }
 
-trace-accepts : (how : Manner) (f : List ℕ) (k : ℕ) → LineEnd (lineEnd f) → KeepsTrace how f k → Traced how f k
+trace-kept : (how : Manner) (f : List ℕ) (k : ℕ) → LineEnd (lineEnd f) → Bytes f → Traced how f k → (t : KeepsTrace how f k)
+    × (asksChannels how ≡ true → hasKey how (t .strings .0) channelNumber ≡ withOf how f)
+trace-kept how f k ends by h =
+    let a = shown how f k h in
+    let p = a .place in
+    let q = a .block in
+    let s = area-kept how f (Trace k) (traceAt f k + 32) (dataAt (highFirst f) f (traceAt f k)) ends by (a .strings) in
+    let c = row-kept how f k (s .0) (q .least) (omega (arith, q .data-fits)) (s .1) (withOf how f) (a .channel) in (
+      record {
+        aligned = p .whole;
+        behind = p .behind;
+        mark = q .mark;
+        least = q .least;
+        whole = q .whole;
+        data-whole = q .data-whole;
+        inside = q .data-fits;
+        code = q .code;
+        groups = q .groups;
+        samples = q .samples;
+        strings = s;
+        channel = λ asks. c asks .1;
+      },
+      λ asks. c asks .0,
+    )
+
+trace-accepts : (how : Manner) (f : List ℕ) (k : ℕ) → LineEnd (lineEnd f) → (h : KeepsTrace how f k)
+    → (asksChannels how ≡ true → hasKey how (h .strings .0) channelNumber ≡ withOf how f) → Traced how f k
 unfolding traceOf
-trace-accepts how f k ends h =
+trace-accepts how f k ends h so =
     let l : 32 ≤ blockSize (highFirst f) f (traceAt f k) = h .least in
     let i : dataAt (highFirst f) f (traceAt f k) + dataSize (highFirst f) f (traceAt f k) ≤ length f = h .inside in
     met-none-passed (traceChecks how (highFirst f) (stringEnd f) (lineEnd f) f k (endBefore f k)) (
@@ -95,7 +176,13 @@ trace-accepts how f k ends h =
               groups = h .groups;
               samples = h .samples;
             }),
-        (area-accepts how f (Trace k) (traceAt f k + 32) (dataAt (highFirst f) f (traceAt f k)) ends (h .strings), tt),
+        (
+          area-accepts how f (Trace k) (traceAt f k + 32) (dataAt (highFirst f) f (traceAt f k)) ends (h .strings),
+          (
+            row-accepts how f k (h .strings .0) l (omega arith) (h .strings .1) (withOf how f) (λ asks. (so asks, h .channel asks)),
+            tt,
+          ),
+        ),
       ),
     )
 
@@ -172,10 +259,7 @@ image-traced how purpose f e k l =
 -- the places of a trace that was accepted
 pub traced-places : (how : Manner) (f : List ℕ) (k : ℕ) → Traced how f k
     → Pointed (length f) (endBefore f k) (traceAt f k) × Blocked (highFirst f) f (traceAt f k)
-unfolding traceOf
-traced-places how f k h =
-    let a = passed-met-none (traceChecks how (highFirst f) (stringEnd f) (lineEnd f) f k (endBefore f k)) h in
-    (pointed (length f) k (endBefore f k) (traceAt f k) (a .0), blocked (highFirst f) f k (traceAt f k) (a .1 .0))
+traced-places how f k h = let a = shown how f k h in (a .place, a .block)
 
 -- the file's strings
 pub image-strings : (how : Manner) (purpose : Purpose) (f : List ℕ) → imageOf how purpose f ≡ Accepted
@@ -190,6 +274,11 @@ image-strings how purpose f e = go (eqb (countOf f) 0) (and-then (headOf purpose
     go false h = passed-met-none (Filled how f) h .1 .0
 
 -- ---- the theorem
+
+-- where each has as one thing tells, each has or none has
+pub all-or-none : {n : ℕ} {has : (k : ℕ) → k < n → Bool} (w : Bool) → ((k : ℕ) (l : k < n) → has k l ≡ w) → AllOrNone n has
+all-or-none true h = inl h
+all-or-none false h = inr h
 
 pub image-keeps : (how : Manner) (purpose : Purpose) (f : List ℕ) → Bytes f → 32 ≤ length f → length f ≤ maximum → imageOf how purpose f ≡ Accepted
     → Keeps how purpose f
@@ -209,8 +298,19 @@ image-keeps how purpose f by low most e =
         ends-apart = h .apart;
         strings = area-kept how f File (32 + roomOf f) (stringsEnd f) ends by (image-strings how purpose f e);
       };
-      traces = λ k l. trace-kept how f k ends by (image-traced how purpose f e k l);
+      traces = λ k l. trace-kept how f k ends by (image-traced how purpose f e k l) .0;
+      channels = λ asks. all-or-none (withOf how f) (λ k l. trace-kept how f k ends by (image-traced how purpose f e k l) .1 asks);
     }
+
+-- where the traces have a channel number or have none, each has it as trace 0 has
+pub as-first : {how : Manner} {purpose : Purpose} {f : List ℕ} (h : Keeps how purpose f) (k : ℕ) (l : k < countOf f) → asksChannels how ≡ true
+    → hasKey how (h .traces k l .strings .0) channelNumber ≡ withOf how f
+as-first {how} {purpose} {f} h k l asks =
+    let z : 0 < countOf f = omega arith in
+    let t = h .traces 0 z in
+    let i : dataAt (highFirst f) f (traceAt f 0) + dataSize (highFirst f) f (traceAt f 0) ≤ length f = t .inside in
+    let c = channel-spelled how f 0 (t .strings .0) (t .least) (omega arith) (t .strings .1) .0 in
+    ⊎-elim (λ g. g k l ∙ sym (c ∙ g 0 z)) (λ g. g k l ∙ sym (c ∙ g 0 z)) (h .channels asks)
 
 -- the first pointer, the file's strings and the traces, where there is a trace
 rest-accepts : (how : Manner) (purpose : Purpose) (f : List ℕ) → Keeps how purpose f → 0 < countOf f → firstOf (Filled how f) ≡ Accepted
@@ -225,7 +325,7 @@ rest-accepts how purpose f h some =
       pointer-accepts (length f) 0 (32 + roomOf f) (traceAt f 0) (record { whole = k .aligned; behind = k .behind; fits = omega arith }),
       (
         area-accepts how f File (32 + roomOf f) (traceAt f 0) ends (rw z at (h .file .strings)),
-        (each-walk how f (countOf f) 0 (λ j low high. trace-accepts how f j ends (h .traces j (omega arith))), tt),
+        (each-walk how f (countOf f) 0 (λ j low high. trace-accepts how f j ends (h .traces j (omega arith)) (as-first h j (omega arith))), tt),
       ),
     )
 

@@ -3,7 +3,7 @@
 -- whole file keeps.
 -- Assumes nothing.
 use mathlib.Core.Path.{_≡_}
-use mathlib.Core.Bool.{true}
+use mathlib.Core.Bool.{Bool, true, false}
 use mathlib.Core.List.{List}
 use mathlib.Core.Logic.{_⊎_}
 use Prim.Native.Nat.{ℕ, zero, suc, _+_, _*_, _%_, _≤_, _<_}
@@ -13,10 +13,13 @@ use Rattle.word.specs.Part.{part}
 use Rattle.refusal.specs.Rows.{pick}
 use Rattle.sample.specs.Needed.{needed}
 use Rattle.text.specs.declared.Manner.{Manner}
+use Rattle.text.specs.Manner.{asksChannels}
 use Rattle.chars.specs.Runs.{all}
 use Rattle.head.specs.declared.Purpose.{Purpose}
 use Rattle.head.specs.declared.Purpose.the-variants.{Grow}
-use Rattle.strings.specs.Spelled.{Str, Spells}
+use Rattle.strings.specs.Spelled.{Str, Spells, valueOfKey, hasKey}
+use Rattle.channel.specs.Count.{Counts}
+use Rattle.channel.specs.Channel.{channelNumber}
 use Rattle.chars.specs.Chars.{control}
 use Rattle.head.specs.Head.{maximum, highFirst, revisionOf, roomOf, countOf}
 use Rattle.terminators.specs.Terminators.{terminatorAt, stringEnd, lineEnd, apart}
@@ -40,6 +43,11 @@ stringsEnd f = pick (eqb (countOf f) 0) (length f) (traceAt f 0)
 abbrev pub Strings : Manner → List ℕ → ℕ → ℕ → Type 0
 Strings how f a e = (ss : List Str) × Spells how (highFirst f) (stringEnd f) (lineEnd f) ss (part a e f)
 
+-- "The value must be a number by document 01, 1 to 32,767, without point or E" (document 02 §7): of a list of strings
+-- that has a channel number
+abbrev pub GoodChannel : Manner → List Str → Type 0
+GoodChannel how ss = hasKey how ss channelNumber ≡ true → (n : ℕ) × Counts (valueOfKey how ss channelNumber) n
+
 -- the terminator whose length stands at a place
 pub record KeepsTerminator (f : List ℕ) (at : ℕ) : Type 0 where
   pub size : (getD f at 0 ≡ 1) ⊎ (getD f at 0 ≡ 2)
@@ -57,6 +65,7 @@ pub record KeepsTrace (how : Manner) (f : List ℕ) (k : ℕ) : Type 0 where
   pub groups : formatCode f (traceAt f k) ≡ 3 → sampleCount (highFirst f) f (traceAt f k) % 4 ≡ 0
   pub samples : needed (formatCode f (traceAt f k)) (sampleCount (highFirst f) f (traceAt f k)) ≤ dataSize (highFirst f) f (traceAt f k)
   pub strings : Strings how f (traceAt f k + 32) (dataAt (highFirst f) f (traceAt f k))
+  pub channel : asksChannels how ≡ true → GoodChannel how (strings .0)
 
 -- a file that is read has a trace; an image that grows may have none
 pub record KeepsFile (how : Manner) (purpose : Purpose) (f : List ℕ) : Type 0 where
@@ -71,6 +80,11 @@ pub record KeepsFile (how : Manner) (purpose : Purpose) (f : List ℕ) : Type 0 
   pub ends-apart : apart (stringEnd f) (lineEnd f) ≡ true
   pub strings : Strings how f (32 + roomOf f) (stringsEnd f)
 
+-- "if one trace block has it, all must": of n traces each has, or none has
+abbrev pub AllOrNone : (n : ℕ) → ((k : ℕ) → k < n → Bool) → Type 0
+AllOrNone n has = ((k : ℕ) (l : k < n) → has k l ≡ true) ⊎ ((k : ℕ) (l : k < n) → has k l ≡ false)
+
 pub record Keeps (how : Manner) (purpose : Purpose) (f : List ℕ) : Type 0 where
   pub file : KeepsFile how purpose f
   pub traces : (k : ℕ) → k < countOf f → KeepsTrace how f k
+  pub channels : asksChannels how ≡ true → AllOrNone (countOf f) (λ k l. hasKey how (traces k l .strings .0) channelNumber)

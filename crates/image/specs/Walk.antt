@@ -20,15 +20,26 @@ use Rattle.refusal.specs.declared.Refusal.{Refusal}
 use Rattle.refusal.specs.declared.Verdict.{Verdict}
 use Rattle.refusal.specs.declared.Verdict.the-variants.{Accepted, Refused}
 use Rattle.text.specs.declared.Manner.{Manner}
+use Rattle.strings.specs.Strings.{found}
 use Rattle.block.specs.Block.{pointerOf, endAt, pointerRow}
 use Rattle.block.specs.BlockLaws.{pointed}
 use Rattle.image.specs.declared.Walked.{Walked}
 use Rattle.image.specs.declared.Walked.the-variants.{Past, Bad}
-use Rattle.image.specs.Image.{areaVerdict, blockChecks, traceOf, tracesFrom, restOf}
+use Rattle.image.specs.declared.Traced.{Traced}
+use Rattle.image.specs.declared.Traced.the-variants.{Through, Not}
+use Rattle.image.specs.Image.{areaVerdict, channelAt, withChannel, blockChecks, traceOf, tracesFrom, restOf}
 
--- a trace at p: the refusal of its checks, or where it ends
-abbrev pub walked : Verdict → Bool → List ℕ → ℕ → Walked
-walked v high f p = asked Bad v (Past (endAt high f p))
+-- whether the file's traces have a channel number, as the walk knows it at the trace k, which has one or not: trace 0
+-- chooses, and behind it `with` is handed on
+abbrev pub chosenBy : Bool → ℕ → Bool → Bool
+chosenBy with k has = pick (eqb k 0) has with
+
+abbrev pub chosenAt : Manner → Bool → List ℕ → List ℕ → Bool → ℕ → ℕ → Bool
+chosenAt how high t f with k p = chosenBy with k (found (channelAt how high t f p))
+
+-- a trace at p: the refusal of its checks, or where it ends and what was chosen
+abbrev pub traced : Manner → Bool → List ℕ → List ℕ → List ℕ → Bool → ℕ → ℕ → Traced
+traced how high t u f with k p = asked Not (firstOf (blockChecks how high t u f with k p)) (Through (endAt high f p) with)
 
 -- behind what ends at prev: row 8 of the trace k, and where it begins; behind the last of n traces, the image's end
 abbrev pub nextOf : Bool → List ℕ → ℕ → ℕ → ℕ → Walked
@@ -39,7 +50,7 @@ nextOf high f n k prev =
 unfoldable pub pointedFrom : Manner → Bool → List ℕ → List ℕ → List ℕ → ℕ → ℕ → Verdict
 pointedFrom how high t u f zero k = Accepted
 pointedFrom how high t u f (suc left) k =
-    andThen (firstOf (blockChecks how high t u f k (pointerOf high f k))) (tracesFrom how high t u f left (k + 1) (endAt high f (pointerOf high f k)))
+    andThen (firstOf (blockChecks how high t u f (withChannel how high t f) k (pointerOf high f k))) (tracesFrom how high t u f left (k + 1) (endAt high f (pointerOf high f k)))
 
 -- a pointer has 32 bits
 abbrev pub InWord : Walked → Type 0
@@ -60,6 +71,14 @@ went-on : (v : Verdict) (p q : ℕ) → asked Bad v (Past p) ≡ Past q → (v �
 went-on Accepted p q e = (refl, cc)
 went-on (Refused r) p q e = let z : _≡_ {A = ℕ} 0 1 = cc in absurd (omega arith)
 
+not-through : (v : Verdict) (p : ℕ) (w : Bool) (r : Refusal) → asked Not v (Through p w) ≡ Not r → v ≡ Refused r
+not-through Accepted p w r e = let z : _≡_ {A = ℕ} 0 1 = cc in absurd (omega arith)
+not-through (Refused q) p w r e = let s : q ≡ r = cc in ap Refused s
+
+was-through : (v : Verdict) (p : ℕ) (w : Bool) (q : ℕ) (x : Bool) → asked Not v (Through p w) ≡ Through q x → (v ≡ Accepted) × (p ≡ q) × (w ≡ x)
+was-through Accepted p w q x e = (refl, cc, cc)
+was-through (Refused r) p w q x e = let z : _≡_ {A = ℕ} 0 1 = cc in absurd (omega arith)
+
 -- ---- a trace: its pointer, then its block
 module _ (how : Manner) (high : Bool) (t u f : List ℕ) (k prev : ℕ) where
   trace-bad : (r : Refusal) → pointerRow (length f) k prev (pointerOf high f k) ≡ Refused r → traceOf how high t u f k prev ≡ Refused r
@@ -68,7 +87,7 @@ module _ (how : Manner) (high : Bool) (t u f : List ℕ) (k prev : ℕ) where
 
   -- a trace whose pointer was judged is its other checks
   trace-pointed : pointerRow (length f) k prev (pointerOf high f k) ≡ Accepted
-      → firstOf (blockChecks how high t u f k (pointerOf high f k)) ≡ traceOf how high t u f k prev
+      → firstOf (blockChecks how high t u f (withChannel how high t f) k (pointerOf high f k)) ≡ traceOf how high t u f k prev
   unfolding traceOf andThen
   trace-pointed h = sym (first-next _ _ ∙ rw h)
 
@@ -128,22 +147,31 @@ module _ (high : Bool) (f : List ℕ) (n k prev : ℕ) where
               rw (z, trace-pointed how high t u f k prev (s .0)))
         ]
 
--- ---- a turn of the walk: the trace k at p, of which row 8 was asked
-module _ (how : Manner) (high : Bool) (t u f : List ℕ) (n k p : ℕ) (low : k < n) (here : p ≡ pointerOf high f k) where
+-- ---- a turn of the walk: the trace k at p, of which row 8 was asked; w is what was chosen there
+
+-- that is as trace 0 has it
+pub chosen-first : (how : Manner) (high : Bool) (t f : List ℕ) (with : Bool) (k p : ℕ) → p ≡ pointerOf high f k → (0 < k → with ≡ withChannel how high t f)
+    → chosenAt how high t f with k p ≡ withChannel how high t f
+chosen-first how high t f with zero p e h = rw e
+chosen-first how high t f with (suc k) p e h = rw (ne-eqb (suc k) 0 (omega arith)) (h (omega arith))
+
+module _ (how : Manner) (high : Bool) (t u f : List ℕ) (n k p : ℕ) (low : k < n) (here : p ≡ pointerOf high f k) (w : Bool)
+    (chose : w ≡ withChannel how high t f) where
   turn : pointedFrom how high t u f (n - k) k
-      ≡ andThen (firstOf (blockChecks how high t u f k p)) (tracesFrom how high t u f (n - (k + 1)) (k + 1) (endAt high f p))
+      ≡ andThen (firstOf (blockChecks how high t u f w k p)) (tracesFrom how high t u f (n - (k + 1)) (k + 1) (endAt high f p))
   unfolding pointedFrom
-  turn = let e : n - k ≡ suc (n - (k + 1)) = omega arith in rw (e, here)
+  turn = let e : n - k ≡ suc (n - (k + 1)) = omega arith in rw (e, here, chose)
 
-  pub turn-bad : (r : Refusal) → walked (firstOf (blockChecks how high t u f k p)) high f p ≡ Bad r
-      → Refused r ≡ pointedFrom how high t u f (n - k) k
+  pub turn-bad : (r : Refusal) → traced how high t u f w k p ≡ Not r → Refused r ≡ pointedFrom how high t u f (n - k) k
   unfolding andThen
-  turn-bad r h = sym (turn ∙ rw (stopped (firstOf (blockChecks how high t u f k p)) (endAt high f p) r h))
+  turn-bad r h = sym (turn ∙ rw (not-through (firstOf (blockChecks how high t u f w k p)) (endAt high f p) w r h))
 
-  pub turn-past : (e : ℕ) → walked (firstOf (blockChecks how high t u f k p)) high f p ≡ Past e
-      → tracesFrom how high t u f (n - (k + 1)) (k + 1) e ≡ pointedFrom how high t u f (n - k) k
+  pub turn-past : (e : ℕ) (all : Bool) → traced how high t u f w k p ≡ Through e all
+      → (tracesFrom how high t u f (n - (k + 1)) (k + 1) e ≡ pointedFrom how high t u f (n - k) k) × (all ≡ withChannel how high t f)
   unfolding andThen
-  turn-past e h = let w = went-on (firstOf (blockChecks how high t u f k p)) (endAt high f p) e h in sym (turn ∙ rw (w .0, w .1))
+  turn-past e all h =
+      let g = was-through (firstOf (blockChecks how high t u f w k p)) (endAt high f p) w e all h in
+      (sym (turn ∙ rw (g .0, g .1)), sym (g .2) ∙ chose)
 
 pub walk-over : (how : Manner) (high : Bool) (t u f : List ℕ) (n k : ℕ) → n ≤ k → Accepted ≡ pointedFrom how high t u f (n - k) k
 unfolding pointedFrom

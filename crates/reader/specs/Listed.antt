@@ -18,9 +18,9 @@ use Rattle.refusal.specs.declared.Verdict.the-variants.{Accepted}
 use Rattle.strings.specs.declared.Place.{Place}
 use Rattle.strings.specs.declared.Found.{Found}
 use Rattle.strings.specs.declared.Found.the-variants.{Nothing, Is}
-use Rattle.strings.specs.Strings.{placesOf, keyIn, valueIn, nthOf, findOf, keyFound, valueFound}
+use Rattle.strings.specs.Strings.{placesOf, keyIn, valueIn, nthOf, findOf, found, keyFound, valueFound}
 use Rattle.strings.specs.Spelled.{Str, Spells, nthStr, valueOfKey, hasKey}
-use Rattle.strings.specs.Paper.{spelled-once, spelled-places, spelled-count, spelled-nth, found, spelled-value, find-first}
+use Rattle.strings.specs.Paper.{spelled-once, spelled-places, spelled-count, spelled-nth, spelled-value, find-first}
 use Rattle.head.specs.Head.{highFirst, roomOf, countOf}
 use Rattle.terminators.specs.Terminators.{stringEnd, lineEnd}
 use Rattle.block.specs.Block.{dataAt}

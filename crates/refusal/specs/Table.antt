@@ -1,7 +1,8 @@
--- The refusal table (document 01, "Refusal numbers, in order of checking"): each rule with its number. A new row is a
--- line here and one in the enum of src/lib.rt; no other definition, law or proof lists the rules. That the numbers
--- rise, and so are apart, is proved of this list (proofs/Numbers); that the enum has the same numbers is what `number`
--- promises. A test reads this list and holds every place with words for a number to it (host/tool/tests/table.rs).
+-- The refusal table (document 01, "Refusal numbers, in order of checking"; document 02): each rule with its number. A
+-- new row is a line here and one in the enum of src/lib.rt; no other definition, law or proof lists the rules. That the
+-- numbers rise, and so are apart, is proved of this list (proofs/Numbers); that the enum has the same numbers is what
+-- `number` promises. A test reads this list and holds every place with words for a number to it
+-- (host/tool/tests/table.rs).
 -- Assumes nothing.
 use mathlib.Core.Path.{_≡_, refl, ap}
 use Prim.Native.Nat.{ℕ}
@@ -80,6 +81,10 @@ numberOf rule.StartValues = 31
 numberOf rule.RowLength = 32
 -- integers asked of code 4 or 5, or bits of 1 to 3
 numberOf rule.CodeKind = 33
+-- a trace's CHANNEL_NUMBER has a bad value, or only one of this trace and trace 0 has it (document 02 §7)
+numberOf rule.ChannelNumber = 34
+-- a sheet's CHANNEL_NUMBER has a bad value, is missing, or stands where the file's traces have none (document 02 §7)
+numberOf rule.SheetChannel = 35
 
 -- z is r's number. By way of an s that is r, so that `row` is proved with no file, which would have a line for each
 -- rule

@@ -41,6 +41,8 @@ pub enum Rule {
     StartValues = 31,
     RowLength = 32,
     CodeKind = 33,
+    ChannelNumber = 34,
+    SheetChannel = 35,
 }
 
 // Where a rule was broken: in the file's own block, or in a trace.

@@ -13,7 +13,7 @@ use lib.ListN.{length, take, drop, length-append, take-append-drop, length-drop}
 use lib.Seq.{length-take-le, take-append-seam, drop-append-seam, take-take}
 use lib.Dec.{ltb, eqb}
 use borrow.Author.Tests.{ne-eqb, ltb-false, eqb-true, eqb-false, not-false}
-use Rattle.word.specs.Tests.{both, never}
+use Rattle.word.specs.Tests.{both}
 use Rattle.word.specs.Part.{part, length-part, part-rest, part-split, part-part, part-drop, part-among}
 use Rattle.word.specs.Bytes.{Bytes, bytes-take, bytes-drop}
 use Rattle.word.specs.Word.{wordAt, bytesOf}
@@ -26,15 +26,12 @@ use Rattle.refusal.specs.declared.Rule.{Rule}
 use Rattle.refusal.specs.declared.Rule.the-variants.{StringOffset}
 use Rattle.refusal.specs.declared.Verdict.{Verdict}
 use Rattle.refusal.specs.declared.Verdict.the-variants.{Accepted, Refused}
-use Rattle.strings.specs.declared.Frame.{Frame}
 use Rattle.strings.specs.declared.Frame.the-variants.{End, Text, Broken}
-use Rattle.strings.specs.declared.Judged.{Judged}
 use Rattle.strings.specs.declared.Judged.the-variants.{Keyword, Wrong}
 use Rattle.strings.specs.declared.Step.{Step}
 use Rattle.strings.specs.declared.Step.the-variants.{Next, Done, Bad}
 use Rattle.strings.specs.declared.Place.{Place}
-use Rattle.strings.specs.declared.Found.{Found}
-use Rattle.strings.specs.declared.Found.the-variants.{Nothing, Is}
+use Rattle.strings.specs.declared.Found.the-variants.{Is}
 use Rattle.text.specs.declared.Manner.{Manner}
 use Rattle.text.specs.declared.Manner.the-variants.{Strict}
 use Rattle.chars.specs.Chars.{blank, solid, solid-not-blank}
@@ -43,11 +40,11 @@ use Rattle.text.specs.Order.{rises, repeats, rises-again, rises-transitive, ris
 use Rattle.text.specs.Manner.{openEnd, letter, letter-solid, named, follows}
 use Rattle.note.specs.Note.{LineEnd, value-accept, value-spelled}
 use Rattle.strings.specs.Strings.{offset, body, keyLen, keyOf, afterKey, gapLen, gapOf, valueOf, cut, frameRows}
-use Rattle.strings.specs.Strings.{endOrText, frameOf, textRows, judgedOf, onFrame, onJudged, stepOf, onStep}
+use Rattle.strings.specs.Strings.{endOrText, frameOf, textRows, judgedOf, onFrame, stepOf, onStep}
 use Rattle.strings.specs.Strings.{stringsFrom, stringsOf, placeOf, onText, placesFrom, placesOf, keyIn, valueIn}
-use Rattle.strings.specs.Strings.{nthOf, findOf, keyFound, valueFound}
+use Rattle.strings.specs.Strings.{nthOf, findOf, found, keyFound, valueFound}
 use Rattle.strings.specs.Frames.{cut-two, no-offset, frame-end, Framed, framed}
-use Rattle.strings.specs.Walks.{InFrame, in-frame, next-fits, next-bounds, judged-clear, keyLen-le, length-body}
+use Rattle.strings.specs.Walks.{InFrame, in-frame, next-fits, done-frame, next-bounds, judged-clear, keyLen-le, length-body}
 use Rattle.strings.specs.Spelled.{Str, GoodString, Rising, textOf, sizeOf, texts, Ends, Ends.mark, Ends.none}
 use Rattle.strings.specs.Spelled.{Spells, Spells.empty, Spells.full, nthStr, valueOfKey, hasKey, strIn, strsIn}
 
@@ -256,20 +253,7 @@ word-offset high l = refl
 -- a step to the end stands at the end
 done-ends : (how : Manner) (high : Bool) (t u : List ℕ) (p : Part) (prev l : List ℕ) (at : ℕ) → Bytes l → stepOf how high t u p prev l at ≡ Done
     → Ends how high l
-unfolding stepOf onFrame
-done-ends how high t u p prev l at by e = go (frameOf how high t l) refl e
-  where
-    stop : (o : ℕ) → onJudged (judgedOf how u prev (body t o l)) p at o ≡ Done → ⊥
-    stop o h = never (judgedOf how u prev (body t o l)) h
-      where
-        never : (j : Judged) → onJudged j p at o ≡ Done → ⊥
-        never (Keyword n) k = let z : _≡_ {A = ℕ} 0 1 = cc in omega arith
-        never (Wrong r) k = let z : _≡_ {A = ℕ} 0 1 = cc in omega arith
-
-    go : (w : Frame) → frameOf how high t l ≡ w → onFrame how w t u prev l p at ≡ Done → Ends how high l
-    go End f h = ended how high t l by f
-    go (Broken r) f h = let z : _≡_ {A = ℕ} 0 1 = cc in absurd (omega arith)
-    go (Text o) f h = absurd (stop o h)
+done-ends how high t u p prev l at by e = ended how high t l by (done-frame how high t u p prev l at e)
 
 abbrev Listed : Manner → Bool → List ℕ → List ℕ → List ℕ → List ℕ → Type 0
 Listed how high t u prev l = (ss : List Str) × (end : List ℕ) × Ends how high end × Rising how t u prev ss × (l ≡ texts high t ss end)
@@ -457,10 +441,6 @@ spelled-nth how f t u high a e ss i low fits h =
     )
 
 -- the value of a keyword, and whether it is there
-abbrev pub found : Found → Bool
-found Nothing = false
-found (Is s) = true
-
 find-value-in : (how : Manner) (f : List ℕ) (ps : List Place) (key : List ℕ) → valueFound f (findOf how f ps key) ≡ valueOfKey how (strsIn f ps) key
 unfolding valueFound findOf valueOfKey
 find-value-in how f [] key = refl

@@ -2,7 +2,7 @@
 -- bytes that are left of the area; a place is carried along only for refusals and answers. `how` is the manner of
 -- reading (text/Manner), `high` the byte order, t the string terminator, u the line terminator.
 -- Assumes nothing.
-use mathlib.Core.Bool.{Bool, not}
+use mathlib.Core.Bool.{Bool, true, false, not}
 use mathlib.Core.List.{List, [], _∷_}
 use Prim.Native.Nat.{ℕ, zero, suc, _+_, _-_, _≤_}
 use lib.ListN.{length, take, drop}
@@ -175,6 +175,10 @@ nthOf (s ∷ ss) (suc i) = nthOf ss i
 unfoldable pub findOf : Manner → List ℕ → List Place → List ℕ → Found
 findOf how f [] key = Nothing
 findOf how f (s ∷ ss) key = pick (same (named how (keyIn f s)) key) (Is s) (findOf how f ss key)
+
+abbrev pub found : Found → Bool
+found Nothing = false
+found (Is s) = true
 
 -- what an answer is of f: nothing is the empty part at the start
 unfoldable pub keyFound : List ℕ → Found → List ℕ

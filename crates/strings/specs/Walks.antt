@@ -89,6 +89,21 @@ next-fits how high t u p prev l at o n e = frames (frameOf how high t l) refl e
     frames (Broken r) f h = let z : _≡_ {A = ℕ} 0 1 = cc in absurd (omega arith)
     frames (Text q) f h = judges (judgedOf how u prev (body t q l)) q f refl h
 
+-- a step to the end stands where no string does
+pub done-frame : (how : Manner) (high : Bool) (t u : List ℕ) (p : Part) (prev l : List ℕ) (at : ℕ) → stepOf how high t u p prev l at ≡ Done
+    → frameOf how high t l ≡ End
+unfolding stepOf onFrame
+done-frame how high t u p prev l at e = go (frameOf how high t l) refl e
+  where
+    stop : (j : Judged) (o : ℕ) → onJudged j p at o ≡ Done → ⊥
+    stop (Keyword n) o k = let z : _≡_ {A = ℕ} 0 1 = cc in omega arith
+    stop (Wrong r) o k = let z : _≡_ {A = ℕ} 0 1 = cc in omega arith
+
+    go : (w : Frame) → frameOf how high t l ≡ w → onFrame how w t u prev l p at ≡ Done → frameOf how high t l ≡ End
+    go End f h = f
+    go (Broken r) f h = let z : _≡_ {A = ℕ} 0 1 = cc in absurd (omega arith)
+    go (Text o) f h = absurd (stop (judgedOf how u prev (body t o l)) o h)
+
 pub wrong-keyword : (n : ℕ) (r : Rule) → Wrong r ≡ Keyword n → ⊥
 wrong-keyword n r e = let z : _≡_ {A = ℕ} 0 1 = cc in omega arith
 

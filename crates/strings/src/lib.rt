@@ -1,20 +1,18 @@
-// The strings of an area: one string, a list of strings and the check of both (document 01, "Strings", rows 14 to 17).
-// Strings has the definitions, Spelled and Paper the second view: an area is accepted exactly where it spells a list of
-// strings, and only one. Stands on `text`, `word`, `refusal`. An area is the bytes of a file from place a to place e; t
-// is the string terminator, u the line terminator, `high` the byte order, `how` the manner of reading (text/Manner),
-// which is a parameter of every walk and question here.
+// The strings of an area: one string and a step of the check (document 01, "Strings", rows 14 to 17); `seek` checks a
+// whole area, `lookup` asks. Strings has the definitions, Spelled and Paper the second view: an area is
+// accepted exactly where it spells a list of strings, and only one. Stands on `text`, `word`, `refusal`. An area is the
+// bytes of a file from place a to place e; t is the string terminator, u the line terminator, `high` the byte order,
+// `how` the manner of reading (text/Manner), which is a parameter of every walk and question here.
 // The rules in words: docs/FORMAT.md, "Strings".
 use chars::Kind;
 use refusal::Part;
 use refusal::Refusal;
 use refusal::Rule;
-use refusal::Verdict;
 use text::Manner;
 ghost use mathlib.Core.Path.{_≡_};
-ghost use Prim.Native.Nat.{_≤_, _<_};
+ghost use Prim.Native.Nat.{_<_};
 ghost use lib.ListN.{length};
-ghost use Rattle.word.specs.Part.{part};
-ghost use Rattle.strings.specs.Strings.{cut, frameOf, judgedOf, stepOf, stringsOf};
+ghost use Rattle.strings.specs.Strings.{cut, frameOf, judgedOf, stepOf};
 
 // What an area has at a string's place: the end of the list, a string of so many bytes in all, or a frame that is
 // broken.
@@ -123,7 +121,7 @@ fn judge(b: &[u8], u: &[u8], prev: &[u8], how: Manner) -> Judged
 }
 
 // Rows 14 to 17 of the string that l starts with, which stands at place `at` of the file.
-fn step_at(
+pub fn step_at(
     l: &[u8],
     high: bool,
     t: &[u8],
@@ -158,50 +156,4 @@ fn step_at(
             }
         }
     }
-}
-
-// The check of the area from a to e of f. The keyword before is the file's own bytes from k to g.
-pub fn check(
-    f: &[u8],
-    a: usize,
-    e: usize,
-    high: bool,
-    t: &[u8],
-    u: &[u8],
-    whose: Part,
-    how: Manner,
-) -> Verdict
-    requires { ⌜ (a ≤ e) × (e ≤ length (now f)) × (0 < length (now u)) ⌝ }
-    ensures { λ r. ⌜ r ≡ stringsOf how high (now (t .entry)) (now (u .entry)) whose (part a e (now (f .entry))) a ⌝ }
-{
-    if e <= a {
-        return Verdict::Accepted;
-    }
-    let mut at = a;
-    let mut k = a;
-    let mut g = a;
-    while at < e {
-        let s = step_at(&f[at..e], high, t, u, whose, &f[k..g], at, how);
-        match s {
-            Step::Bad(r) => {
-                return Verdict::Refused(r);
-            }
-            Step::Done => {
-                return Verdict::Accepted;
-            }
-            Step::Next(o, n) => {
-                k = at + 2;
-                g = k + n;
-                at += o;
-            }
-        }
-    }
-    if text::open_end(how) {
-        return Verdict::Accepted;
-    }
-    Verdict::Refused(Refusal {
-        rule: Rule::StringOffset,
-        part: whose,
-        place: at,
-    })
 }

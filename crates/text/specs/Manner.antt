@@ -26,6 +26,10 @@ named Strict = λ k. k
 abbrev pub follows : Manner → List ℕ → List ℕ → Bool
 follows Strict = rises
 
+-- whether channel numbers stand in all traces of a file or in none, each a good one (document 02 §7)
+abbrev pub asksChannels : Manner → Bool
+asksChannels Strict = true
+
 -- so far there is one; a match on it tells the code nothing
 pub one-manner : (how : Manner) → how ≡ Strict
 one-manner Strict = refl

@@ -9,7 +9,7 @@ ghost use lib.ListN.{length};
 ghost use Rattle.chars.specs.Chars.{note};
 ghost use Rattle.chars.specs.Runs.{run, same};
 ghost use Rattle.text.specs.Order.{less, before, repeats, rises};
-ghost use Rattle.text.specs.Manner.{openEnd, letter, named, follows};
+ghost use Rattle.text.specs.Manner.{openEnd, letter, named, follows, asksChannels};
 
 // The manner of reading strings: `specs/Manner.antt` has what it decides. Strict is document 01's.
 pub enum Manner {
@@ -93,6 +93,15 @@ pub fn open_end(how: Manner) -> bool
 {
     match how {
         Manner::Strict => false,
+    }
+}
+
+// Whether channel numbers stand in all traces or in none.
+pub fn asks_channels(how: Manner) -> bool
+    ensures { λ r. ⌜ r ≡ asksChannels how ⌝ }
+{
+    match how {
+        Manner::Strict => true,
     }
 }
 

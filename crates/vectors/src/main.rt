@@ -12,6 +12,7 @@ use location::LocationAnswer;
 use refusal::Part;
 use refusal::Verdict;
 use refusal::Written;
+use seek::Checked;
 use strings::Found;
 use text::Manner;
 
@@ -109,7 +110,7 @@ fn unfit(value: i32) -> bool {
 
 // Strings with the string terminator 00 and the line terminator 0A 0D, low byte first.
 fn accepted(area: &[u8]) -> bool {
-    let v = strings::check(
+    let v = seek::check(
         area,
         0,
         area.len(),
@@ -117,11 +118,12 @@ fn accepted(area: &[u8]) -> bool {
         b"\x00",
         b"\x0a\x0d",
         Part::File,
+        b"",
         Manner::Strict,
     );
     match v {
-        Verdict::Accepted => true,
-        Verdict::Refused(_) => false,
+        Checked::Has(_, _, _) => true,
+        Checked::Refused(_) => false,
     }
 }
 

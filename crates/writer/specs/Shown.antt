@@ -1,5 +1,6 @@
--- When a trace is added: exactly where none of the rows of document 01 ("Adding: 1 to 17, then 24 .. 30") is met. So no
--- addition is refused that could be made, and the length that is answered is the layout's.
+-- When a trace is added: exactly where none of the rows of document 01 ("Adding: 1 to 17, then 24 .. 30") and of
+-- document 02 (34, 35) is met. So no addition is refused that could be made, and the length that is answered is the
+-- layout's.
 -- Assumes nothing.
 use mathlib.Core.Path.{_≡_, refl}
 use mathlib.Core.Bool.{Bool, true, false, not}
@@ -37,7 +38,7 @@ use Rattle.refusal.specs.declared.Written.the-variants.{To, Refused}
 use Rattle.layout.specs.Layout.{Trace, Samples, fitting, unfit}
 use Rattle.start.specs.Start.{within}
 use Rattle.append.specs.Grown.{newLength, grown}
-use Rattle.writer.specs.Answers.{noSlot, areaAnswer, onFit, samplesVerdict, addAnswer, addLeft}
+use Rattle.writer.specs.Answers.{noSlot, wrongChannel, withRow, takenOf, areaAnswer, onFit, samplesVerdict, addAnswer, addLeft}
 use Rattle.start.specs.StartShown.{not-refused, from-measured, from-within, to-within, as-area}
 
 -- ---- from an answer back through the rows
@@ -57,6 +58,11 @@ from-slot : (w : Bool) (r : Refusal) (m : Measured) (b : ℕ) → pick w (measur
 from-slot true r m b e = absurd (not-size r b e)
 from-slot false r m b e = (refl, e)
 
+from-row : (w : Bool) (m : Measured) (b : ℕ) → withRow w m ≡ measured.Size b → (w ≡ false) × (m ≡ measured.Size b)
+from-row true (measured.Size a) b e = absurd (not-size _ b e)
+from-row false (measured.Size a) b e = (refl, e)
+from-row w (measured.Refused r) b e = absurd (not-size r b e)
+
 from-kind : (w : Bool) (r : Refusal) (v : Verdict) → pick w (verdict.Refused r) v ≡ verdict.Accepted → (w ≡ false) × (v ≡ verdict.Accepted)
 from-kind true r v e = absurd (refused-not r e)
 from-kind false r v e = (refl, e)
@@ -74,29 +80,37 @@ room-small f by = word-small 2 (highFirst f) f 4 by
 
 -- row 1 and rows 2 to 7
 pub placed : (purpose : Purpose) (xs : List ℕ) (n : ℕ) → checkOf Strict purpose xs n ≡ verdict.Accepted
-    → ((32 ≤ n) × (n ≤ maximum) × (n ≤ length xs)) × Headed purpose (take n xs)
+    → ((32 ≤ n) × (n ≤ maximum) × (n ≤ length xs)) × Headed purpose (take n xs) × (imageOf Strict purpose (take n xs) ≡ verdict.Accepted)
 unfolding checkOf
 placed purpose xs n e = go (badLength (length xs) n) refl e
   where
     go : (w : Bool) → badLength (length xs) n ≡ w → pick w (refused Length 0) (imageOf Strict purpose (take n xs)) ≡ verdict.Accepted
-        → ((32 ≤ n) × (n ≤ maximum) × (n ≤ length xs)) × Headed purpose (take n xs)
+        → ((32 ≤ n) × (n ≤ maximum) × (n ≤ length xs)) × Headed purpose (take n xs) × (imageOf Strict purpose (take n xs) ≡ verdict.Accepted)
     go true q h = absurd (refused-not _ h)
-    go false q h = (long-enough (length xs) n q, image-headed Strict purpose (take n xs) h)
+    go false q h = (long-enough (length xs) n q, image-headed Strict purpose (take n xs) h, h)
 
--- rows 1 to 17 and 24 to 27
+-- rows 1 to 17 and 34, 24 to 27 and 35
 pub record Opened (xs : List ℕ) (n : ℕ) (sheet : List ℕ) (size : ℕ) : Type 0 where
   pub accepted : checkOf Strict Grow xs n ≡ verdict.Accepted
   pub most : n ≤ maximum
   pub slot : 4 * countOf (take n xs) + 4 ≤ roomOf (take n xs)
   pub measured : measuredOf (stringEnd (take n xs)) (lineEnd (take n xs)) sheet ≡ measured.Size size
+  pub channel : wrongChannel (take n xs) sheet ≡ false
 
 pub opened : (xs : List ℕ) (n : ℕ) (sheet : List ℕ) (size : ℕ) → areaAnswer xs n sheet ≡ measured.Size size → Opened xs n sheet size
-unfolding areaAnswer
+unfolding areaAnswer takenOf
 opened xs n sheet size e =
     let f : List ℕ = take n xs in
     let v = from-verdict (checkOf Strict Grow xs n) _ size e in
-    let s = from-slot (noSlot (roomOf f) (countOf f)) (refusal NoSlot File 0) (measuredOf (stringEnd f) (lineEnd f) sheet) size (v .1) in
-    record { accepted = v .0; most = placed Grow xs n (v .0) .0 .1; slot = ltb-false (roomOf f) (4 * countOf f + 4) (s .0); measured = s .1 }
+    let s = from-slot (noSlot (roomOf f) (countOf f)) (refusal NoSlot File 0) (takenOf f sheet) size (v .1) in
+    let m = from-row (wrongChannel f sheet) (measuredOf (stringEnd f) (lineEnd f) sheet) size (s .1) in
+    record {
+      accepted = v .0;
+      most = placed Grow xs n (v .0) .0 .1;
+      slot = ltb-false (roomOf f) (4 * countOf f + 4) (s .0);
+      measured = m .1;
+      channel = m .0;
+    }
 
 -- rows 28 and 29
 pub samples-fit : (code : ℕ) (x : Samples) → samplesVerdict code x ≡ verdict.Accepted → (fitting code x ≡ true) × (unfit code x ≡ All)
@@ -112,6 +126,7 @@ pub record Added (xs : List ℕ) (n : ℕ) (x : Trace) (end : ℕ) : Type 0 wher
   pub slot : 4 * countOf (take n xs) + 4 ≤ roomOf (take n xs)
   pub sized : measuredOf (stringEnd (take n xs)) (lineEnd (take n xs)) (x .sheet)
       ≡ measured.Size (areaSize (stringEnd (take n xs)) (lineEnd (take n xs)) (x .sheet))
+  pub channel : wrongChannel (take n xs) (x .sheet) ≡ false
   pub kind : fitting (x .code) (x .samples) ≡ true
   pub held : unfit (x .code) (x .samples) ≡ All
   pub new : newLength (take n xs) n x ≡ end
@@ -131,6 +146,7 @@ added xs n x end e =
       accepted = o .accepted;
       slot = o .slot;
       sized = as-area (stringEnd f) (lineEnd f) (x .sheet) (a .0) (o .measured);
+      channel = o .channel;
       kind = s .0;
       held = s .1;
       new = c .0;
@@ -139,10 +155,10 @@ added xs n x end e =
     }
 
 pub adds : (xs : List ℕ) (n : ℕ) (x : Trace) (end : ℕ) → Added xs n x end → addAnswer xs n x ≡ To end
-unfolding addAnswer areaAnswer samplesVerdict
+unfolding addAnswer areaAnswer takenOf samplesVerdict
 adds xs n x end h =
     let s : 4 * countOf (take n xs) + 4 ≤ roomOf (take n xs) = h .slot in
-    rw (h .accepted, le-ltb (roomOf (take n xs)) (4 * countOf (take n xs) + 4) s, h .sized, h .kind, h .held)
+    rw (h .accepted, le-ltb (roomOf (take n xs)) (4 * countOf (take n xs) + 4) s, h .sized, h .channel, h .kind, h .held)
     (to-within (length xs) (newLength (take n xs) n x) end (h .new) (h .in-buffer) (h .in-maximum))
 
 -- the lent buffer at the end: grown where a length is answered, and "a refusal .. changes no caller's memory"

@@ -6,8 +6,14 @@ use seg2_reference::{file_of, start, Order, Row, TraceGiven};
 
 /// A few strings, as a seismograph writes them into each trace.
 pub fn trace_sheet(channel: usize) -> Vec<u8> {
+    let number = format!("CHANNEL_NUMBER\t{channel}\n");
+    [number.as_bytes(), &unnumbered_sheet(channel)].concat()
+}
+
+/// The same without the channel number.
+pub fn unnumbered_sheet(channel: usize) -> Vec<u8> {
     format!(
-        "CHANNEL_NUMBER\t{channel}\nDELAY\t-0.010\nDESCALING_FACTOR\t0.000122\n\
+        "DELAY\t-0.010\nDESCALING_FACTOR\t0.000122\n\
          RECEIVER_LOCATION\t{}.5 0 0\nSAMPLE_INTERVAL\t0.000250\nSOURCE_LOCATION\t-12.0 0 0\nSTACK\t4\n",
         2 * channel
     )

@@ -2,7 +2,7 @@
 //! same buffers in one run. Usage: `seg2_bench [ROUNDS]`.
 
 use seg2::calls;
-use seg2_bench::files::{file, file_of_one, file_with, started, trace_sheet};
+use seg2_bench::files::{file, file_of_one, file_with, started, trace_sheet, unnumbered_sheet};
 use seg2_bench::time::{least, Work};
 use seg2_bench::{plain, plain_file, processor};
 use seg2_reference::{trace_block, Order, Row};
@@ -30,6 +30,7 @@ fn main() {
     }
     println!("Least times of {rounds} rounds, the kinds of work by turns that change from round to round.");
     checks(rounds);
+    channels(rounds);
     long_texts(rounds);
     values(rounds);
     each_trace(rounds);
@@ -148,6 +149,32 @@ fn checks(rounds: usize) {
                 a / b,
                 a / c
             );
+        }
+    }
+}
+
+/// The traces' sheet by the channel.
+type SheetOf = fn(usize) -> Vec<u8>;
+
+/// Both sides keep the rule of document 02, section 7, in the one pass over the strings.
+fn channels(rounds: usize) {
+    println!("\nCheck of a file with channel numbers in all traces, which have seven strings each, and in none: the other six.\n");
+    println!("| traces | channel numbers | order | proved us | plain us | proved/plain |");
+    println!("|---|---|---|---|---|---|");
+    let sheets: [(&str, SheetOf); 2] = [("in all", trace_sheet), ("in none", unnumbered_sheet)];
+    for traces in [24, 2_000] {
+        for (name, sheet) in sheets {
+            for order in [0, 1] {
+                let file = file_with(order, traces, 1_000, |k| sheet(k + 1));
+                let [a, b, _] = checked(&mut Copied::new(file), rounds);
+                println!(
+                    "| {traces} | {name} | {} | {:.2} | {:.2} | {:.2} |",
+                    order_name(order),
+                    a / 1e3,
+                    b / 1e3,
+                    a / b
+                );
+            }
         }
     }
 }

@@ -52,6 +52,8 @@ pub struct Checked<'a> {
     n: usize,
     string: &'a [u8],
     line: &'a [u8],
+    /// Whether the traces have channel numbers, by trace 0.
+    channels: bool,
 }
 
 fn two<const HIGH: bool>(bytes: [u8; 2]) -> usize {
@@ -73,7 +75,7 @@ fn at<const N: usize>(file: &[u8], place: usize) -> [u8; N] {
     file[place..place + N].try_into().unwrap_or([0; N])
 }
 
-/// Rows 1 to 17; `grow` also takes N=0.
+/// Rows 1 to 17 and 34; `grow` also takes N=0.
 pub fn check(buffer: &[u8], length: usize, grow: bool) -> Result<Checked<'_>, Refused> {
     if !(32..=MOST).contains(&length) || length > buffer.len() {
         return Err((1, -1, 0));
@@ -87,7 +89,7 @@ pub fn check(buffer: &[u8], length: usize, grow: bool) -> Result<Checked<'_>, Re
 }
 
 fn checked<const HIGH: bool>(file: &[u8], grow: bool) -> Result<Checked<'_>, Refused> {
-    let found = head::<HIGH>(file, grow)?;
+    let mut found = head::<HIGH>(file, grow)?;
     let start = 32 + found.m;
     if found.n == 0 {
         strings::<HIGH>(&found, -1, start, file.len())?;
@@ -97,7 +99,7 @@ fn checked<const HIGH: bool>(file: &[u8], grow: bool) -> Result<Checked<'_>, Ref
     strings::<HIGH>(&found, -1, start, first)?;
     let mut end = start;
     for k in 0..found.n {
-        end = trace::<HIGH>(&found, k, end)?;
+        end = trace::<HIGH>(&mut found, k, end)?;
     }
     Ok(found)
 }
@@ -131,6 +133,7 @@ fn head<const HIGH: bool>(file: &[u8], grow: bool) -> Result<Checked<'_>, Refuse
         n,
         string,
         line,
+        channels: false,
     })
 }
 
@@ -153,8 +156,8 @@ fn pointer<const HIGH: bool>(found: &Checked, k: usize, end: usize) -> Result<us
     }
 }
 
-/// Rows 8 to 17 of trace k; where it ends.
-fn trace<const HIGH: bool>(found: &Checked, k: usize, end: usize) -> Result<usize, Refused> {
+/// Rows 8 to 17 and 34 of trace k; where it ends.
+fn trace<const HIGH: bool>(found: &mut Checked, k: usize, end: usize) -> Result<usize, Refused> {
     let (file, part) = (found.file, k as i32);
     let p = pointer::<HIGH>(found, k, end)?;
     let fixed: [u8; 32] = at(file, p);
@@ -180,19 +183,46 @@ fn trace<const HIGH: bool>(found: &Checked, k: usize, end: usize) -> Result<usiz
     if fixed[12] == 3 && s % 4 != 0 || needed > d {
         return Err((13, part, p + 8));
     }
-    strings::<HIGH>(found, part, p + 32, p + b)?;
+    let channel = strings::<HIGH>(found, part, p + 32, p + b)?;
+    if k == 0 {
+        found.channels = channel.is_some();
+    }
+    if !fits(channel, found.channels) {
+        return Err((34, part, p + 32));
+    }
     Ok(p + b + d)
 }
 
-/// Rows 14 to 17 of the area between two places.
-fn strings<const HIGH: bool>(
-    found: &Checked,
+const CHANNEL: &[u8] = b"CHANNEL_NUMBER";
+
+/// Whether a trace has a good channel number or none, as the others have.
+fn fits(channel: Option<&[u8]>, others: bool) -> bool {
+    match channel {
+        Some(value) => others && is_channel(value),
+        None => !others,
+    }
+}
+
+/// 1 to 32,767 in at most 18 digits.
+fn is_channel(value: &[u8]) -> bool {
+    let push = |number: u64, &c: &u8| match c.wrapping_sub(b'0') {
+        digit @ 0..=9 => Some(10 * number + u64::from(digit)),
+        _ => None,
+    };
+    let number = || value.iter().try_fold(0, push);
+    value.len() <= 18 && number().is_some_and(|n| (1..=32_767).contains(&n))
+}
+
+/// Rows 14 to 17 of the area between two places; the value of its channel number.
+fn strings<'a, const HIGH: bool>(
+    found: &Checked<'a>,
     part: i32,
     start: usize,
     end: usize,
-) -> Result<(), Refused> {
+) -> Result<Option<&'a [u8]>, Refused> {
+    let mut channel = None;
     if start >= end {
-        return Ok(());
+        return Ok(channel);
     }
     let mut rest = &found.file[start..end];
     let mut previous: &[u8] = &[];
@@ -204,7 +234,7 @@ fn strings<const HIGH: bool>(
         };
         let offset = two::<HIGH>([a, b]);
         if offset == 0 {
-            return Ok(());
+            return Ok(channel);
         }
         if offset < 3 + found.string.len() || offset > rest.len() {
             return refused(14);
@@ -230,6 +260,9 @@ fn strings<const HIGH: bool>(
         }
         if !note && previous >= key && !again(previous, key) || previous == b"NOTE" {
             return refused(17);
+        }
+        if key == CHANNEL {
+            channel = Some(value);
         }
         previous = key;
         rest = next;
@@ -316,7 +349,7 @@ fn area(found: &Checked, part: i32) -> Result<(usize, usize), Refused> {
 }
 
 /// The data block of a trace whose code is one of these, rows of whose samples have such
-/// lengths: rows 1 to 17, 18, 33, 32; with its code.
+/// lengths: rows 1 to 17 and 34, 18, 33, 32; with its code.
 fn data<'a>(
     found: &Checked<'a>,
     trace: i32,
@@ -357,7 +390,7 @@ pub fn bits(
     Ok(())
 }
 
-/// A trace of integers behind the image: rows 1 to 17, then 24 to 30.
+/// A trace of integers behind the image: rows 1 to 17 and 34, then 24 to 27, 35, 28 to 30.
 pub fn add_integers(
     buffer: &mut [u8],
     length: usize,
@@ -421,7 +454,16 @@ fn add(
     if n >= found.m / 4 {
         return Err((24, -1, 0));
     }
-    let area = area_size(sheet, found.string.len(), found.line.len())?;
+    let (area, channel) = area_size(sheet, found.string.len(), found.line.len())?;
+    // A first trace chooses.
+    let others = if n == 0 {
+        channel.is_some()
+    } else {
+        found.channels
+    };
+    if !fits(channel, others) {
+        return Err((35, -1, 0));
+    }
     samples()?;
     let data = needed.next_multiple_of(4);
     let p = length.next_multiple_of(4);
@@ -492,8 +534,9 @@ fn line_of(rest: &[u8]) -> Option<(usize, usize)> {
     Some((length, letters))
 }
 
-/// Rows 25 to 27, and the area's size.
-fn area_size(sheet: &[u8], string: usize, line: usize) -> Result<usize, Refused> {
+/// Rows 25 to 27; the area's size, and the value of the sheet's channel number.
+fn area_size(sheet: &[u8], string: usize, line: usize) -> Result<(usize, Option<&[u8]>), Refused> {
+    let mut channel = None;
     let mut size = 2;
     let mut start = 0;
     let mut previous: &[u8] = &[];
@@ -517,13 +560,16 @@ fn area_size(sheet: &[u8], string: usize, line: usize) -> Result<usize, Refused>
             true => line + value.len(),
             false => 3 + letters + value.len() + string,
         };
+        if key == CHANNEL {
+            channel = Some(value);
+        }
         previous = key;
         start += length + 1;
     }
     let size = size.next_multiple_of(4);
     match size > 65_500 {
         true => Err((27, -1, 0)),
-        false => Ok(size),
+        false => Ok((size, channel)),
     }
 }
 

@@ -5,9 +5,11 @@ use seg2_bench::{plain, plain_file};
 use seg2_reference as reference;
 use seg2_reference::generate::writing::{some_integers, some_patterns};
 use seg2_reference::generate::{
-    addition_case, damaged, mutated, sample_case, several_damages, Model, Rng, SampleQuestion, WAYS,
+    addition_case, damaged, mutated, plain_file, sample_case, several_damages, Model, PlainTrace,
+    Rng, SampleQuestion, WAYS,
 };
 use seg2_reference::samples::{encode_bits, encode_integers};
+use seg2_reference::worked::{CHANNEL_NUMBERS, NO_CHANNEL_NUMBERS};
 use seg2_reference::{Order, Refusal, Row};
 
 fn told(refusal: Refusal) -> plain_file::Refused {
@@ -86,6 +88,7 @@ fn values() {
 #[test]
 fn additions() {
     let mut rng = Rng::new(803);
+    let mut met = std::collections::BTreeSet::new();
     for _ in 0..8_000 {
         let case = addition_case(&mut rng);
         let mut buffer = case.buffer.clone();
@@ -96,6 +99,30 @@ fn additions() {
         };
         assert_eq!(answer, case.expected.map_err(told));
         assert!(buffer == case.after);
+        met.insert(answer.map_or_else(|refused| refused.0, |_| 0));
+    }
+    assert!([0, 27, 28, 34, 35]
+        .iter()
+        .all(|number| met.contains(number)));
+}
+
+/// Document 02, §7: the values by hand, in a trace and in a sheet.
+#[test]
+fn channel_numbers() {
+    for (values, good) in [(CHANNEL_NUMBERS, true), (NO_CHANNEL_NUMBERS, false)] {
+        for value in values {
+            let string = format!("CHANNEL_NUMBER {value}");
+            let strings = [string.as_bytes()];
+            let bytes = plain_file(Order::High, &[], &[PlainTrace::of_strings(&strings)]);
+            checks_alike(&bytes, bytes.len());
+            let answer = plain_file::check(&bytes, bytes.len(), false);
+            assert_eq!(answer.is_ok(), good, "{value}");
+            let mut buffer = vec![0; 200];
+            let length = reference::start(&mut buffer, 0, 1, b"").expect("room");
+            let sheet = format!("CHANNEL_NUMBER\t{value}\n");
+            let answer = plain_file::add_integers(&mut buffer, length, sheet.as_bytes(), 1, &[1]);
+            assert_eq!(answer.map(|_| ()).err(), (!good).then_some((35, -1, 0)));
+        }
     }
 }
 

@@ -8,8 +8,9 @@ use seg2_reference::generate::lay::two;
 use seg2_reference::generate::model::{AreaModel, End, SamplesModel, StringModel};
 use seg2_reference::generate::writing::row_for;
 use seg2_reference::generate::{
-    damaged, forged_number, good_sheet, location_case, mutated, number_case, several_damages,
-    sheet_case, Model, Rng, Way, WAYS,
+    bad_channel, channel_for, damaged, forged_number, good_channel, good_sheet, location_case,
+    mutated, number_case, several_damages, sheet_case, sheet_of_a_start, with_channel, Model, Rng,
+    Way, WAYS,
 };
 use seg2_reference::Order;
 
@@ -68,6 +69,9 @@ pub fn numbers(rng: &mut Rng) -> Case {
     model.traces.truncate(4);
     for part in -1..model.traces.len() as i64 {
         *model.area_mut(part) = number_area(rng);
+    }
+    if rng.one_in(2) {
+        model.number_traces(rng);
     }
     let laid = model.lay();
     let (mut buffer, length) = (laid.buffer, laid.length);
@@ -176,6 +180,21 @@ fn mutate(rng: &mut Rng, bytes: &mut Vec<u8>) {
     }
 }
 
+/// A trace's sheet for a file whose traces have channel numbers or have none (`None` where
+/// it has no traces): most often the file takes it (document 02, §7).
+fn trace_sheet(rng: &mut Rng, channels: Option<bool>) -> Vec<u8> {
+    let sheet = sheet(rng);
+    numbered(rng, sheet, channels)
+}
+
+/// The sheet with a channel number or without one, most often as the file's traces have it.
+fn numbered(rng: &mut Rng, sheet: Vec<u8>, channels: Option<bool>) -> Vec<u8> {
+    match channel_for(rng, channels).0 {
+        Some(value) => with_channel(&sheet, &value),
+        None => sheet,
+    }
+}
+
 /// Good, broken, changed, and once in twenty times about as large as allowed.
 fn sheet(rng: &mut Rng) -> Vec<u8> {
     match rng.between(0, 19) {
@@ -222,6 +241,7 @@ pub fn started(rng: &mut Rng) -> Case {
         false => rng.pick(&[1, 1, 2, 7, 50, 16_383]),
     };
     let sheet = sheet(rng);
+    let sheet = sheet_of_a_start(rng, sheet);
     let mut trial = vec![0; 32 + 4 * 16_383 + 2 * sheet.len() + 8];
     let length = reference::start(&mut trial, order, slots.into(), &sheet);
     let room = room_for(rng, length.unwrap_or(200));
@@ -236,8 +256,9 @@ pub fn started(rng: &mut Rng) -> Case {
     case(rng, kind)
 }
 
-/// A trace to add: sheet, code and row good, or one of them not.
-fn given(rng: &mut Rng) -> Given {
+/// A trace to add, to a file whose traces have channel numbers or have none: sheet, code and
+/// row good, or one of them not.
+fn given(rng: &mut Rng, channels: Option<bool>) -> Given {
     let good = rng.between(1, 5) as u32;
     let wrong = rng.pick(&[0, 1, 2, 3, 4, 5, 6, 7, 255, 256 + 1, 256 + 4, u32::MAX]);
     let count = match rng.one_in(4) {
@@ -251,7 +272,7 @@ fn given(rng: &mut Rng) -> Given {
     let wild = rng.one_in(6);
     let row = row_for(rng, good as u8, count, wild);
     Given {
-        sheet: sheet(rng),
+        sheet: trace_sheet(rng, channels),
         code: if rng.one_in(10) { wrong } else { good },
         row,
     }
@@ -267,11 +288,12 @@ fn length_with(buffer: &[u8], length: usize, given: &Given) -> Option<usize> {
 
 /// An addition to a file or an image of any maker.
 pub fn added(rng: &mut Rng) -> Case {
-    let laid = match rng.one_in(3) {
-        true => Model::image(rng).lay(),
-        false => Model::random(rng).lay(),
+    let model = match rng.one_in(3) {
+        true => Model::image(rng),
+        false => Model::random(rng),
     };
-    let given = given(rng);
+    let laid = model.lay();
+    let given = given(rng, model.traces_have_channels());
     let length = laid.length;
     let mut buffer = laid.buffer[..length].to_vec();
     let room = length_with(&buffer, length, &given).unwrap_or(length + 100);
@@ -285,7 +307,7 @@ pub fn added(rng: &mut Rng) -> Case {
     case(rng, kind)
 }
 
-/// An addition to what keeps the rules no more: rows 1 to 17 come first.
+/// An addition to what keeps the rules no more: the rows of the check come first.
 pub fn added_to_broken(rng: &mut Rng) -> Case {
     let (mut buffer, length) = match rng.one_in(2) {
         true => mutated(rng),
@@ -300,23 +322,28 @@ pub fn added_to_broken(rng: &mut Rng) -> Case {
     let kind = Kind::Added {
         buffer,
         length,
-        given: given(rng),
+        given: given(rng, None),
     };
     case(rng, kind)
 }
 
 /// A trace that most often can be added.
-fn step(rng: &mut Rng) -> Given {
-    let mut step = given(rng);
+fn step(rng: &mut Rng, channels: bool) -> Given {
+    let mut step = given(rng, Some(channels));
     if !rng.one_in(3) {
-        step.sheet = good_sheet(rng).sheet;
+        let good = good_sheet(rng).sheet;
+        step.sheet = numbered(rng, good, Some(channels));
     }
     step
 }
 
-fn steps(rng: &mut Rng) -> Vec<Given> {
+/// Traces that most often have channel numbers as those have that are there. Where there
+/// are none, the first that is taken chooses for the others, and may choose otherwise than
+/// they do.
+fn steps(rng: &mut Rng, channels: Option<bool>) -> Vec<Given> {
+    let channels = channels.unwrap_or_else(|| rng.one_in(2));
     let count = rng.between(1, 7);
-    (0..count).map(|_| step(rng)).collect()
+    (0..count).map(|_| step(rng, channels)).collect()
 }
 
 /// Most often room for all, sometimes only for some.
@@ -329,15 +356,16 @@ fn some_room(rng: &mut Rng) -> usize {
 
 /// A start and a list of additions, refused ones in between.
 pub fn grown(rng: &mut Rng) -> Case {
+    let sheet = good_sheet(rng).sheet;
     let start = Start {
         order: rng.between(0, 1) as u32,
         slots: rng.between(1, 7) as u32,
-        sheet: good_sheet(rng).sheet,
+        sheet: sheet_of_a_start(rng, sheet),
     };
     let kind = Kind::Grown {
         base: Base::Start(start),
         room: some_room(rng),
-        steps: steps(rng),
+        steps: steps(rng, None),
     };
     case(rng, kind)
 }
@@ -349,6 +377,10 @@ pub fn grown_from_image(rng: &mut Rng) -> Case {
         false => Model::random(rng),
     };
     model.traces.truncate(5);
+    let channels = model.traces_have_channels();
+    if rng.one_in(8) {
+        break_channels(rng, &mut model);
+    }
     let laid = model.lay();
     let room = laid.length + some_room(rng);
     let kind = Kind::Grown {
@@ -356,9 +388,25 @@ pub fn grown_from_image(rng: &mut Rng) -> Case {
             image: laid.buffer[..laid.length].to_vec(),
         },
         room,
-        steps: steps(rng),
+        steps: steps(rng, channels),
     };
     case(rng, kind)
+}
+
+/// Some trace's channel number is bad, or only some of the traces have one: no addition
+/// takes such a file.
+fn break_channels(rng: &mut Rng, model: &mut Model) {
+    let count = model.traces.len();
+    if count == 0 {
+        return;
+    }
+    let area = &mut model.traces[rng.between(0, count - 1)].area;
+    let value = match (rng.one_in(2), area.channel()) {
+        (true, _) => bad_channel(rng),
+        (false, None) => good_channel(rng),
+        (false, Some(_)) => return area.drop_channel(),
+    };
+    area.put_channel(rng, value);
 }
 
 /// What a user may type: most often a number, or nearly; sometimes any bytes.

@@ -80,7 +80,7 @@ pub fn expected(call: Call, length: usize, memory: &mut Memory) -> Answer {
     }
 }
 
-fn told<T>(answer: Result<T, Refusal>, good: impl FnOnce(T) -> Answer) -> Answer {
+pub(crate) fn told<T>(answer: Result<T, Refusal>, good: impl FnOnce(T) -> Answer) -> Answer {
     match answer {
         Ok(value) => good(value),
         Err(refusal) => Answer::refused(

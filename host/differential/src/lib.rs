@@ -17,12 +17,14 @@
 //! - [`run`]: many cases from a seed.
 //! - [`shrink`]: a smaller case with a difference.
 //! - `guarded`: lent memory beside pages that cannot be touched (Linux).
-//! - [`spoiled`]: libraries with one fault, which the comparison has to notice.
+//! - [`spoiled`], [`channels`]: libraries with one fault, which the comparison has to
+//!   notice.
 
 pub mod answer;
 pub mod asking;
 pub mod call;
 pub mod case;
+pub mod channels;
 pub mod draw;
 pub mod expected;
 pub mod growing;

@@ -16,7 +16,7 @@ fn starts() {
 #[test]
 fn additions() {
     let tally = all_alike(302, 40_000, draw::added);
-    for number in 24..=30 {
+    for number in (24..=30).chain([35]) {
         assert!(tally.met[number] > 100, "{number}: {:?}", tally.met);
     }
 }

@@ -1,6 +1,7 @@
 //! The check of a whole file: document 01, "The file block", "The trace block"
-//! and rows 1 to 17 of its table, in the table's order.
+//! and rows 1 to 17 of its table, in the table's order; row 34 of document 02, §7.
 
+use crate::channel::{breaks_the_rule, CHANNEL_NUMBER};
 use crate::refusal::{refuse_if, Refusal, FILE_PART};
 use crate::samples::needed_bytes;
 use crate::strings::{Area, StringPlace, Terminators};
@@ -55,7 +56,7 @@ impl Trace {
     }
 }
 
-/// Rows 1 to 17 on the first `length` bytes of the buffer.
+/// Rows 1 to 17 and 34 on the first `length` bytes of the buffer.
 pub fn check(buffer: &[u8], length: usize) -> Result<File, Refusal> {
     check_as(buffer, length, Purpose::Reading)
 }
@@ -73,7 +74,7 @@ enum Purpose {
 }
 
 /// "1 to 7 first, then the first pointer, then the file's strings, then each
-/// trace 8 to 17."
+/// trace 8 to 17"; 34 "after 17 within each trace".
 fn check_as(buffer: &[u8], length: usize, purpose: Purpose) -> Result<File, Refusal> {
     let image = image(buffer, length)?;
     let head = Head::check(image, purpose)?;
@@ -148,13 +149,14 @@ impl<'a> Head<'a> {
         Ok(p)
     }
 
-    /// Each trace's rows 8 to 17, one trace after the other.
+    /// Each trace's rows 8 to 17 and 34, one trace after the other.
     fn traces(&self, room_end: u64) -> Result<Vec<Trace>, Refusal> {
         let mut traces = Vec::new();
         let mut previous_end = room_end;
         for k in 0..self.n {
             let trace = self.trace(k, previous_end)?;
             previous_end = trace.end();
+            self.channel(k, &trace, traces.first().unwrap_or(&trace))?;
             traces.push(trace);
         }
         Ok(traces)
@@ -168,6 +170,16 @@ impl<'a> Head<'a> {
         let start = p as usize + FIXED_PART;
         trace.strings = self.strings(part, start, trace.data_start() as usize)?;
         Ok(trace)
+    }
+
+    /// Row 34, "after 17 within each trace, at the trace's p+32".
+    fn channel(&self, k: u16, trace: &Trace, first: &Trace) -> Result<(), Refusal> {
+        let [own, others] = [trace, first].map(|t| channel_number(self.image, t));
+        let place = trace.p as usize + FIXED_PART;
+        refuse_if(
+            breaks_the_rule(own, others.is_some()),
+            Refusal::new(34, i64::from(k), place),
+        )
     }
 
     /// Rows 9 to 13: the fixed part of the trace block at p. Row 8 has shown
@@ -212,6 +224,14 @@ impl<'a> Head<'a> {
     fn past_the_end(&self, place: u64) -> bool {
         place > self.image.len() as u64
     }
+}
+
+/// A trace's CHANNEL_NUMBER, if it has one. The file's own strings may have one too, which
+/// the rule does not speak of.
+pub(crate) fn channel_number<'a>(image: &'a [u8], trace: &Trace) -> Option<&'a [u8]> {
+    let asked_for = |string: &&StringPlace| &image[string.keyword.clone()] == CHANNEL_NUMBER;
+    let string = trace.strings.iter().find(asked_for)?;
+    Some(&image[string.value.clone()])
 }
 
 /// Row 2: "55 3A is low byte first, 3A 55 high byte first".

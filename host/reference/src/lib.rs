@@ -16,6 +16,7 @@
 //! After a refusal all memory that the caller lent is as it was.
 #![forbid(unsafe_code)]
 
+pub mod channel;
 pub mod check;
 pub mod generate;
 pub mod listing;
@@ -29,6 +30,7 @@ pub mod words;
 pub mod worked;
 pub mod write;
 
+pub use channel::{is_channel_number, CHANNEL_NUMBER};
 pub use check::{check, check_for_addition, File, Trace, MAXIMUM_LENGTH};
 pub use listing::{listing, listing_program, LISTING_MAXIMUM};
 pub use number::{double, location, number, write_number, Location, Number};

@@ -1,11 +1,12 @@
-//! Refusals: document 01, "Refusal numbers, in order of checking".
+//! Refusals: document 01, "Refusal numbers, in order of checking", and those that document 02
+//! adds.
 
 use std::fmt;
 
 /// Every refusal number.
 pub const ALL: &[u8] = &[
     1, 2, 3, 4, 5, 6, 7, 8, 9, 10, 11, 12, 13, 14, 15, 16, 17, 18, 19, 20, 21, 22, 23, 24, 25, 26,
-    27, 28, 29, 30, 31, 32, 33,
+    27, 28, 29, 30, 31, 32, 33, 34, 35,
 ];
 
 /// The part that stands for the file itself; other parts are trace indices.
@@ -43,7 +44,7 @@ impl Refusal {
 
 /// Whether a row is one of a file's check, with its part and a byte of the file.
 pub fn is_of_check(number: u8) -> bool {
-    matches!(number, 1..=17)
+    matches!(number, 1..=17 | 34)
 }
 
 /// One row of the table: when the test holds, this is the answer.
@@ -87,6 +88,11 @@ mod tests {
                 "refused (16) in trace 3 at byte 1234",
             ),
             (Refusal::file(3, 2), "refused (3) in the file at byte 2"),
+            (
+                Refusal::new(34, 2, 88),
+                "refused (34) in trace 2 at byte 88",
+            ),
+            (Refusal::file(35, 0), "refused (35)"),
             (Refusal::file(20, 1), "refused (20) at byte 1 of the text"),
             (Refusal::file(24, 0), "refused (24)"),
             (Refusal::file(26, 9), "refused (26) at byte 9 of the sheet"),

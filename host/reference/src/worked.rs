@@ -73,6 +73,51 @@ pub const NOT_WRITTEN: &[(Number, u8)] = &[
     (number(false, 1, i32::MIN, 17), 21),
 ];
 
+/// Document 02, §7: "a number by document 01, 1 to 32,767, without point or E". Zeros in
+/// front are digits, of which a number has at most 18.
+pub const CHANNEL_NUMBERS: &[&str] = &[
+    "1",
+    "9",
+    "24",
+    "32766",
+    "32767",
+    "007",
+    "000000000000000001",
+    "000000000000032767",
+];
+
+/// Values that are none.
+pub const NO_CHANNEL_NUMBERS: &[&str] = &[
+    "",
+    "0",
+    "00",
+    "000000000000000000",
+    "-0",
+    "-1",
+    "+1",
+    "1.0",
+    "1.",
+    ".1",
+    "0.1E1",
+    "1E0",
+    "1E4",
+    "1e0",
+    "32768",
+    "65537",
+    "4294967297",
+    "999999999999999999",
+    // no number: 19 digits, 20, and one more than 64 bits hold
+    "0000000000000000001",
+    "99999999999999999999",
+    "18446744073709551617",
+    "1 ",
+    "1 2",
+    "1,0",
+    "12a",
+    "A1",
+    "0x1",
+];
+
 /// A number, and 22 as a double, at place 0.
 pub const NO_DOUBLE: &str = "1.345E24";
 

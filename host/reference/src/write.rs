@@ -1,10 +1,11 @@
 //! Starting a file, adding a trace, and the file that a list defines: document
-//! 01, "What we write", rows 24 to 31.
+//! 01, "What we write", rows 24 to 31, and document 02, §7, row 35.
 
-use crate::check::{check_for_addition, File, MAXIMUM_LENGTH};
+use crate::channel::{judge_sheet, CHANNEL_NUMBER};
+use crate::check::{channel_number, check_for_addition, File, MAXIMUM_LENGTH};
 use crate::refusal::{refuse_if, Refusal};
 use crate::samples::{encode_bits, encode_integers};
-use crate::sheet::area_of;
+use crate::sheet::{area_of, sheet_strings};
 use crate::strings::Terminators;
 use crate::words::{bytes_of_u16, bytes_of_u32, round_up_4, Order};
 
@@ -37,7 +38,7 @@ pub fn start(buffer: &mut [u8], order: u32, slots: u64, sheet: &[u8]) -> Result<
 }
 
 /// Adds a trace of code 1, 2 or 3 to the image of the given length and answers
-/// the new length: rows 1 to 17, then 24 to 30.
+/// the new length: the file's check, then 24 to 27, 35, 28 to 30.
 pub fn add_integers(
     buffer: &mut [u8],
     length: usize,
@@ -50,7 +51,7 @@ pub fn add_integers(
 }
 
 /// Adds a trace of code 4 or 5 to the image of the given length and answers the
-/// new length: rows 1 to 17, then 24 to 30.
+/// new length: the file's check, then 24 to 27, 35, 28 to 30.
 pub fn add_bits(
     buffer: &mut [u8],
     length: usize,
@@ -90,6 +91,7 @@ fn add_encoded(
     let file = check_for_addition(buffer, length)?;
     refuse_if(file.n >= file.m / 4, Refusal::file(24, 0))?;
     let area = area_of(sheet, file.order, &terminators_of(&file))?;
+    judge_sheet(sheet, traces_have_channels(&file, buffer))?;
     let data = encode(file.order)?;
     let p = round_up_4(length);
     let new_length = p + 32 + area.len() + data.len();
@@ -118,11 +120,12 @@ pub fn file_of(
 ) -> Result<Vec<u8>, Refusal> {
     let start = start_image(order, slots, sheet)?;
     let order = order_of(order)?;
+    let channels = list_has_channels(traces);
     let mut pointers = Vec::new();
     let mut blocks = Vec::new();
     for (k, trace) in traces.iter().enumerate() {
         refuse_if(k as u64 >= slots, Refusal::file(24, 0))?;
-        let block = given_bytes(order, trace)?;
+        let block = given_bytes(order, trace, channels)?;
         pointers.push(start.len() + blocks.len());
         blocks.extend(block);
         let length = start.len() + blocks.len();
@@ -136,14 +139,32 @@ pub fn file_of(
     Ok(file)
 }
 
-/// B and D bytes of a trace of the list: rows 25 to 29.
-fn given_bytes(order: Order, trace: &TraceGiven) -> Result<Vec<u8>, Refusal> {
+/// B and D bytes of a trace of the list: rows 25 to 27, 35, 28 and 29.
+fn given_bytes(
+    order: Order,
+    trace: &TraceGiven,
+    channels: Option<bool>,
+) -> Result<Vec<u8>, Refusal> {
     let area = area_of(&trace.sheet, order, &start_terminators())?;
+    judge_sheet(&trace.sheet, channels)?;
     let (count, data) = match &trace.row {
         Row::Integers(row) => (row.len(), encode_integers(trace.code, order, row)?),
         Row::Bits(row) => (row.len(), encode_bits(trace.code, order, row)?),
     };
     Ok(trace_bytes(order, trace.code, count, &area, &data))
+}
+
+/// Whether the traces of a checked file have channel numbers, which all have or none;
+/// `None` where there are no traces.
+fn traces_have_channels(file: &File, buffer: &[u8]) -> Option<bool> {
+    let first = file.traces.first()?;
+    Some(channel_number(buffer, first).is_some())
+}
+
+/// The same of a list, by its first trace, which so is free to choose.
+fn list_has_channels(traces: &[TraceGiven]) -> Option<bool> {
+    let strings = sheet_strings(&traces.first()?.sheet).ok()?;
+    Some(strings.iter().any(|s| s.keyword == CHANNEL_NUMBER))
 }
 
 /// The start's image: rows 31, 25, 26, 27. "It writes revision 1, M of 4 times

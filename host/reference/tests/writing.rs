@@ -116,7 +116,7 @@ fn additions_on_any_file() {
         reads_as_before_and_the_new_trace_last(&case, &buffer, &before, length);
     }
     let of_check = ALL.iter().copied().filter(|&number| is_of_check(number));
-    let expected: BTreeSet<u8> = of_check.chain(24..=30).chain([0]).collect();
+    let expected: BTreeSet<u8> = of_check.chain(24..=30).chain([35, 0]).collect();
     assert_eq!(met, expected);
 }
 
@@ -157,26 +157,29 @@ fn reads_as_before_and_the_new_trace_last(
     samples_read_as_given(buffer, length, k, case.code, &case.row);
 }
 
-fn random_trace(rng: &mut Rng) -> TraceGiven {
+/// A trace that a file takes whose traces have a channel number, or have none.
+fn random_trace(rng: &mut Rng, channels: bool) -> TraceGiven {
     let code = rng.between(1, 5) as u8;
     let count = rng.pick(&[0, 4, 8, 12]) + if code == 3 { 0 } else { rng.between(0, 3) };
     let row = row_for(rng, code, count, false);
-    TraceGiven {
-        sheet: good_sheet(rng).sheet,
-        code,
-        row,
-    }
+    let plain = good_sheet(rng).sheet;
+    let sheet = match channels {
+        true => with_channel(&plain, &good_channel(rng)),
+        false => plain,
+    };
+    TraceGiven { sheet, code, row }
 }
 
 /// An addition that must be refused, by its number.
-fn refused_trace(rng: &mut Rng) -> (TraceGiven, u8) {
-    let mut given = random_trace(rng);
-    let number = rng.between(25, 29) as u8;
+fn refused_trace(rng: &mut Rng, channels: bool) -> (TraceGiven, u8) {
+    let mut given = random_trace(rng, channels);
+    let number = rng.pick(&[25, 26, 27, 28, 29, 35]);
     match number {
         25 => given.sheet.push(b'x'),
         26 => given.sheet = b"B\t1\nA\t1\n".to_vec(),
         27 => given.sheet = [b"A\t", &vec![b'x'; 65_500][..], b"\n"].concat(),
         28 => given.code = rng.pick(&[0, 6, 255]),
+        35 => given.sheet = with_channel(&good_sheet(rng).sheet, &bad_channel(rng)),
         _ => {
             given.code = 1;
             given.row = Row::Integers(vec![0, 40_000]);
@@ -193,7 +196,10 @@ fn growing_is_what_the_list_defines() {
     for _ in 0..400 {
         let order = rng.between(0, 1) as u32;
         let slots = rng.between(1, 6) as u64;
-        let sheet = good_sheet(&mut rng).sheet;
+        let plain = good_sheet(&mut rng).sheet;
+        let sheet = sheet_of_a_start(&mut rng, plain);
+        // "the first addition is free to choose"; those behind it are not.
+        let channels = rng.one_in(2);
         let junk = rng.junk(20_000);
         let mut buffer = junk.clone();
         let mut list = Vec::new();
@@ -203,7 +209,10 @@ fn growing_is_what_the_list_defines() {
             assert!(buffer[..length] == defined && length == defined.len());
             assert!(buffer[length..] == junk[length..]);
             if rng.one_in(3) {
-                let (bad, number) = refused_trace(&mut rng);
+                let (bad, number) = match !list.is_empty() && rng.one_in(4) {
+                    true => (random_trace(&mut rng, !channels), 35),
+                    false => refused_trace(&mut rng, channels),
+                };
                 let full = list.len() as u64 == slots;
                 let expected = if full { 24 } else { number };
                 let saved = buffer.clone();
@@ -215,7 +224,7 @@ fn growing_is_what_the_list_defines() {
                 assert_eq!(undefined.err(), answer.err());
                 continue;
             }
-            let given = random_trace(&mut rng);
+            let given = random_trace(&mut rng, channels);
             match add(&mut buffer, length, &given.sheet, given.code, &given.row) {
                 Ok(new_length) => {
                     length = new_length;

@@ -22,7 +22,8 @@ pub struct File<'a> {
 }
 
 impl<'a> File<'a> {
-    /// Checks a whole slice and opens it: the check's refusal, 1 to 17, or the view.
+    /// Checks a whole slice and opens it: the check's refusal, 1 to 17 or 34, or the
+    /// view.
     ///
     /// ```
     /// let refusal = seg2::File::open(&[0; 32]).unwrap_err();

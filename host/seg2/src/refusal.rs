@@ -68,10 +68,10 @@ impl Refusal {
     ///
     /// ```
     /// let of = |number| seg2::Refusal { number, part: -1, place: 0 }.is_of_check();
-    /// assert!(of(1) && of(17) && !of(18));
+    /// assert!(of(1) && of(17) && of(34) && !of(18) && !of(35));
     /// ```
     pub fn is_of_check(&self) -> bool {
-        matches!(self.number, 1..=17)
+        matches!(self.number, 1..=17 | 34)
     }
 
     /// The row in words, without part and place.
@@ -143,6 +143,8 @@ const TABLE: &[(u32, &str)] = &[
     (31, "the pointer slots are not 1 to 16,383, or the byte order is not 0 or 1"),
     (32, "the row's length is not the number of samples"),
     (33, "integers are asked of code 4 or 5, or bit patterns of code 1 to 3"),
+    (34, "the trace's CHANNEL_NUMBER is not 1 to 32,767 in plain digits, or only one of this trace and trace 0 has it"),
+    (35, "the sheet's CHANNEL_NUMBER is not 1 to 32,767 in plain digits, is missing where the file's traces have it, or there where they have none"),
 ];
 
 /// The numbers of the table, the least first. They need not follow each other without a gap.

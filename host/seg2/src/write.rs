@@ -3,6 +3,10 @@
 //! A sheet is lines of text: keyword, tab, value, 0Ah, with the keywords rising.
 //! RECEIVER_GEOMETRY and SOURCE_GEOMETRY may have several lines running, each a string of
 //! its own; consecutive NOTE lines at its end are the lines of one NOTE.
+//!
+//! A trace's sheet may have a CHANNEL_NUMBER, 1 to 32,767 in plain digits. The first trace
+//! of a file chooses: every later one has it if the first has, and has it not if the first
+//! has not.
 
 use crate::{calls, Order, Refusal, MAXIMUM_AREA, MAXIMUM_LENGTH};
 
@@ -28,8 +32,8 @@ pub fn start(buffer: &mut [u8], order: Order, slots: u32, sheet: &[u8]) -> Resul
 }
 
 /// Adds a trace of code 1 to 3 behind the file, or new image, that the buffer's first
-/// `length` bytes are, and answers the new length. Refusals in order: 1 to 17 for the
-/// file, 24, 25, 26 (line by line), 27, 28, 29, 30. A refusal has changed nothing.
+/// `length` bytes are, and answers the new length. Refusals in order: 1 to 17 and 34 for
+/// the file, 24, 25, 26 (line by line), 27, 35, 28, 29, 30. A refusal has changed nothing.
 ///
 /// ```
 /// let mut buffer = [0; 200];
@@ -106,7 +110,7 @@ impl Builder {
     }
 
     /// A file, or a new image, that is there already and is to get more traces. Nothing is
-    /// checked here: the next addition refuses what is neither, by 1 to 17.
+    /// checked here: the next addition refuses what is neither, by 1 to 17 or 34.
     ///
     /// ```
     /// use seg2::{Builder, Order};

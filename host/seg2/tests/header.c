@@ -177,6 +177,30 @@ static void numbers_and_texts(void) {
     told_number("read", seg2_read_number_of(text, 2));
 }
 
+/* document 02, section 7: the first trace chooses whether traces have channel numbers */
+static void channels(void) {
+    const size_t size = sizeof buffer;
+    const int32_t samples[2] = {1, 2};
+    size_t length = told_length("start", seg2_start_of(buffer, size, SEG2_LOW_FIRST, 2, bytes("CHANNEL_NUMBER\tany\n"), 19));
+    size_t strings;
+
+    told_length("0 as the first", seg2_add_integers_of(buffer, size, length, bytes("CHANNEL_NUMBER\t0\n"), 17, SEG2_FIXED_16, samples, 2));
+    length = told_length("channel 1", seg2_add_integers_of(buffer, size, length, bytes("CHANNEL_NUMBER\t1\n"), 17, SEG2_FIXED_16, samples, 2));
+    memcpy(before, buffer, size);
+    told_length("none", seg2_add_integers_of(buffer, size, length, bytes("STACK\t1\n"), 8, SEG2_FIXED_16, samples, 2));
+    told_length("1.0", seg2_add_integers_of(buffer, size, length, bytes("CHANNEL_NUMBER\t1.0\n"), 19, SEG2_FIXED_16, samples, 2));
+    printf("%s\n", memcmp(before, buffer, size) == 0 ? "unchanged" : "changed");
+    length = told_length("channel 2", seg2_add_integers_of(buffer, size, length, bytes("CHANNEL_NUMBER\t2\n"), 17, SEG2_FIXED_16, samples, 2));
+    told_verdict("both", seg2_check(buffer, size, length));
+    /* the value's only digit: offset, keyword and space stand before it */
+    strings = seg2_trace_block_of(buffer, size, length, 1).start + 32;
+    buffer[strings + 2 + 15] = '0';
+    {
+        seg2_verdict v = seg2_check(buffer, size, length);
+        printf("%u in trace %d where its strings start %d\n", (unsigned)v.number, (int)v.part, v.place == strings);
+    }
+}
+
 int main(void) {
     const size_t size = sizeof buffer;
     const int32_t samples[3] = {1, -1, 256};
@@ -232,6 +256,7 @@ int main(void) {
         v = seg2_check(buffer, size, length);
         printf("%u in trace %d at its first string %d: %s\n", (unsigned)v.number, (int)v.part, v.place == offset, seg2_text(v.number));
     }
+    channels();
     for (i = 0; i < 100; i++) {
         printf("%u %s\n", (unsigned)i, seg2_text(i));
     }

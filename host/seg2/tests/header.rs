@@ -86,6 +86,15 @@ any minus: 0 -1 0 length 2
 -7250_
 read: 0 -1 0 minus 1 7 E 0 decimals 0
 16 in trace 0 at its first string 1: a forbidden character in a keyword or value, or an empty keyword
+start: 0 -1 0 length 64
+0 as the first: 35 -1 0 length 0
+channel 1: 0 -1 0 length 124
+none: 35 -1 0 length 0
+1.0: 35 -1 0 length 0
+unchanged
+channel 2: 0 -1 0 length 184
+both: 0 -1 0
+34 in trace 1 where its strings start 1
 ";
 
 /// The answers, then the words of each number of two digits, which are those of the Rust

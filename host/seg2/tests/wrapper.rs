@@ -4,8 +4,8 @@
 use seg2::{Builder, File, Location, Number, Order, Refusal, Step};
 use seg2_reference as reference;
 use seg2_reference::generate::{
-    addition_case, forged_number, good_sheet, number_case, sample_case, Laid, Model, Rng,
-    SampleQuestion,
+    addition_case, forged_number, good_sheet, number_case, plain_file, sample_case, Laid, Model,
+    PlainTrace, Rng, SampleQuestion,
 };
 
 fn told(refusal: reference::Refusal) -> Refusal {
@@ -391,6 +391,38 @@ fn the_builder_ends_at_the_maximum() {
         1
     );
     assert_eq!(over.bytes().len(), seg2::MAXIMUM_LENGTH + 4);
+}
+
+/// Document 02, §7: what the builder refuses by 35 has changed nothing, and a file with
+/// channel numbers in some traces alone is refused by 34, in its trace.
+#[test]
+fn channel_numbers_stand_in_all_traces_or_none() {
+    let (with, without) = (&b"CHANNEL_NUMBER\t7\n"[..], &b"STACK\t1\n"[..]);
+    for (first, other) in [(with, without), (without, with)] {
+        let mut shot = Builder::start(Order::High, 4, b"CHANNEL_NUMBER\tfree\n").expect("a start");
+        shot.add_integers(first, 2, &[1]).expect("free to choose");
+        let before = shot.bytes().to_vec();
+        for sheet in [other, b"CHANNEL_NUMBER\t0\n"] {
+            let refusal = shot.add_bits(sheet, 5, &[1]).expect_err("35");
+            assert_eq!((refusal.number, refusal.part, refusal.place), (35, -1, 0));
+            assert_eq!(refusal.counts(), seg2::Place::Nothing);
+            assert_eq!(shot.bytes(), before);
+        }
+        shot.add_bits(first, 5, &[1]).expect("as the first");
+        assert_eq!(File::open(shot.bytes()).map(|f| f.trace_count()), Ok(2));
+    }
+    let strings: [&[&[u8]]; 2] = [&[b"CHANNEL_NUMBER 1"], &[]];
+    let bytes = plain_file(
+        reference::Order::Low,
+        &[],
+        &strings.map(PlainTrace::of_strings),
+    );
+    let refusal = File::open(&bytes).expect_err("34");
+    let expected = reference::check(&bytes, bytes.len()).expect_err("34");
+    assert_eq!(refusal, told(expected));
+    let place = refusal.place;
+    let start = format!("refused (34) in trace 1 at byte {place}: the trace's CHANNEL_NUMBER");
+    assert!(refusal.to_string().starts_with(&start), "{refusal}");
 }
 
 #[test]

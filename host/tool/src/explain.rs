@@ -50,6 +50,7 @@ fn place(number: u32) -> &'static str {
     };
     match (number, refusal.counts()) {
         (14..=17, _) => "the string's two-byte offset, a byte of the file",
+        (34, _) => "where the trace's strings start, a byte of the file: 32 behind the start of its block",
         (20 | 21, _) => "where the number starts in the keyword's value; 0 for a text by itself, and for a number to be written",
         (_, Place::File) => "a byte of the file",
         (_, Place::Value) => "where the number starts in the keyword's value",
@@ -134,6 +135,10 @@ fn row(number: u32) -> Option<(&'static str, &'static str)> {
                "ask for the trace's block first, and lend a row of that many elements"),
         33 => ("The samples of codes 1 to 3 are read as integers; those of code 3, floating point of 20 bits, are whole numbers too. The samples of codes 4 and 5 are read as bit patterns.",
                "use `./seg2 samples` without --bits, which takes all codes"),
+        34 => ("A trace may have a CHANNEL_NUMBER: 1 to 32,767 in plain digits, at most 18 of them, without sign, point, E or spaces. If one trace has it, all must; each is held to trace 0, the first. The file's own strings are free.",
+               "give every trace a channel number of 1 to 32767, or none, where the shot is recorded, and save it again"),
+        35 => ("The first trace of a file chooses whether traces have a CHANNEL_NUMBER; each sheet that follows has one if it has, and none if it has none. It is 1 to 32,767 in plain digits, at most 18 of them, without sign, point, E or spaces.",
+               "look at trace 0 with `./seg2 list`: give the sheet a line CHANNEL_NUMBER, tab, 1 to 32767 where it has one, and take the line out where it has none"),
         _ => return None,
     })
 }

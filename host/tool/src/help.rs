@@ -155,7 +155,8 @@ decimal numbers or bit patterns that start with 0x",
         more: "
 Additions to one file happen one at a time. The file stays as it was where a trace cannot
 be added, where another program changes it meanwhile, and where this one is ended. A
-write-protected file or folder is left alone.
+write-protected file or folder is left alone. The sheets of all traces have a
+CHANNEL_NUMBER, 1 to 32767, or none has: the first trace chooses.
 ",
         run: write::add,
     },

@@ -4,7 +4,7 @@ use crate::files::{self, confirm, grouped, told_name};
 use crate::held::{create, Held};
 use crate::options::{whole, Options};
 use crate::stop::{unusable, Answer, Stop};
-use crate::words::{line_found, Told};
+use crate::words::{line_found, sheet_found, Told};
 use seg2::{code, Builder, File, Order, Refusal};
 use std::ffi::OsStr;
 use std::str::FromStr;
@@ -159,6 +159,10 @@ impl<'a> Samples<'a> {
                 let found = format!("{count} samples for code {code}");
                 Told::new(self.name, refusal, found).stop()
             }
+            35 => {
+                let found = channel_found(&self.sheet.bytes, bytes);
+                Told::new(self.sheet.name, refusal, found).stop()
+            }
             29 => {
                 let line = self.text.lines().nth(refusal.place).unwrap_or("").trim();
                 let number = grouped(refusal.place + 1);
@@ -171,6 +175,14 @@ impl<'a> Samples<'a> {
             }
         }
     }
+}
+
+/// The sheet's channel number beside that of the file's trace 0. A file without traces is
+/// none yet, and has no such trace.
+fn channel_found(sheet: &[u8], bytes: &[u8]) -> String {
+    let first = File::open(bytes).and_then(|file| file.trace(0));
+    let first = first.ok().and_then(|trace| trace.value(b"CHANNEL_NUMBER"));
+    sheet_found(sheet, first)
 }
 
 /// How many traces a full file was started for.

@@ -456,9 +456,11 @@ fn python(script: &str, input: &[u8]) -> String {
     command.stdin(Stdio::piped()).stdout(Stdio::piped());
     let mut child = command.spawn().expect("python3");
     let mut stdin = child.stdin.take().expect("its input");
-    stdin.write_all(input).expect("written");
-    drop(stdin);
-    text(&child.wait_with_output().expect("an end").stdout)
+    std::thread::scope(|scope| {
+        // while its output is read: a full pipe would hold both
+        scope.spawn(move || stdin.write_all(input).expect("written"));
+        text(&child.wait_with_output().expect("an end").stdout)
+    })
 }
 
 #[test]

@@ -7,6 +7,7 @@ use common::{add, run, Folder};
 use std::path::Path;
 
 use seg2::{Builder, Order};
+use seg2_reference::generate::{plain_file, PlainTrace};
 use seg2_reference::worked::example;
 
 /// The lines of a refusal: the first with this start, what was found, something to do, and
@@ -167,6 +168,67 @@ fn what_is_wrong_with_a_sheet_is_the_sheets() {
     let two = shot_of_two(&folder);
     let found = "the file was started for 2 traces and has them all";
     told(&add(&two, &order, "1", &samples).2, &two, 24, found);
+}
+
+/// Twelve traces, three of them with a channel number.
+fn three_of_twelve() -> Vec<u8> {
+    let (without, with): (&[&[u8]], &[&[u8]]) = (&[b"STACK 1"], &[b"CHANNEL_NUMBER 5", b"STACK 1"]);
+    let mut strings = [without; 12];
+    for k in [4, 7, 11] {
+        strings[k] = with;
+    }
+    let traces = strings.map(PlainTrace::of_strings);
+    plain_file(seg2_reference::Order::Low, &[], &traces)
+}
+
+#[test]
+fn channel_numbers_of_some_traces_are_told_by_every_command() {
+    let folder = Folder::new("words-34");
+    let shot = folder.keep("shot", three_of_twelve());
+    let found = "its CHANNEL_NUMBER is `5`, and trace 0 has none";
+    told(&run!("check", shot).1, &shot, 34, found);
+    told(&run!("list", shot).2, &shot, 34, found);
+    told(&run!("samples", shot, "0").2, &shot, 34, found);
+    told(&run!("value", shot, "0", "STACK").2, &shot, 34, found);
+    let (none, samples) = (folder.keep("none", ""), folder.keep("samples", "1\n"));
+    told(&add(&shot, &none, "1", &samples).2, &shot, 34, found);
+    let (status, out, _) = run!("check", shot);
+    assert_eq!(status, 1);
+    // the trace's strings are shown, the place in brackets
+    assert!(out.contains("refused (34) in trace 4 at byte "), "{out}");
+    assert!(out.contains("[13]") && out.contains("CHANNEL_"), "{out}");
+}
+
+#[test]
+fn a_sheets_channel_number_is_the_sheets() {
+    let folder = Folder::new("words-35");
+    let samples = folder.keep("samples", "1\n");
+    let one = folder.keep("one", "CHANNEL_NUMBER\t1\n");
+    let none = folder.keep("none", "STACK\t1\n");
+    let point = folder.keep("point", "CHANNEL_NUMBER\t1.0\n");
+    let image = Builder::start(Order::Low, 9, b"").expect("a start");
+    let bad =
+        "line 1, `CHANNEL_NUMBER\\t1.0`: character 2 is `.` (2Eh), and digits alone are allowed";
+    // the first trace is free to choose, but not a bad value
+    let with = folder.keep("with", image.bytes());
+    told(&add(&with, &point, "1", &samples).2, &point, 35, bad);
+    assert_eq!(add(&with, &one, "1", &samples).0, 0);
+    let before = std::fs::read(&with).expect("the file");
+    let found = "no CHANNEL_NUMBER in the sheet, and trace 0 of the file has `1`";
+    told(&add(&with, &none, "1", &samples).2, &none, 35, found);
+    told(&add(&with, &point, "1", &samples).2, &point, 35, bad);
+    assert_eq!(std::fs::read(&with).expect("the file"), before);
+    assert_eq!(add(&with, &one, "1", &samples).0, 0);
+
+    let without = folder.keep("without", image.bytes());
+    assert_eq!(add(&without, &none, "1", &samples).0, 0);
+    let found = "line 1, `CHANNEL_NUMBER\\t1`: the file's traces have no CHANNEL_NUMBER";
+    told(&add(&without, &one, "1", &samples).2, &one, 35, found);
+    assert_eq!(add(&without, &none, "1", &samples).0, 0);
+    // a file's own sheet is free
+    let start = folder.path("start");
+    let made = run!("new", start, "--order", "low", "--slots", "1", "--sheet", point);
+    assert_eq!(made.0, 0, "{}", made.2);
 }
 
 #[test]

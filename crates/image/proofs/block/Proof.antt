@@ -1,8 +1,9 @@
 -- `image::block` meets its contract. The strings are asked only where the rows were passed, and stand where the rows'
--- block says. Assumes nothing.
+-- block says; the channel number is asked where they were passed too. Assumes nothing.
 use mathlib.Core.Path.{sym, _∙_}
+use Rattle.seek.specs.Sought.{checked-refused, checked-has}
 use Rattle.image.specs.Image.{areaVerdict}
-use Rattle.image.specs.ImageLaws.{rows-bad, rows-shown, rows-size, rows-data, strings-bad, strings-past}
+use Rattle.image.specs.ImageLaws.{rows-bad, rows-shown, rows-size, rows-data, strings-bad, channel-in, strings-through}
 use borrow.Author.Needs.{needs}
 use native.Mathlib.Omega.{arith}
 use Rattle.image.proofs.block.Statement.{statement}
@@ -30,8 +31,9 @@ block-spec =
     let z = rows-size _ (args .f .now) (args .k) (args .p) _ e in
     let d = rows-data _ (args .f .now) (args .k) (args .p) _ e in
     omega (arith, q .data-fits, z, d))
+    (λ c. search needs)
     (λ c κs.
-    let at-rows2 = c .before .before in
+    let at-rows2 = c .before .before .before in
     let at-block-rows = at-rows2 .before .before in
     let start = at-block-rows .before .before .before .before .before in
     let args = start .args in
@@ -42,7 +44,7 @@ block-spec =
     (λ c. search needs)
     (λ c. search needs)
     (λ c.
-    let at-rows2 = c .before .before .before .before .before .before in
+    let at-rows2 = c .before .before .before .before .before .before .before .before in
     let at-block-rows = at-rows2 .before .before in
     let start = at-block-rows .before .before .before .before .before in
     let args = start .args in
@@ -51,30 +53,41 @@ block-spec =
     let z = rows-size _ (args .f .now) (args .k) (args .p) _ e in
     let d = rows-data _ (args .f .now) (args .k) (args .p) _ e in
     omega (arith, q .data-fits, z, d))
+    (λ c κs.
+    let at-strings2 = c .before .before in
+    let at-check = at-strings2 .before .before in
+    let at-rows2 = at-check .before .before .before .before in
+    let at-block-rows = at-rows2 .before .before in
+    let start = at-block-rows .before .before .before .before .before in
+    let args = start .args in
+    let e = sym (at-block-rows .block-rows .ensures) ∙ at-rows2 .rows2 .given .1 in
+    let s = checked-has _ _ _ _ _ _ _ _ _ (sym (at-check .check .ensures) ∙ at-strings2 .strings2 .given .1) in
+    let i = channel-in (args .how) _ (args .t .now) (args .u .now) (args .f .now) (args .with) (args .k) (args .p) _ e (s .1) in
+    (start .pre .1, i .0, i .1))
     (λ c.
     let at-rows = c .before in
     let at-block-rows = at-rows .before .before in
     let start = at-block-rows .before .before .before .before .before in
     let args = start .args in
-    rows-bad (args .how) _ (args .t .now) (args .u .now) (args .f .now) (args .k) (args .p) _
+    rows-bad (args .how) _ (args .t .now) (args .u .now) (args .f .now) _ (args .k) (args .p) _
     (sym (at-block-rows .block-rows .ensures) ∙ at-rows .rows .given .1))
     (λ c.
     let at-strings = c .before in
     let at-check = at-strings .before .before in
-    let at-rows2 = at-check .before .before .before in
+    let at-rows2 = at-check .before .before .before .before in
     let at-block-rows = at-rows2 .before .before in
     let start = at-block-rows .before .before .before .before .before in
     let args = start .args in
     let e = sym (at-block-rows .block-rows .ensures) ∙ at-rows2 .rows2 .given .1 in
-    strings-bad (args .how) _ (args .t .now) (args .u .now) (args .f .now) (args .k) (args .p) _ e _
-    (sym (at-check .check .ensures) ∙ at-strings .strings .given .1))
+    strings-bad (args .how) _ (args .t .now) (args .u .now) (args .f .now) _ (args .k) (args .p) _ e _
+    (checked-refused _ _ _ _ _ _ _ _ _ (sym (at-check .check .ensures) ∙ at-strings .strings .given .1)))
     (λ c.
-    let at-enum-told = c .before in
-    let at-check = at-enum-told .before .before in
-    let at-rows2 = at-check .before .before .before in
+    let at-strings2 = c .before .before .before in
+    let at-check = at-strings2 .before .before in
+    let at-rows2 = at-check .before .before .before .before in
     let at-block-rows = at-rows2 .before .before in
     let start = at-block-rows .before .before .before .before .before in
     let args = start .args in
     let e = sym (at-block-rows .block-rows .ensures) ∙ at-rows2 .rows2 .given .1 in
-    strings-past (args .how) _ (args .t .now) (args .u .now) (args .f .now) (args .k) (args .p) _ e
-    (sym (at-check .check .ensures) ∙ at-enum-told .enum-told .given .1)))
+    let s = checked-has _ _ _ _ _ _ _ _ _ (sym (at-check .check .ensures) ∙ at-strings2 .strings2 .given .1) in
+    strings-through (args .how) _ (args .t .now) (args .u .now) (args .f .now) (args .with) (args .k) (args .p) _ e (s .0) (s .1) (c .numbered .ensures)))

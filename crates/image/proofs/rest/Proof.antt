@@ -1,5 +1,6 @@
 -- `image::rest` meets its contract. Each part is asked only where the ones before it were accepted. Assumes nothing.
 use mathlib.Core.Path.{sym, _∙_}
+use Rattle.seek.specs.Sought.{checked-refused, checked-has}
 use Rattle.image.specs.Image.{areaVerdict}
 use Rattle.image.specs.Walk.{next-stands, next-within, rest-pointer, rest-strings, rest-traces}
 use borrow.Author.Needs.{needs}
@@ -16,8 +17,9 @@ rest-spec =
     (λ c κs. search needs)
     (λ c. search needs)
     (λ c. search needs)
+    (λ c. search needs)
     (λ c κs.
-    let at-x2 = c .before in
+    let at-x2 = c .before .before in
     let at-next = at-x2 .before .before in
     let start = at-next .before .before .before .before in
     let args = start .args in
@@ -27,7 +29,7 @@ rest-spec =
     (λ c. search needs)
     (λ c. search needs)
     (λ c κs.
-    let at-x2 = c .before .before .before .before in
+    let at-x2 = c .before .before .before .before .before in
     let at-next = at-x2 .before .before in
     let start = at-next .before .before .before .before in
     let e = at-next .next .ensures in
@@ -40,18 +42,18 @@ rest-spec =
     (λ c.
     let at-strings = c .before in
     let at-check = at-strings .before .before in
-    let at-x2 = at-check .before .before in
+    let at-x2 = at-check .before .before .before in
     let at-next = at-x2 .before .before in
     let args = at-next .before .before .before .before .args in
     let e = sym (at-next .next .ensures .0) ∙ at-x2 .x2 .given .1 in
-    let s = sym (at-check .check .ensures) ∙ at-strings .strings .given .1 in
+    let s = checked-refused _ _ _ _ _ _ _ _ _ (sym (at-check .check .ensures) ∙ at-strings .strings .given .1) in
     rest-strings _ _ (args .t .now) (args .u .now) (args .f .now) _ _ _ _ e s)
     (λ c.
     let at-enum-told = c .before in
     let at-check = at-enum-told .before .before in
-    let at-x2 = at-check .before .before in
+    let at-x2 = at-check .before .before .before in
     let at-next = at-x2 .before .before in
     let args = at-next .before .before .before .before .args in
     let e = sym (at-next .next .ensures .0) ∙ at-x2 .x2 .given .1 in
-    let s = sym (at-check .check .ensures) ∙ at-enum-told .enum-told .given .1 in
+    let s = checked-has _ _ _ _ _ _ _ _ _ (sym (at-check .check .ensures) ∙ at-enum-told .enum-told .given .1) .0 in
     c .traces .ensures ∙ rest-traces _ _ (args .t .now) (args .u .now) (args .f .now) _ _ _ e s))

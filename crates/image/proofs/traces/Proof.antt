@@ -1,28 +1,30 @@
--- `image::traces` meets its contract. The invariant: the check from here answers as the check of all, and p is where the
--- trace k begins. Assumes nothing.
+-- `image::traces` meets its contract. The invariant: the check from here answers as the check of all, p is where the
+-- trace k begins, and behind trace 0 `with` tells whether that has a channel number. Assumes nothing.
 use mathlib.Core.Path.{_≡_, sym, _∙_}
-use Prim.Native.Nat.{_+_, _-_, _≤_}
-use Rattle.image.specs.Image.{tracesFrom}
-use Rattle.image.specs.Walk.{pointedFrom, Stands, next-stands, next-bad, next-past, turn-bad, turn-past, walk-over}
+use Prim.Native.Nat.{_+_, _-_, _≤_, _<_}
+use Rattle.image.specs.Image.{withChannel, tracesFrom}
+use Rattle.image.specs.Walk.{pointedFrom, Stands, next-stands, next-bad, next-past, chosen-first, turn-bad, turn-past}
+use Rattle.image.specs.Walk.{walk-over}
 use borrow.Author.Needs.{needs}
 use native.Mathlib.Omega.{arith}
 use Rattle.image.proofs.traces.Statement.{statement}
 use Rattle.image.proofs.traces.Tie as tie
 
 abbrev Inv-loop : tie.InvT-loop
-Inv-loop f high t u n first how k₀ p₀ k p =
-    (k ≤ n) × Stands high f n k p × (pointedFrom how high t u f (n - k) k ≡ pointedFrom how high t u f n 0)
+Inv-loop f high t u n first how k₀ p₀ with₀ k p with =
+    (k ≤ n) × Stands high f n k p × (pointedFrom how high t u f (n - k) k ≡ pointedFrom how high t u f n 0) × (0 < k → with ≡ withChannel how high t f)
 
 abbrev μ-loop : tie.MeasureT-loop
-μ-loop f high t u n first how k₀ p₀ k p = n - k
+μ-loop f high t u n first how k₀ p₀ with₀ k p with = n - k
 
--- behind the trace k, whose checks were passed, the check answers as the check of all
+-- behind the trace k, whose checks were passed, the check answers as the check of all, and what was chosen is trace 0's
 behind : (c : tie.After-w2 Inv-loop μ-loop)
     → let at-loop = c .before .before .before .before in
     let args = at-loop .before .before .before .before .args in
     let next = at-loop .loop .k + 1 in
-    tracesFrom (args .how) (args .high) (args .t .now) (args .u .now) (args .f .now) (args .n - next) next (c .w2 .given .0 .0)
-    ≡ pointedFrom (args .how) (args .high) (args .t .now) (args .u .now) (args .f .now) (args .n) 0
+    (tracesFrom (args .how) (args .high) (args .t .now) (args .u .now) (args .f .now) (args .n - next) next (c .w2 .given .0 .0)
+    ≡ pointedFrom (args .how) (args .high) (args .t .now) (args .u .now) (args .f .now) (args .n) 0)
+    × (c .w2 .given .0 .1 .0 ≡ withChannel (args .how) (args .high) (args .t .now) (args .f .now))
 behind c =
     let at-block = c .before .before in
     let at-loop-test = at-block .before in
@@ -30,8 +32,9 @@ behind c =
     let args = at-loop .before .before .before .before .args in
     let low = at-loop-test .loop-test .taken in
     let here = at-loop .loop .inv .1 low .0 in
-    turn-past _ _ (args .t .now) (args .u .now) (args .f .now) _ _ _ low here _ (sym (at-block .block .ensures) ∙ c .w2 .given .1)
-    ∙ at-loop .loop .inv .2
+    let chose = chosen-first (args .how) _ (args .t .now) (args .f .now) (at-loop .loop .with) _ _ here (at-loop .loop .inv .3) in
+    let t = turn-past _ _ (args .t .now) (args .u .now) (args .f .now) _ _ _ low here _ chose _ _ (sym (at-block .block .ensures) ∙ c .w2 .given .1) in
+    (t .0 ∙ at-loop .loop .inv .2, t .1)
 
 pub traces-spec : {M : Type 1} → statement M
 traces-spec =
@@ -42,7 +45,7 @@ traces-spec =
     (λ c.
     let start = c .before .before .before in
     let z : start .args .n - 0 ≡ start .args .n = omega arith in
-    (omega arith, start .pre .2, rw z))
+    (omega arith, start .pre .2, rw z, λ l. absurd (omega arith)))
     (λ c κs.
     let at-loop = c .before in
     let s = at-loop .loop .inv .1 (c .loop-test .taken) in
@@ -56,7 +59,8 @@ traces-spec =
     let args = at-loop .before .before .before .before .args in
     let low = at-loop-test .loop-test .taken in
     let here = at-loop .loop .inv .1 low .0 in
-    turn-bad _ _ (args .t .now) (args .u .now) (args .f .now) _ _ _ low here _ (sym (at-block .block .ensures) ∙ at-w .w .given .1)
+    let chose = chosen-first (args .how) _ (args .t .now) (args .f .now) (at-loop .loop .with) _ _ here (at-loop .loop .inv .3) in
+    turn-bad _ _ (args .t .now) (args .u .now) (args .f .now) _ _ _ low here _ chose _ (sym (at-block .block .ensures) ∙ at-w .w .given .1)
     ∙ at-loop .loop .inv .2)
     (λ c. search needs)
     (λ c. search needs)
@@ -67,7 +71,7 @@ traces-spec =
     let at-next = at-x .before .before in
     let at-w2 = at-next .before .before in
     let args = at-w2 .before .before .before .before .before .before .before .before .args in
-    next-bad _ (args .f .now) _ _ _ _ (args .t .now) (args .u .now) _ (sym (at-next .next .ensures .0) ∙ at-x .x .given .1) ∙ behind at-w2)
+    next-bad _ (args .f .now) _ _ _ _ (args .t .now) (args .u .now) _ (sym (at-next .next .ensures .0) ∙ at-x .x .given .1) ∙ behind at-w2 .0)
     (λ c. search needs)
     (λ c. search needs)
     (λ c.
@@ -80,7 +84,7 @@ traces-spec =
     let e = at-next .next .ensures in
     let q = at-x2 .x2 .given .1 in
     let s = next-stands _ (args .f .now) _ _ _ _ _ (e .0) (e .1) q in
-    (l, s, next-past _ (args .f .now) _ _ _ _ (args .t .now) (args .u .now) _ (sym (e .0) ∙ q) ∙ behind at-w2))
+    (l, s, next-past _ (args .f .now) _ _ _ _ (args .t .now) (args .u .now) _ (sym (e .0) ∙ q) ∙ behind at-w2 .0, λ _. behind at-w2 .1))
     (λ c.
     let at-loop = c .before in
     let args = at-loop .before .before .before .before .args in

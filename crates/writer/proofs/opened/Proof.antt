@@ -1,6 +1,7 @@
--- `writer::opened` meets its contract. The check, row 24, then the rows of the sheet. Assumes nothing.
+-- `writer::opened` meets its contract. The check, row 24, then the rows of the sheet and its channel number. Assumes nothing.
 use mathlib.Core.Path.{sym, _∙_}
 use native.Mathlib.Omega.{arith}
+use Rattle.head.specs.HeadLaws.{block-order, block-count}
 use Rattle.writer.specs.Writes.{accepted, opened-bad, opened-full, opened-free}
 use borrow.Author.Needs.{needs}
 use Rattle.writer.proofs.opened.Statement.{statement}
@@ -27,20 +28,16 @@ opened-spec =
     rw (c .of-file .ensures) (opened-full _ _ _ (at-check .check .ensures) (at-enum-told .enum-told .given .1)
     (at-file-block .file-block .ensures .0) (at-if1 .if1 .taken)))
     (λ c κs.
-    let at-enum-told = c .before .before .before .before .before in
+    let at-file-block = c .before .before .before .before in
+    let at-enum-told = at-file-block .before .before in
     let at-check = at-enum-told .before .before in
-    let a = accepted _ _ (at-check .check .ensures) (at-enum-told .enum-told .given .1) in (omega (arith, a .size, a .low), a .strings))
-    (λ c κs.
-    let at-enum-told = c .before .before .before .before .before .before in
-    let at-check = at-enum-told .before .before in
-    let a = accepted _ _ (at-check .check .ensures) (at-enum-told .enum-told .given .1) in (omega (arith, a .size, a .low), a .lines))
-    (λ c κs. search needs)
+    let a = accepted _ _ (at-check .check .ensures) (at-enum-told .enum-told .given .1) in
+    let b = at-file-block .file-block .ensures .0 in
+    (a .image, rw (block-count _ b), sym (block-order _ b)))
     (λ c.
-    let at-line-end = c .before in
-    let at-string-end = at-line-end .before in
-    let at-if1 = at-string-end .before in
+    let at-if1 = c .before .before in
     let at-file-block = at-if1 .before .before .before in
     let at-enum-told = at-file-block .before .before in
     let at-check = at-enum-told .before .before in
-    c .measure .ensures ∙ rw (at-string-end .string-end .ensures .0, at-line-end .line-end .ensures .0)
-    (opened-free _ _ _ (at-check .check .ensures) (at-enum-told .enum-told .given .1) (at-file-block .file-block .ensures .0) (at-if1 .if1 .left))))
+    c .taken .ensures
+    ∙ opened-free _ _ _ (at-check .check .ensures) (at-enum-told .enum-told .given .1) (at-file-block .file-block .ensures .0) (at-if1 .if1 .left)))

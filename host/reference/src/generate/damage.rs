@@ -64,6 +64,8 @@ pub(super) enum Spot {
     AreaEnd(i64),
     /// The last byte of a part's area.
     AreaLastByte(i64),
+    /// The first byte of a part's area: p+32 of a trace.
+    AreaStart(i64),
 }
 
 /// A file damaged in the given way; an image with N=0 where only that can be.
@@ -147,7 +149,7 @@ pub fn several_damages(rng: &mut Rng) -> Damaged {
 
 /// When a refusal's row has its turn: "1 to 7 first, then the first pointer, then
 /// the file's strings, then each trace 8 to 17. Strings are taken one by one, 14
-/// to 17 each."
+/// to 17 each"; 34 "after 17 within each trace".
 fn turn(refusal: &Refusal) -> (i64, u64, u8) {
     let Refusal {
         number,
@@ -158,6 +160,7 @@ fn turn(refusal: &Refusal) -> (i64, u64, u8) {
         1..=7 => (-3, u64::from(number), place as u8),
         8 if part == 0 => (-2, 0, 8),
         8..=13 => (part, 0, number),
+        34 => (part, u64::MAX, number),
         _ => (part, place, number),
     }
 }
@@ -202,6 +205,7 @@ impl Spot {
             Spot::String(part, i) => (part, laid.strings(part)[i].keyword.start - 2),
             Spot::AreaEnd(part) => (part, laid.area(part).end),
             Spot::AreaLastByte(part) => (part, laid.area(part).end - 1),
+            Spot::AreaStart(part) => (part, laid.area(part).start),
         }
     }
 }

@@ -4,10 +4,12 @@
 //! byte from a model ([`model`], [`lay`]), which has all the freedoms that
 //! document 01 allows and the writer never uses. A damage ([`damage`], [`ways`])
 //! breaks one rule of such a file in one named way and knows the refusal it must
-//! give. The inputs of rows 18 to 33 are in [`asking`], [`numbers`], [`forged`],
-//! [`sheets`] and [`writing`]; [`plain`] makes a file around one text or data block. The same seed gives the same cases on every machine.
+//! give. The inputs of rows 18 to 33 and 35 are in [`asking`], [`numbers`], [`forged`],
+//! [`sheets`] and [`writing`], the values of rows 34 and 35 in [`channels`]; [`plain`] makes
+//! a file around one text or data block. The same seed gives the same cases on every machine.
 
 pub mod asking;
+pub mod channels;
 pub mod damage;
 mod expected;
 pub mod forged;
@@ -21,6 +23,7 @@ pub mod ways;
 pub mod writing;
 
 pub use asking::{mutated, sample_case, too_long_for_listing, SampleCase, SampleQuestion};
+pub use channels::{bad_channel, channel_for, good_channel, sheet_of_a_start, with_channel};
 pub use damage::{damaged, damaged_image, several_damages, Damaged, Scope, Way};
 pub use forged::{forged_number, number_edges};
 pub use lay::Laid;

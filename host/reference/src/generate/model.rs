@@ -174,7 +174,8 @@ impl StringModel {
 }
 
 impl Model {
-    /// A valid file with at least one trace.
+    /// A valid file with at least one trace; in half of them every trace has a channel
+    /// number.
     pub fn random(rng: &mut Rng) -> Model {
         let n = if rng.one_in(12) {
             rng.between(6, 40)
@@ -184,6 +185,7 @@ impl Model {
         let spare = rng.pick(&[0, 0, 1, 2, 5, 60]);
         let mut model = Model::without_traces(rng, n + spare);
         model.traces = (0..n).map(|_| TraceModel::random(rng)).collect();
+        model.choose_channels(rng);
         // Bytes before the first trace belong to the file's area: what stands
         // behind its end mark is the gap there.
         model.traces[0].gap.clear();
@@ -197,7 +199,9 @@ impl Model {
     /// area, and so its length, need not be a multiple of 4.
     pub fn image(rng: &mut Rng) -> Model {
         let slots = rng.pick(&[1, 2, 3, 50]);
-        Model::without_traces(rng, slots)
+        let mut model = Model::without_traces(rng, slots);
+        model.choose_channels(rng);
+        model
     }
 
     fn without_traces(rng: &mut Rng, slots: usize) -> Model {
@@ -270,14 +274,18 @@ const KEYWORDS: &[&str] = &[
     "UNITS",
 ];
 
-/// Unknown keywords, prefixes of each other, and neighbours of NOTE and of what
-/// may repeat.
+/// Unknown keywords, prefixes of each other, and neighbours of NOTE, of CHANNEL_NUMBER and
+/// of what may repeat.
 const ODD_KEYWORDS: &[&str] = &[
     "!",
     "0",
     "A",
     "AB",
     "ABC",
+    "CHANNEL",
+    "CHANNEL_NUMBE",
+    "CHANNEL_NUMBER1",
+    "CHANNEL_NUMBERS",
     "N",
     "NO",
     "NOT",
@@ -424,7 +432,7 @@ impl AreaModel {
 }
 
 impl TraceModel {
-    fn random(rng: &mut Rng) -> TraceModel {
+    pub(super) fn random(rng: &mut Rng) -> TraceModel {
         let gap = rng.pick(&[0, 0, 0, 4, 8, 40]);
         let slack = rng.pick(&[0, 0, 1, 4, 30]);
         let code = rng.between(1, 5);

@@ -1,5 +1,6 @@
 //! Sheets with their strings or refusals: rows 25 and 26.
 
+use super::channels::{place_among, KEYWORD};
 use super::expected::refused;
 use super::model::{may_repeat, random_note_lines, random_text, rising_keywords};
 use super::rng::Rng;
@@ -11,6 +12,21 @@ use crate::sheet::SheetString;
 pub struct SheetCase {
     pub sheet: Vec<u8>,
     pub expected: Result<Vec<SheetString>, Refusal>,
+}
+
+impl SheetCase {
+    /// The sheet with a channel number, if one is given, at its sorted place. A sheet that
+    /// is refused stays as it is: rows 25 and 26 come before what its lines say.
+    pub(super) fn with_channel(mut self, value: Option<Vec<u8>>) -> SheetCase {
+        let (Some(value), Ok(strings)) = (value, &mut self.expected) else {
+            return self;
+        };
+        let at = place_among(strings.iter().map(|s| &s.keyword[..]));
+        let (keyword, lines) = (KEYWORD.to_vec(), vec![value]);
+        strings.insert(at, SheetString { keyword, lines });
+        self.sheet = joined(&lines_of(strings));
+        self
+    }
 }
 
 /// A sheet, broken once in three times.

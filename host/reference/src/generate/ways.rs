@@ -1,8 +1,9 @@
-//! The ways to break each row of the check, 1 to 17.
+//! The ways to break each row of the check, 1 to 17 and 34.
 
+use super::channels::{another_sign, bad_channel, good_channel, KEYWORD};
 use super::damage::{alone, bytes, shape, Change, Scope, Spot, Way};
 use super::lay::{four, two, Laid};
-use super::model::{may_repeat, random_text, AreaModel, End, Model, StringModel};
+use super::model::{may_repeat, random_text, AreaModel, End, Model, StringModel, TraceModel};
 use super::rng::Rng;
 use crate::check::{Trace, MAXIMUM_LENGTH};
 use crate::strings::StringPlace;
@@ -196,6 +197,11 @@ fn with_note(rng: &mut Rng, model: &mut Model, lines: &[&str]) -> (i64, usize) {
 /// Some part of the model, with strings of these keywords for its own; the part.
 fn with_keywords(rng: &mut Rng, model: &mut Model, keywords: &[&str]) -> i64 {
     let part = rng.between(0, model.traces.len()) as i64 - 1;
+    put_keywords(rng, model, part, keywords);
+    part
+}
+
+fn put_keywords(rng: &mut Rng, model: &mut Model, part: i64, keywords: &[&str]) {
     let mut strings = Vec::new();
     for &keyword in keywords {
         let text = random_text(rng, true);
@@ -203,10 +209,75 @@ fn with_keywords(rng: &mut Rng, model: &mut Model, keywords: &[&str]) -> i64 {
     }
     let end = End::Mark(Vec::new());
     *model.area_mut(part) = AreaModel { strings, end };
-    part
 }
 
-/// Every way named in the table of document 01, row by row.
+/// Whether a string is a trace's channel number; one of the file itself is none.
+fn is_channel(laid: &Laid, string: &StringPlace) -> bool {
+    let traces = laid
+        .file
+        .traces
+        .first()
+        .map_or(laid.length, |t| t.p as usize);
+    string.keyword.start > traces && &laid.buffer[string.keyword.clone()] == KEYWORD
+}
+
+/// Bytes of some trace's channel number changed, refused at p+32.
+fn put_in_channel(laid: &Laid, part: i64, at: usize, bytes: &[u8]) -> Option<Change> {
+    put(at, bytes, part, laid.area(part).start)
+}
+
+/// Some trace of the model with this value for its channel number, where all have one.
+fn with_value(rng: &mut Rng, model: &mut Model, value: Vec<u8>) -> Option<Spot> {
+    let last = model.traces.len().checked_sub(1)?;
+    let k = rng.between(0, last);
+    model.number_traces(rng);
+    model.traces[k].area.put_channel(rng, value);
+    Some(Spot::AreaStart(k as i64))
+}
+
+/// Where all have a channel number, traces from this on to that one lose theirs.
+fn without_some(rng: &mut Rng, model: &mut Model, first: usize, last: usize) -> Option<Spot> {
+    model.number_traces(rng);
+    for trace in model.traces.get_mut(first..=last)? {
+        trace.area.drop_channel();
+    }
+    Some(Spot::AreaStart(model.first_other()? as i64))
+}
+
+/// Where none has a channel number, some traces get one.
+fn with_some(rng: &mut Rng, model: &mut Model, some: &[usize]) -> Option<Spot> {
+    for trace in &mut model.traces {
+        trace.area.drop_channel();
+    }
+    for &k in some {
+        let value = good_channel(rng);
+        model.traces.get_mut(k)?.area.put_channel(rng, value);
+    }
+    Some(Spot::AreaStart(model.first_other()? as i64))
+}
+
+/// Some trace behind the first.
+fn later_trace(rng: &mut Rng, model: &Model) -> Option<usize> {
+    let last = model.traces.len().checked_sub(1)?;
+    (last > 0).then(|| rng.between(1, last))
+}
+
+/// A file of twelve traces out of one that has some.
+fn make_twelve(rng: &mut Rng, model: &mut Model) -> Option<()> {
+    let there = model.traces.len();
+    (there > 0).then_some(())?;
+    model.traces.truncate(12);
+    model
+        .traces
+        .extend((there..12).map(|_| TraceModel::random(rng)));
+    model.slots = model.slots.max(12);
+    model
+        .spare_slots
+        .truncate(4 * (usize::from(model.slots) - 12));
+    Some(())
+}
+
+/// Every way named in the table of document 01, row by row, and in document 02, §7.
 pub const WAYS: &[Way] = &[
     alone(1, "length under 32", |rng, _| {
         cut(rng.between(0, 31), -1, 0)
@@ -524,6 +595,15 @@ pub const WAYS: &[Way] = &[
         let part = with_keywords(rng, model, &["RECEIVER", keyword, keyword]);
         Some(Spot::String(part, 2))
     }),
+    shape(17, "order behind a bad channel number", |rng, model| {
+        // 34 comes "after 17 within each trace".
+        let last = model.traces.len().checked_sub(1)?;
+        let part = rng.between(0, last) as i64;
+        put_keywords(rng, model, part, &["STACK", "DELAY"]);
+        let value = bad_channel(rng);
+        model.area_mut(part).put_channel(rng, value);
+        Some(Spot::String(part, 2))
+    }),
     shape(17, "a prefix behind the longer keyword", |rng, model| {
         let (part, i) = some_model_string(rng, model)?;
         let strings = &mut model.area_mut(part).strings;
@@ -543,5 +623,68 @@ pub const WAYS: &[Way] = &[
         let strings = &mut model.area_mut(part).strings;
         strings.push(strings[i].clone());
         Some(Spot::String(part, i + 1))
+    }),
+    bytes(34, "a sign in a channel number", |rng, laid| {
+        let (part, string) = some_string(rng, laid, is_channel)?;
+        let at = rng.between(string.value.start, string.value.end - 1);
+        put_in_channel(laid, part, at, &[another_sign(rng)])
+    }),
+    bytes(34, "a channel number of zeros", |rng, laid| {
+        let (part, string) = some_string(rng, laid, is_channel)?;
+        let zeros = vec![b'0'; string.value.len()];
+        put_in_channel(laid, part, string.value.start, &zeros)
+    }),
+    bytes(34, "a channel number over 32,767", |rng, laid| {
+        let (part, string) = some_string(rng, laid, is_channel)?;
+        let digits = string.value.len();
+        let number = rng.pick(&[32_768, 32_769, 65_537, 99_999]);
+        let value = format!("{number:0>digits$}");
+        (digits >= 5).then(|| put_in_channel(laid, part, string.value.start, value.as_bytes()))?
+    }),
+    shape(34, "any value that is no channel number", |rng, model| {
+        let value = bad_channel(rng);
+        with_value(rng, model, value)
+    }),
+    shape(34, "an empty channel number", |rng, model| {
+        with_value(rng, model, Vec::new())
+    }),
+    shape(34, "32,768", |rng, model| {
+        with_value(rng, model, b"32768".to_vec())
+    }),
+    shape(34, "a channel number with a point", |rng, model| {
+        let value = [&good_channel(rng)[..], b".0"].concat();
+        with_value(rng, model, value)
+    }),
+    shape(34, "a channel number with E", |rng, model| {
+        let value = [&good_channel(rng)[..], b"E0"].concat();
+        with_value(rng, model, value)
+    }),
+    shape(34, "a channel number of 19 digits", |rng, model| {
+        with_value(rng, model, b"0000000000000000001".to_vec())
+    }),
+    shape(34, "a trace without, trace 0 with", |rng, model| {
+        let k = later_trace(rng, model)?;
+        without_some(rng, model, k, k)
+    }),
+    shape(34, "trace 0 alone without", |rng, model| {
+        without_some(rng, model, 0, 0)
+    }),
+    shape(34, "the last traces without", |rng, model| {
+        let k = later_trace(rng, model)?;
+        without_some(rng, model, k, model.traces.len() - 1)
+    }),
+    shape(34, "a trace with, trace 0 without", |rng, model| {
+        let k = later_trace(rng, model)?;
+        with_some(rng, model, &[k])
+    }),
+    shape(34, "trace 0 alone with", |rng, model| {
+        with_some(rng, model, &[0])
+    }),
+    shape(34, "three traces of twelve", |rng, model| {
+        make_twelve(rng, model)?;
+        let first = rng.between(0, 9);
+        let second = rng.between(first + 1, 10);
+        let third = rng.between(second + 1, 11);
+        with_some(rng, model, &[first, second, third])
     }),
 ];

@@ -1,6 +1,7 @@
-//! Starts (rows 31, 25, 26, 27, 30) and additions (rows 1 to 17, 24 to 30) with
-//! their answers and the whole buffer after them, laid out from models.
+//! Starts (rows 31, 25, 26, 27, 30) and additions (the file's check, 24 to 27, 35, 28 to
+//! 30) with their answers and the whole buffer after them, laid out from models.
 
+use super::channels::{bad_channel, channel_for, good_channel};
 use super::damage::{damaged, Scope};
 use super::expected::{first_of, when};
 use super::model::{
@@ -27,7 +28,16 @@ pub struct StartCase {
 }
 
 pub fn start_case(rng: &mut Rng) -> StartCase {
-    let SheetCase { sheet, expected } = some_sheet(rng);
+    let mut sheet = some_sheet(rng);
+    if rng.one_in(4) {
+        // The file's own strings: no trace's channel number, so any value.
+        let value = match rng.one_in(2) {
+            true => good_channel(rng),
+            false => bad_channel(rng),
+        };
+        sheet = sheet.with_channel(Some(value));
+    }
+    let SheetCase { sheet, expected } = sheet;
     let order = rng.pick(&[0, 1, 0, 1, 0, 1, 0, 1, 2, u32::MAX]);
     let bad_slots = rng.pick(&[0, 16_384, 65_537, 1 << 32 | 1, u64::MAX]);
     let good_slots = rng.pick(&[1, 1, 2, 7, 50, 16_383]);
@@ -123,7 +133,8 @@ pub fn addition_case(rng: &mut Rng) -> AdditionCase {
         Model::random(rng)
     };
     let laid = model.lay();
-    let SheetCase { sheet, expected } = some_sheet(rng);
+    let (channel, taken) = channel_for(rng, model.traces_have_channels());
+    let SheetCase { sheet, expected } = some_sheet(rng).with_channel(channel);
     let (code, row, sample_refusals) = some_row(rng);
     let (st, lt) = (
         laid.file.string_terminator.len(),
@@ -138,6 +149,7 @@ pub fn addition_case(rng: &mut Rng) -> AdditionCase {
         when(laid.file.n == laid.file.m / 4, 24),
         expected.as_ref().err().copied(),
         when(area > 65_500, 27),
+        when(!taken, 35),
         sample_refusals[0],
         sample_refusals[1],
         when(new_length > room, 30),
@@ -213,7 +225,7 @@ fn written_float(sample: i32) -> Float20 {
     }
 }
 
-/// Rows 1 to 17 come before all others. N=0 is no damage here.
+/// The rows of the file's check come before all others. N=0 is no damage here.
 fn damage(rng: &mut Rng, case: &mut AdditionCase) {
     let way = &WAYS[rng.between(0, WAYS.len() - 1)];
     if way.scope == Scope::Reading {

@@ -1,7 +1,7 @@
-//! Rows 1 to 13: the blocks of a file that is refused. Nothing of such a file is sure, so
+//! Rows 1 to 13 and 34: the blocks of a file that is refused. Nothing of such a file is sure, so
 //! what is not there is read as 0.
 
-use super::{cut_off, hex, strings, Found};
+use super::{channel, cut_off, hex, strings, Found};
 use crate::files::grouped;
 use seg2::Refusal;
 
@@ -80,7 +80,7 @@ impl<'a> Raw<'a> {
     }
 }
 
-/// What stands at the place of a refusal by 1 to 17.
+/// What stands at the place of a refusal by 1 to 17 or 34.
 pub fn found(bytes: &[u8], refusal: &Refusal) -> Found {
     let raw = Raw { bytes };
     // only rows 8 on can be a trace's
@@ -99,8 +99,15 @@ pub fn found(bytes: &[u8], refusal: &Refusal) -> Found {
         11 => data_found(raw, trace),
         12 => format!("the code is {}", raw.word(refusal.place, 1)).into(),
         13 => samples_found(raw, raw.pointer(trace)).into(),
+        34 => channel_found(raw, refusal.part).into(),
         _ => strings::found(raw, refusal).into(),
     }
+}
+
+/// The trace's channel number beside that of trace 0.
+fn channel_found(raw: Raw, trace: i32) -> String {
+    let [own, first] = [trace, 0].map(|part| strings::value(raw, part, b"CHANNEL_NUMBER"));
+    channel::trace_found(own, first)
 }
 
 fn count_found(raw: Raw) -> String {
@@ -208,7 +215,7 @@ fn samples_found(raw: Raw, block: usize) -> String {
 mod tests {
     use super::*;
     use seg2::{Builder, Order};
-    use seg2_reference::generate::{damaged, mutated, Model, Rng, WAYS};
+    use seg2_reference::generate::{damaged, mutated, plain_file, Model, PlainTrace, Rng, WAYS};
     use seg2_reference::worked::example;
 
     /// What is said of bytes that are refused, with the number before it.
@@ -288,6 +295,41 @@ mod tests {
         assert_eq!(said(&bytes), "17: `A` follows `B`, and comes before it");
         bytes[at] = b'B';
         assert_eq!(said(&bytes), "17: `B` is there twice");
+    }
+
+    /// A file of these traces, by the reference.
+    fn of_traces(traces: &[&[&[u8]]]) -> Vec<u8> {
+        let traces: Vec<_> = traces.iter().map(|t| PlainTrace::of_strings(t)).collect();
+        plain_file(seg2_reference::Order::Low, &[b"UNITS METERS"], &traces)
+    }
+
+    #[test]
+    fn a_channel_number_is_told_beside_trace_0() {
+        let (one, zero, none) = (
+            &[&b"CHANNEL_NUMBER 1"[..], b"STACK 1"][..],
+            &[&b"A x"[..], b"CHANNEL_NUMBER \t0"][..],
+            &[&b"STACK 1"[..]][..],
+        );
+        for (traces, words) in [
+            (
+                [one, zero],
+                "34: its CHANNEL_NUMBER is `0`: 0, and 1 is the least",
+            ),
+            (
+                [zero, one],
+                "34: its CHANNEL_NUMBER is `0`: 0, and 1 is the least",
+            ),
+            (
+                [one, none],
+                "34: it has no CHANNEL_NUMBER, and trace 0 has `1`",
+            ),
+            (
+                [none, one],
+                "34: its CHANNEL_NUMBER is `1`, and trace 0 has none",
+            ),
+        ] {
+            assert_eq!(said(&of_traces(&traces)), words);
+        }
     }
 
     #[test]

@@ -1,12 +1,14 @@
 //! What a crew is told of a refusal. Number, part and place are the proved library's; what
 //! stands at that place, and so why, is found here beside them.
 
+mod channel;
 mod character;
 mod file;
 mod number;
 mod sheet;
 mod strings;
 
+pub use channel::sheet_found;
 pub use number::{no_such_trace, value_found, Asked};
 pub use sheet::line_found;
 

@@ -1,4 +1,4 @@
-//! Rows 14 to 17: the strings of a block.
+//! Rows 14 to 17: the strings of a block; a keyword's value among them.
 
 use super::character::{blank, in_keyword, in_value, told};
 use super::file::Raw;
@@ -111,6 +111,19 @@ fn end_found(raw: Raw, string: &Text) -> String {
         hex(there),
         hex(terminator)
     )
+}
+
+/// The value of a keyword in a part whose strings are good.
+pub fn value<'a>(raw: Raw<'a>, part: i32, keyword: &[u8]) -> Option<&'a [u8]> {
+    let (mut at, end) = raw.area(part);
+    while at + 2 <= end && raw.word(at, 2) > 0 {
+        let string = Text::at(raw, at);
+        if string.keyword == keyword {
+            return Some(string.value);
+        }
+        at += string.offset;
+    }
+    None
 }
 
 /// The keyword of the string before a place.

@@ -16,7 +16,7 @@ import java.nio.charset.StandardCharsets;
  *
  * <p><b>Refusals are values.</b> Every answer has {@link Answer#refusal()}: null, or number, part, place and words. After a refusal the
  * answer's other fields are 0 and no lent memory has changed. Every question about a file checks the whole file first, so its refusal may
- * be any row from 1 to 17 of the table before one of its own.
+ * be any row from 1 to 17 of the table, or 34, before one of its own.
  *
  * <p><b>Misuse is an {@link IllegalArgumentException}</b>, before the library is called: null, a buffer that is not direct, a read-only
  * one where something is written, a row in another byte order than the machine's, or one that lies in the file's own memory.
@@ -108,6 +108,8 @@ public final class Seg2 {
         public static final int START_VALUES = 31;
         public static final int ROW_LENGTH = 32;
         public static final int CODE_KIND = 33;
+        public static final int CHANNEL_NUMBER = 34;
+        public static final int SHEET_CHANNEL = 35;
 
         /** The row of the table: one of the numbers above. */
         public final int number;
@@ -136,7 +138,7 @@ public final class Seg2 {
 
         /** Whether the row is one of a file's check: its part is the file or a trace, and its place a byte of the file. */
         private boolean isOfCheck() {
-            return number >= LENGTH && number <= KEYWORD_ORDER;
+            return (number >= LENGTH && number <= KEYWORD_ORDER) || number == CHANNEL_NUMBER;
         }
 
         private String whose() {
@@ -436,7 +438,8 @@ public final class Seg2 {
 
     // ---- questions
 
-    /** Whether the first {@code length} bytes are a file that keeps the rules; if not, the first row of the table that they meet, 1 to 17. */
+    /** Whether the first {@code length} bytes are a file that keeps the rules; if not, the first row of the table that they meet, 1 to 17 or
+     * 34. */
     public static Verdict check(ByteBuffer buffer, long length) {
         long[] a = new long[3];
         nativeCheck(lent(buffer), buffer.limit(), length, a);
@@ -626,8 +629,9 @@ public final class Seg2 {
 
     /**
      * Adds a trace of code 1 to 3 behind the file, or new image, that the first {@code length} bytes are, and answers the new length.
-     * The samples go through a copy; those of a direct {@link IntBuffer} do not. Refusals in order: 1 to 17 for the file, 24, 25, 26 (line
-     * by line), 27, 28, 29, 30.
+     * The samples go through a copy; those of a direct {@link IntBuffer} do not. Refusals in order: 1 to 17 and 34 for the file, 24, 25, 26
+     * (line by line), 27, 35, 28, 29, 30. The first trace chooses whether sheets have a CHANNEL_NUMBER, 1 to 32,767 in plain digits: later
+     * ones have it or not as the first has.
      */
     public static Length addIntegers(ByteBuffer buffer, long length, byte[] sheet, int code, int[] row) {
         long[] a = new long[4];

@@ -368,6 +368,34 @@ public final class Seg2Test {
         refused(26, -1, 25, Seg2.start(painted(600), 0, 1, "SOURCE_GEOMETRY\t1\nUNITS\t\nSOURCE_GEOMETRY\t2\n"));
     }
 
+    private static void channelNumbers() {
+        String[][] habits = {{"CHANNEL_NUMBER\t1\n", "STACK\t1\n"}, {"STACK\t1\n", "CHANNEL_NUMBER\t1\n"}};
+        for (String[] habit : habits) {
+            ByteBuffer b = painted(600);
+            Seg2.Length started = Seg2.start(b, Seg2.HIGH_FIRST, 3, "CHANNEL_NUMBER\tfree\n");
+            accepted(started);
+            refused(35, -1, 0, Seg2.addIntegers(b, started.length, "CHANNEL_NUMBER\t32768\n", 2, new int[] {1}));
+            Seg2.Length first = Seg2.addIntegers(b, started.length, habit[0], 2, new int[] {1});
+            accepted(first);
+            byte[] before = copy(b);
+            refused(Seg2.Refusal.SHEET_CHANNEL, -1, 0, Seg2.addIntegers(b, first.length, habit[1], 2, new int[] {1}));
+            refused(Seg2.Refusal.SHEET_CHANNEL, -1, 0, Seg2.addBits(b, first.length, "CHANNEL_NUMBER\t1.0\n", 5, new long[] {1}));
+            same(before, copy(b));
+            Seg2.Length second = Seg2.addBits(b, first.length, habit[0], 5, new long[] {1});
+            accepted(second);
+            accepted(Seg2.check(b, second.length));
+            if (habit[0].startsWith("CHANNEL")) {
+                // the value's only digit: offset, keyword and space stand before it
+                int strings = Seg2.traceBlock(b, second.length, 1).start + 32;
+                b.put(strings + 17, (byte) '0');
+                Seg2.Verdict verdict = Seg2.check(b, second.length);
+                refused(Seg2.Refusal.CHANNEL_NUMBER, 1, strings, verdict);
+                same(true, verdict.refusal().toString().startsWith("refused (34) in trace 1 at byte " + strings + ": "));
+                refused(34, 1, strings, Seg2.value(b, second.length, 0, "CHANNEL_NUMBER"));
+            }
+        }
+    }
+
     private static void numbersAndLocations() {
         ByteBuffer b = withSheet("DELAY\t-0.020\nLINE\t0,020\nRECEIVER_LOCATION\t12.50\nSOURCE_LOCATION\t1 -2.0  0.500\nSTACK\t1.345E24\nZ\t1 2\n");
         int n = b.limit();
@@ -734,6 +762,7 @@ public final class Seg2Test {
         test("a refusal is told as Rust tells it", () -> theWords(Paths.get(args[1]), Paths.get(args[0])));
         test("bit patterns and classes", Seg2Test::bitsAndClasses);
         test("several receivers in one group", Seg2Test::severalReceivers);
+        test("channel numbers in all traces or none", Seg2Test::channelNumbers);
         test("numbers, doubles and locations", Seg2Test::numbersAndLocations);
         test("numbers as they were typed", Seg2Test::numbersAsTheyWereTyped);
         test("numbers that no text gives", Seg2Test::forgedNumbers);

@@ -1,0 +1,101 @@
+// The check of an area of strings (document 01, rows 14 to 17) that seeks a keyword in the same pass, so that no string
+// is read twice where a rule asks for one (document 02, §7). Sought has the definitions and the laws of the walk. Stands
+// on `strings`.
+// The rules in words: docs/FORMAT.md, "Strings".
+use chars::Kind;
+use refusal::Part;
+use refusal::Refusal;
+use refusal::Rule;
+use strings::Step;
+use text::Manner;
+ghost use mathlib.Core.Path.{_≡_};
+ghost use Prim.Native.Nat.{_≤_, _<_};
+ghost use lib.ListN.{length};
+ghost use Rattle.refusal.specs.Rows.{pick};
+ghost use Rattle.seek.specs.Sought.{Lies, hasOf, seenOf, checkedOf};
+
+// What the check of an area answers: the refusal, or whether there is a string with the keyword that is sought beside,
+// and where the value of the first begins and ends in the file (0 and 0 where there is none).
+pub enum Checked {
+    Refused(Refusal),
+    Has(bool, usize, usize),
+}
+
+// The first where the test holds, else the second.
+fn choose(test: bool, a: usize, b: usize) -> usize
+    ensures { λ r. ⌜ r ≡ pick test a b ⌝ }
+{
+    if test {
+        return a;
+    }
+    b
+}
+
+// The answer where no row was met: the string of `size` bytes that was seen at `hit`, its keyword up to `gap`. Before it
+// is seen, hit is the area's end.
+fn has(f: &[u8], e: usize, t: &[u8], hit: usize, gap: usize, size: usize) -> Checked
+    requires { ⌜ (e ≤ length (now f)) × (hit < e → Lies (length (now t)) e hit gap size) ⌝ }
+    ensures { λ r. ⌜ r ≡ hasOf (seenOf (now (t .entry)) (now (f .entry)) e hit gap size) ⌝ }
+{
+    if e <= hit {
+        return Checked::Has(false, 0, 0);
+    }
+    let end = hit + (size - t.len());
+    Checked::Has(true, gap + chars::run(Kind::Blank, &f[gap..end]), end)
+}
+
+// The check of the area from a to e of f and, in the same pass, its first string with the keyword `key`. The keyword
+// before is the file's own bytes from k to g.
+pub fn check(
+    f: &[u8],
+    a: usize,
+    e: usize,
+    high: bool,
+    t: &[u8],
+    u: &[u8],
+    whose: Part,
+    key: &[u8],
+    how: Manner,
+) -> Checked
+    requires { ⌜ (a ≤ e) × (e ≤ length (now f)) × (0 < length (now u)) ⌝ }
+    ensures { λ r. ⌜ r ≡ checkedOf how high (now (t .entry)) (now (u .entry)) whose (now (f .entry)) a e
+        (now (key .entry)) ⌝ }
+{
+    if e <= a {
+        return has(f, e, t, e, e, 0);
+    }
+    let mut at = a;
+    let mut k = a;
+    let mut g = a;
+    let mut hit = e;
+    let mut gap = e;
+    let mut size: usize = 0;
+    while at < e {
+        let s = strings::step_at(&f[at..e], high, t, u, whose, &f[k..g], at, how);
+        match s {
+            Step::Bad(r) => {
+                return Checked::Refused(r);
+            }
+            Step::Done => {
+                return has(f, e, t, hit, gap, size);
+            }
+            Step::Next(o, n) => {
+                k = at + 2;
+                g = k + n;
+                let first = (e <= hit) & text::is_named(&f[k..g], key, how);
+                hit = choose(first, at, hit);
+                gap = choose(first, g, gap);
+                size = choose(first, o, size);
+                at += o;
+            }
+        }
+    }
+    if text::open_end(how) {
+        return has(f, e, t, hit, gap, size);
+    }
+    Checked::Refused(Refusal {
+        rule: Rule::StringOffset,
+        part: whose,
+        place: at,
+    })
+}

@@ -1,0 +1,3 @@
+pub mod SheetChannel
+pub mod Finding
+pub mod Meant
