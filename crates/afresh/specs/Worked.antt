@@ -3,7 +3,7 @@
 -- defines is the one that the document shows, and there are good traces.
 -- Assumes nothing.
 use mathlib.Core.Path.{_≡_, refl, sym, _∙_}
-use mathlib.Core.Bool.{false}
+use mathlib.Core.Bool.{true, false}
 use mathlib.Core.List.{List, [], _∷_, _++_}
 use mathlib.Core.Logic.{inr}
 use Prim.Native.Nat.{ℕ, _≤_}
@@ -66,7 +66,8 @@ unfolding measuredOf linesVerdict checkFrom lineStep lineJudged continues all ar
 worked-good =
     let u = rises-first (85 ∷ 78 ∷ 73 ∷ 84 ∷ 83 ∷ []) (omega arith) in
     let s = rises-first (83 ∷ 84 ∷ 65 ∷ 67 ∷ 75 ∷ []) (omega arith) in
-    ((20, rw u), ((record { measures = (12, rw s); channel = λ e. absurd (never (sym shot-without ∙ e)); kind = refl; held = refl }, tt), inr (shot-without, tt)))
+    let without : hasChannel shot ≡ true → ⊥ = λ e. never (sym shot-without ∙ e) in
+    ((20, rw u), ((record { measures = (12, rw s); channel = λ e. absurd (without e); kind = refl; held = refl }, tt), inr (shot-without, tt)))
 
 -- so it is written, and no call refused, into every buffer of 108 bytes or more (`written-afresh`, `none-refused`)
 pub worked-writable : (xs : List ℕ) → 108 ≤ length xs → Writable xs 0 1 units (shot ∷ [])

@@ -20,7 +20,7 @@ use Rattle.fit.specs.declared.Fit.the-variants.{All}
 use Rattle.fit.specs.Unfit.{firstFrom, outside, unfitInteger, unfitPattern, unfitIntegers, unfitPatterns, all-good}
 use Rattle.encode.specs.Back.{reach, fit-reach}
 use Rattle.refusal.specs.Rows.{pick}
-use Rattle.chars.specs.Runs.{same, same-eq, same-refl}
+use Rattle.chars.specs.Runs.{same, same-eq, same-not}
 use Rattle.channel.specs.Count.{Counts}
 use Rattle.channel.specs.Channel.{channelNumber}
 use Rattle.sheet_channel.specs.SheetChannel.{hasLine, valueOfLine}
@@ -187,7 +187,7 @@ line-numbered (l ∷ ls) h = go (same (l .key) channelNumber) refl h (line-numbe
           before = l ∷ i .before;
           after = i .after;
           is = ap (λ (z : List Line). l ∷ z) (i .is);
-          first = (λ q. never (sym e ∙ ap (λ (y : List ℕ). same y channelNumber) q ∙ same-refl channelNumber), i .first);
+          first = (same-not (l .key) channelNumber e, i .first);
         }
 
 numbered-line : (ls : List Line) (v : List ℕ) → Numbered ls v → (hasLine ls channelNumber ≡ true) × (valueOfLine ls channelNumber ≡ v)
@@ -206,7 +206,7 @@ line-without (l ∷ ls) h = go (same (l .key) channelNumber) refl h (line-withou
     go : (w : Bool) → same (l .key) channelNumber ≡ w → pick w true (hasLine ls channelNumber) ≡ false → (hasLine ls channelNumber ≡ false → Without ls)
         → (l .key ≡ channelNumber → ⊥) × Without ls
     go true e k again = absurd (never (sym k))
-    go false e k again = (λ q. never (sym e ∙ ap (λ (y : List ℕ). same y channelNumber) q ∙ same-refl channelNumber), again k)
+    go false e k again = (same-not (l .key) channelNumber e, again k)
 
 without-line : (ls : List Line) → Without ls → hasLine ls channelNumber ≡ false
 unfolding hasLine

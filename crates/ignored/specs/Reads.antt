@@ -19,9 +19,6 @@ use Rattle.refusal.specs.declared.Verdict.{Verdict}
 use Rattle.refusal.specs.declared.Verdict.the-variants.{Accepted, Refused}
 use Rattle.strings.specs.declared.Place.{Place}
 use Rattle.strings.specs.Strings.{placesOf, nthOf, findOf, valueFound}
-use Rattle.decimal.specs.declared.NumberAnswer.the-variants as number
-use Rattle.double.specs.declared.DoubleAnswer.the-variants as double
-use Rattle.location.specs.declared.LocationAnswer.the-variants as location
 use Rattle.head.specs.Head.{fileBlockOf, highFirst, roomOf, countOf}
 use Rattle.terminators.specs.Terminators.{stringEnd}
 use Rattle.block.specs.Block.{sampleCount, formatCode, dataAt, endAt, traceBlockOf}

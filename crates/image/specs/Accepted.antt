@@ -81,7 +81,8 @@ module _ (how : Manner) (f : List ℕ) (k : ℕ) (ss : List Str) (low : 32 ≤ b
   pub channel-spelled : (found (channelOf how f k) ≡ hasKey how ss channelNumber) × (valueFound f (channelOf how f k) ≡ valueOfKey how ss channelNumber)
   unfolding channelAt
   channel-spelled =
-      spelled-value how f (stringEnd f) (lineEnd f) (highFirst f) (traceAt f k + 32) (dataAt (highFirst f) f (traceAt f k)) ss channelNumber (omega arith) fits s
+      spelled-value how f (stringEnd f) (lineEnd f) (highFirst f) (traceAt f k + 32) (dataAt (highFirst f) f (traceAt f k)) ss channelNumber
+      (omega arith) fits s
 
   row-kept : (with : Bool) → channelVerdict how with f k (traceAt f k) (channelOf how f k) ≡ Accepted → asksChannels how ≡ true
       → (hasKey how ss channelNumber ≡ with) × GoodChannel how ss

@@ -50,7 +50,8 @@ nextOf high f n k prev =
 unfoldable pub pointedFrom : Manner → Bool → List ℕ → List ℕ → List ℕ → ℕ → ℕ → Verdict
 pointedFrom how high t u f zero k = Accepted
 pointedFrom how high t u f (suc left) k =
-    andThen (firstOf (blockChecks how high t u f (withChannel how high t f) k (pointerOf high f k))) (tracesFrom how high t u f left (k + 1) (endAt high f (pointerOf high f k)))
+    andThen (firstOf (blockChecks how high t u f (withChannel how high t f) k (pointerOf high f k)))
+    (tracesFrom how high t u f left (k + 1) (endAt high f (pointerOf high f k)))
 
 -- a pointer has 32 bits
 abbrev pub InWord : Walked → Type 0

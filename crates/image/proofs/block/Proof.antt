@@ -1,6 +1,8 @@
 -- `image::block` meets its contract. The strings are asked only where the rows were passed, and stand where the rows'
 -- block says; the channel number is asked where they were passed too. Assumes nothing.
 use mathlib.Core.Path.{sym, _∙_}
+use Prim.Native.Nat.{_+_, _≤_}
+use lib.ListN.{length}
 use Rattle.seek.specs.Sought.{checked-refused, checked-has}
 use Rattle.image.specs.Image.{areaVerdict}
 use Rattle.image.specs.ImageLaws.{rows-bad, rows-shown, rows-size, rows-data, strings-bad, channel-in, strings-through}
@@ -8,6 +10,19 @@ use borrow.Author.Needs.{needs}
 use native.Mathlib.Omega.{arith}
 use Rattle.image.proofs.block.Statement.{statement}
 use Rattle.image.proofs.block.Tie as tie
+
+-- where the rows' block lies: its strings begin and end in the file
+lies : (c : tie.After-rows2)
+    → let args = c .before .before .before .before .before .before .before .args in
+    let x = c .rows2 .given .0 .0 in
+    (args .p + 32 ≤ args .p + x .b) × (args .p + x .b ≤ length (args .f .now))
+lies c =
+    let at-block-rows = c .before .before in
+    let args = at-block-rows .before .before .before .before .before .args in
+    let e = sym (at-block-rows .block-rows .ensures) ∙ c .rows2 .given .1 in
+    let q = rows-shown _ (args .f .now) (args .k) (args .p) _ e in
+    let z = rows-size _ (args .f .now) (args .k) (args .p) _ e in
+    (omega (arith, q .least, z), omega (arith, q .fits, z))
 
 pub block-spec : {M : Type 1} → statement M
 unfolding areaVerdict
@@ -21,26 +36,12 @@ block-spec =
     (λ c κs. search needs)
     (λ c. search needs)
     (λ c. search needs)
-    (λ c.
-    let at-rows2 = c .before .before in
-    let at-block-rows = at-rows2 .before .before in
-    let start = at-block-rows .before .before .before .before .before in
-    let args = start .args in
-    let e = sym (at-block-rows .block-rows .ensures) ∙ at-rows2 .rows2 .given .1 in
-    let q = rows-shown _ (args .f .now) (args .k) (args .p) _ e in
-    let z = rows-size _ (args .f .now) (args .k) (args .p) _ e in
-    let d = rows-data _ (args .f .now) (args .k) (args .p) _ e in
-    omega (arith, q .data-fits, z, d))
+    (λ c. omega (arith, lies (c .before .before) .1))
     (λ c. search needs)
     (λ c κs.
     let at-rows2 = c .before .before .before in
-    let at-block-rows = at-rows2 .before .before in
-    let start = at-block-rows .before .before .before .before .before in
-    let args = start .args in
-    let e = sym (at-block-rows .block-rows .ensures) ∙ at-rows2 .rows2 .given .1 in
-    let q = rows-shown _ (args .f .now) (args .k) (args .p) _ e in
-    let z = rows-size _ (args .f .now) (args .k) (args .p) _ e in
-    (omega (arith, q .least, z), omega (arith, q .fits, z), start .pre .2))
+    let l = lies at-rows2 in
+    (l .0, l .1, at-rows2 .before .before .before .before .before .before .before .pre .2))
     (λ c. search needs)
     (λ c. search needs)
     (λ c.
