@@ -28,7 +28,8 @@ use Rattle.refusal.specs.declared.Written.{Written}
 use Rattle.refusal.specs.declared.Written.the-variants.{To, Refused}
 use Rattle.layout.specs.Layout.{slotsMost, nul, lineFeed, startSize, Trace, traceSize}
 use Rattle.start.specs.Start.{startAnswer, startLeft}
-use Rattle.writer.specs.Answers.{wrongChannel, addAnswer, addLeft}
+use Rattle.opening.specs.Opening.{wrongChannel}
+use Rattle.writer.specs.Answers.{addAnswer, addLeft}
 use Rattle.afresh.specs.FileOf.{sizes, fileOf, fileSize, Measures, hasChannel, Good, Together, AllGood, Holds}
 use Rattle.afresh.specs.FileLaws.{length-more, good-front, good-next, file-fronted, has-last}
 use Rattle.start.specs.StartShown.{as-area, Started, started, starts}

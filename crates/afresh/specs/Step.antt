@@ -29,12 +29,14 @@ use Rattle.layout.specs.Layout.{traceBytes}
 use Rattle.start.specs.Start.{startAnswer, startLeft}
 use Rattle.append.specs.Grown.{newLength, newBytes, grown}
 use Rattle.image.specs.Accepted.{withOf}
-use Rattle.writer.specs.Answers.{wrongChannel, addAnswer, addLeft}
+use Rattle.opening.specs.Opening.{wrongChannel}
+use Rattle.writer.specs.Answers.{addAnswer, addLeft}
 use Rattle.afresh.specs.FileOf.{sizes, pointers, blocks, fileOf, fileSize, hasChannel, Good, Together, Holds}
 use Rattle.layout.specs.LayoutLaws.{frontOf, length-front, around-count, length-fileBlock, length-startImage, Fronted}
 use Rattle.layout.specs.LayoutLaws.{length-traceBytes}
 use Rattle.start.specs.StartShown.{started, start-left}
-use Rattle.writer.specs.Shown.{placed, Added, added, add-left}
+use Rattle.opening.specs.OpeningLaws.{placed}
+use Rattle.writer.specs.Shown.{Added, added, add-left}
 use Rattle.afresh.specs.FileLaws.{file-whole, length-pointers, file-none, size-none, size-low, pointers-more}
 use Rattle.afresh.specs.FileLaws.{blocks-more, length-more, size-more, good-append, behind, file-fronted, has-append}
 use Rattle.afresh.specs.FileLaws.{together-first, first-together}

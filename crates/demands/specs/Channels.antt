@@ -38,7 +38,8 @@ use Rattle.reader.specs.declared.KeywordAnswer.the-variants.{Yes, No}
 use Rattle.reader.specs.Questions.{keywordAnswer, valueAnswer, numberAnswer}
 use Rattle.reader.specs.Listed.{Lists, trace-area, listed-keyword, listed-value, listed-number}
 use Rattle.layout.specs.Layout.{Trace}
-use Rattle.writer.specs.Answers.{wrongChannel, addAnswer, addLeft}
+use Rattle.opening.specs.Opening.{wrongChannel}
+use Rattle.writer.specs.Answers.{addAnswer, addLeft}
 use Rattle.writer.specs.Shown.{added, add-left}
 use Rattle.growth.specs.Grows.{grown-grows}
 use Rattle.growth.specs.StillKeeps.{grown-accepted, grown-numbered}

@@ -35,7 +35,8 @@ use Rattle.head.specs.Head.{highFirst, roomOf, countOf, headRows, headOf}
 use Rattle.terminators.specs.Terminators.{stringEnd, lineEnd}
 use Rattle.block.specs.Block.{pointerOf, blockSize, endAt, badPointer, pointerRow, blockRows, blockOf}
 use Rattle.block.specs.BlockLaws.{headAt}
-use Rattle.image.specs.Image.{areaVerdict, channelAt, withChannel, traceChecks, traceOf, tracesFrom, filledChecks, restOf}
+use Rattle.trace.specs.Trace.{areaVerdict, channelAt}
+use Rattle.image.specs.Image.{withChannel, traceChecks, traceOf, tracesFrom, filledChecks, restOf}
 use Rattle.image.specs.Image.{imageOf, badLength, checkOf}
 use Rattle.channel.specs.Channel.{badChannel}
 

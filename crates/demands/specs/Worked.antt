@@ -30,7 +30,7 @@ use Rattle.digits.specs.Digits.{onto, digits}
 use Rattle.digits.specs.LastDigits.{lastDigits}
 use Rattle.numeral.specs.Numeral.{partsFor, signText, pointText, powerText, spelling, numeralOf, numeralAnswer}
 use Rattle.layout.specs.Layout.{Samples.integers, fitting, unfit}
-use Rattle.writer.specs.Answers.{samplesVerdict}
+use Rattle.entry.specs.Entry.{samplesVerdict}
 
 -- what a worked value says
 pub data Case : Type 0 where

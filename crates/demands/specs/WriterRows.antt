@@ -36,7 +36,9 @@ use Rattle.layout.specs.Layout.{nul, lineFeed, startSize, Trace, Samples, Sampl
 use Rattle.layout.specs.Layout.{unfit}
 use Rattle.start.specs.Start.{onMeasured, badStart, startAnswer}
 use Rattle.append.specs.Grown.{newLength}
-use Rattle.writer.specs.Answers.{noSlot, wrongChannel, withRow, takenOf, areaAnswer, onFit, samplesVerdict, addAnswer}
+use Rattle.opening.specs.Opening.{noSlot, wrongChannel, withRow, takenOf, areaAnswer}
+use Rattle.entry.specs.Entry.{onFit, samplesVerdict}
+use Rattle.writer.specs.Answers.{addAnswer}
 use Rattle.refusal.specs.FirstRow.{row, firstOf, first-nothing, first-row, first-more, rowsAt, rule-first, asked-more}
 use Rattle.refusal.specs.FirstRow.{asked-row, asked-none}
 use Rattle.demands.specs.FileRows.{pick-first, checkRows, check-answers-first}

@@ -20,7 +20,8 @@ use Rattle.word.specs.WordLaws.{length-bytesOf, bytesOf-bytes, word-put, word-p
 use Rattle.head.specs.Head.{highFirst, roomOf, countOf}
 use Rattle.layout.specs.Layout.{Trace}
 use Rattle.append.specs.Grown.{newBytes, grown}
-use Rattle.writer.specs.Shown.{room-small, placed, Added}
+use Rattle.opening.specs.OpeningLaws.{room-small, placed}
+use Rattle.writer.specs.Shown.{Added}
 use Rattle.append.specs.GrownLaws.{length-newBytes}
 
 -- ---- one store, byte by byte

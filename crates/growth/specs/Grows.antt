@@ -26,7 +26,7 @@ use Rattle.image.specs.Keeps.{Keeps}
 use Rattle.image.specs.Accepted.{accepted-keeps}
 use Rattle.layout.specs.Layout.{Trace, fitting, unfit, traceSize, traceBytes}
 use Rattle.append.specs.Grown.{newBytes, newLength, grown}
-use Rattle.writer.specs.Answers.{wrongChannel}
+use Rattle.opening.specs.Opening.{wrongChannel}
 use Rattle.writer.specs.Shown.{Added}
 use Rattle.growth.specs.Frame.{lies, length-grown, grown-front, grown-middle, grown-rest, grown-new, grown-count}
 use Rattle.growth.specs.Frame.{grown-pointer}

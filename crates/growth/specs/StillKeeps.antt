@@ -39,7 +39,7 @@ use Rattle.image.specs.Keeps.{traceAt, endBefore, stringsEnd, GoodChannel, Keep
 use Rattle.image.specs.Accepted.{withOf, channel-spelled, all-or-none, as-first, keeps-accepted, kept-ends}
 use Rattle.layout.specs.Layout.{Trace, count}
 use Rattle.append.specs.Grown.{grown}
-use Rattle.writer.specs.Answers.{wrongChannel}
+use Rattle.opening.specs.Opening.{wrongChannel}
 use Rattle.writer.specs.Shown.{Added}
 use Rattle.growth.specs.Frame.{length-grown}
 use Rattle.growth.specs.Grows.{Grows, grown-grows}

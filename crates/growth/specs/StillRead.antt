@@ -39,7 +39,8 @@ use Rattle.reader.specs.Questions.{integersVerdict, bitsVerdict, integersAnswer
 use Rattle.reader.specs.Questions.{classesOf, traceNumber, integersLeft, patternsLeft, classesLeft}
 use Rattle.layout.specs.Layout.{Trace}
 use Rattle.append.specs.Grown.{grown}
-use Rattle.writer.specs.Shown.{placed, Added}
+use Rattle.opening.specs.OpeningLaws.{placed}
+use Rattle.writer.specs.Shown.{Added}
 use Rattle.growth.specs.Grows.{Grows, grown-grows}
 use Rattle.growth.specs.Kept.{behind-room, longer, high-kept, room-kept, count-grown, size-kept, string-end-kept}
 use Rattle.growth.specs.Kept.{trace-at-kept, part-kept, trace-kept}

@@ -30,7 +30,8 @@ use Rattle.head.specs.Head.{highFirst, revisionOf, roomOf, countOf}
 use Rattle.terminators.specs.Terminators.{terminatorAt, stringEnd, lineEnd, goodTerminator}
 use Rattle.head.specs.Head.{headOf}
 use Rattle.block.specs.Block.{pointerOf, markAt, blockSize, dataSize, sampleCount, formatCode, dataAt, endAt, blockOf}
-use Rattle.image.specs.Image.{areaVerdict, channelAt, withChannel, traceOf, tracesFrom, filledChecks, restOf, imageOf}
+use Rattle.trace.specs.Trace.{areaVerdict, channelAt}
+use Rattle.image.specs.Image.{withChannel, traceOf, tracesFrom, filledChecks, restOf, imageOf}
 use Rattle.block.specs.BlockLaws.{headAt, own-mark, own-size, own-data, own-samples, own-code}
 use Rattle.refusal.specs.FirstRow.{firstOf}
 use Rattle.image.specs.Keeps.{traceAt, stringsEnd}

@@ -1,65 +1,35 @@
 -- The check of a whole file (document 01, rows 1 and 8 to 17 in their order, and 34 of document 02; rows 2 to 7 are
--- head/Head, the rows of a block block/Block). f is the image, `how` the manner of reading.
+-- head/Head, 9 to 17 and 34 of a trace trace/Trace). f is the image, `how` the manner of reading.
 -- Assumes nothing.
-use mathlib.Core.Bool.{Bool, _&&_, _||_}
+use mathlib.Core.Bool.{Bool, _||_}
 use mathlib.Core.List.{List, [], _∷_}
 use Prim.Native.Nat.{ℕ, zero, suc, _+_}
 use lib.ListN.{length, take}
 use lib.Dec.{ltb, eqb}
-use Rattle.word.specs.Part.{part}
-use Rattle.refusal.specs.declared.Rule.the-variants.{Length, ChannelNumber}
-use Rattle.refusal.specs.declared.Part.{Part}
-use Rattle.refusal.specs.declared.Part.the-variants.{File, Trace}
+use Rattle.refusal.specs.declared.Rule.the-variants.{Length}
+use Rattle.refusal.specs.declared.Part.the-variants.{File}
 use Rattle.refusal.specs.declared.Verdict.{Verdict}
 use Rattle.refusal.specs.declared.Verdict.the-variants.{Accepted}
 use Rattle.refusal.specs.Rows.{pick}
 use Rattle.refusal.specs.Verdicts.{andThen}
-use Rattle.refusal.specs.FirstRow.{row, firstOf}
+use Rattle.refusal.specs.FirstRow.{firstOf}
 use Rattle.text.specs.declared.Manner.{Manner}
-use Rattle.text.specs.Manner.{asksChannels}
-use Rattle.strings.specs.declared.Found.{Found}
-use Rattle.strings.specs.Strings.{stringsOf, placesOf, findOf, found, valueFound}
-use Rattle.channel.specs.Channel.{channelNumber, badChannel}
-use Rattle.block.specs.Block.{pointerOf, blockSize, endAt, pointerRow, blockOf}
-use Rattle.block.specs.BlockLaws.{headAt}
+use Rattle.strings.specs.Strings.{found}
+use Rattle.block.specs.Block.{pointerOf, endAt, pointerRow}
+use Rattle.trace.specs.Trace.{areaVerdict, channelAt, blockChecks}
 use Rattle.head.specs.declared.Purpose.{Purpose}
 use Rattle.head.specs.Head.{maximum, highFirst, roomOf, countOf, headOf, refused}
 use Rattle.terminators.specs.Terminators.{stringEnd, lineEnd}
 
--- rows 14 to 17 of an area of the file: "The file's strings fill the bytes from 32+M to the first pointer", "strings
--- from byte 32 to B"
-unfoldable pub areaVerdict : Manner → Bool → List ℕ → List ℕ → List ℕ → Part → ℕ → ℕ → Verdict
-areaVerdict how high t u f whose a e = stringsOf how high t u whose (part a e f) a
-
 -- ---- channel numbers (document 02 §7): "if one trace block has it, all must"
-
--- the string CHANNEL_NUMBER of the trace whose block begins at p, if it has one
-unfoldable pub channelAt : Manner → Bool → List ℕ → List ℕ → ℕ → Found
-channelAt how high t f p = findOf how f (placesOf how high t (part (p + 32) (p + blockSize high f p) f) (p + 32)) channelNumber
 
 -- whether trace 0 has it
 abbrev pub withChannel : Manner → Bool → List ℕ → List ℕ → Bool
 withChannel how high t f = found (channelAt how high t f (pointerOf high f 0))
 
--- 34 "at the trace's p+32, for a bad value or where only one of it and trace 0 has the string", of the trace k at p
--- that has the string or not, with the value v; `with` tells whether trace 0 has it
-abbrev pub channelRow : Manner → Bool → ℕ → ℕ → Bool → List ℕ → Verdict
-channelRow how with k p has v = row (asksChannels how && badChannel with has v) ChannelNumber (Trace k) (p + 32)
-
-abbrev pub channelVerdict : Manner → Bool → List ℕ → ℕ → ℕ → Found → Verdict
-channelVerdict how with f k p s = channelRow how with k p (found s) (valueFound f s)
-
 -- ---- "each trace 8 to 17", and 34 "after 17 within each trace": one list of checks in their order
 
--- 9 to 13, 14 to 17 and 34 of the trace k, whose block begins at p
-abbrev pub blockChecks : Manner → Bool → List ℕ → List ℕ → List ℕ → Bool → ℕ → ℕ → List Verdict
-blockChecks how high t u f with k p =
-    blockOf high (headAt f p) (length f) k p
-    ∷ areaVerdict how high t u f (Trace k) (p + 32) (p + blockSize high f p)
-    ∷ channelVerdict how with f k p (channelAt how high t f p)
-    ∷ []
-
--- and before them 8, behind what ends at prev
+-- 8 of the trace k, behind what ends at prev, and behind it the rows of its block
 abbrev pub traceChecks : Manner → Bool → List ℕ → List ℕ → List ℕ → ℕ → ℕ → List Verdict
 traceChecks how high t u f k prev =
     pointerRow (length f) k prev (pointerOf high f k) ∷ blockChecks how high t u f (withChannel how high t f) k (pointerOf high f k)

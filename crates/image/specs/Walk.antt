@@ -20,26 +20,14 @@ use Rattle.refusal.specs.declared.Refusal.{Refusal}
 use Rattle.refusal.specs.declared.Verdict.{Verdict}
 use Rattle.refusal.specs.declared.Verdict.the-variants.{Accepted, Refused}
 use Rattle.text.specs.declared.Manner.{Manner}
-use Rattle.strings.specs.Strings.{found}
 use Rattle.block.specs.Block.{pointerOf, endAt, pointerRow}
 use Rattle.block.specs.BlockLaws.{pointed}
 use Rattle.image.specs.declared.Walked.{Walked}
 use Rattle.image.specs.declared.Walked.the-variants.{Past, Bad}
-use Rattle.image.specs.declared.Traced.{Traced}
-use Rattle.image.specs.declared.Traced.the-variants.{Through, Not}
-use Rattle.image.specs.Image.{areaVerdict, channelAt, withChannel, blockChecks, traceOf, tracesFrom, restOf}
-
--- whether the file's traces have a channel number, as the walk knows it at the trace k, which has one or not: trace 0
--- chooses, and behind it `with` is handed on
-abbrev pub chosenBy : Bool → ℕ → Bool → Bool
-chosenBy with k has = pick (eqb k 0) has with
-
-abbrev pub chosenAt : Manner → Bool → List ℕ → List ℕ → Bool → ℕ → ℕ → Bool
-chosenAt how high t f with k p = chosenBy with k (found (channelAt how high t f p))
-
--- a trace at p: the refusal of its checks, or where it ends and what was chosen
-abbrev pub traced : Manner → Bool → List ℕ → List ℕ → List ℕ → Bool → ℕ → ℕ → Traced
-traced how high t u f with k p = asked Not (firstOf (blockChecks how high t u f with k p)) (Through (endAt high f p) with)
+use Rattle.trace.specs.declared.Traced.the-variants.{Through, Not}
+use Rattle.trace.specs.Trace.{areaVerdict, blockChecks, chosenAt, traced}
+use Rattle.trace.specs.TraceLaws.{not-through, was-through}
+use Rattle.image.specs.Image.{withChannel, traceOf, tracesFrom, restOf}
 
 -- behind what ends at prev: row 8 of the trace k, and where it begins; behind the last of n traces, the image's end
 abbrev pub nextOf : Bool → List ℕ → ℕ → ℕ → ℕ → Walked
@@ -71,14 +59,6 @@ stopped (Refused q) p r e = let s : q ≡ r = cc in ap Refused s
 went-on : (v : Verdict) (p q : ℕ) → asked Bad v (Past p) ≡ Past q → (v ≡ Accepted) × (p ≡ q)
 went-on Accepted p q e = (refl, cc)
 went-on (Refused r) p q e = let z : _≡_ {A = ℕ} 0 1 = cc in absurd (omega arith)
-
-not-through : (v : Verdict) (p : ℕ) (w : Bool) (r : Refusal) → asked Not v (Through p w) ≡ Not r → v ≡ Refused r
-not-through Accepted p w r e = let z : _≡_ {A = ℕ} 0 1 = cc in absurd (omega arith)
-not-through (Refused q) p w r e = let s : q ≡ r = cc in ap Refused s
-
-was-through : (v : Verdict) (p : ℕ) (w : Bool) (q : ℕ) (x : Bool) → asked Not v (Through p w) ≡ Through q x → (v ≡ Accepted) × (p ≡ q) × (w ≡ x)
-was-through Accepted p w q x e = (refl, cc, cc)
-was-through (Refused r) p w q x e = let z : _≡_ {A = ℕ} 0 1 = cc in absurd (omega arith)
 
 -- ---- a trace: its pointer, then its block
 module _ (how : Manner) (high : Bool) (t u f : List ℕ) (k prev : ℕ) where

@@ -1,6 +1,6 @@
-// The check of an area of strings (document 01, rows 14 to 17) that seeks a keyword in the same pass, so that no string
-// is read twice where a rule asks for one (document 02, §7). Sought has the definitions and the laws of the walk. Stands
-// on `strings`.
+// The check of an area of strings (document 01, rows 14 to 17) that seeks CHANNEL_NUMBER in the same pass, so that no
+// string is read twice for the rule that asks for it (document 02, §7). Sought has the definitions and the laws of the
+// walk, for any keyword. Stands on `strings`, and on `channel` for the keyword.
 // The rules in words: docs/FORMAT.md, "Strings".
 use chars::Kind;
 use refusal::Part;
@@ -12,13 +12,23 @@ ghost use mathlib.Core.Path.{_≡_};
 ghost use Prim.Native.Nat.{_≤_, _<_};
 ghost use lib.ListN.{length};
 ghost use Rattle.refusal.specs.Rows.{pick};
+ghost use Rattle.chars.specs.Runs.{same};
+ghost use Rattle.text.specs.Manner.{named};
+ghost use Rattle.channel.specs.Channel.{channelNumber};
 ghost use Rattle.seek.specs.Sought.{Lies, hasOf, seenOf, checkedOf};
 
-// What the check of an area answers: the refusal, or whether there is a string with the keyword that is sought beside,
-// and where the value of the first begins and ends in the file (0 and 0 where there is none).
+// What the check of an area answers: the refusal, or whether it has a channel number, and where the value of the first
+// begins and ends in the file (0 and 0 where there is none).
 pub enum Checked {
     Refused(Refusal),
     Has(bool, usize, usize),
+}
+
+// Whether a keyword counts as the one that is sought. It is no parameter: a literal that is handed on takes stack.
+fn is_sought(k: &[u8], how: Manner) -> bool
+    ensures { λ r. ⌜ r ≡ same (named how (now (k .entry))) channelNumber ⌝ }
+{
+    text::is_named(k, b"CHANNEL_NUMBER", how)
 }
 
 // The first where the test holds, else the second.
@@ -44,8 +54,8 @@ fn has(f: &[u8], e: usize, t: &[u8], hit: usize, gap: usize, size: usize) -> Che
     Checked::Has(true, gap + chars::run(Kind::Blank, &f[gap..end]), end)
 }
 
-// The check of the area from a to e of f and, in the same pass, its first string with the keyword `key`. The keyword
-// before is the file's own bytes from k to g.
+// The check of the area from a to e of f and, in the same pass, its first channel number. The keyword before is the
+// file's own bytes from k to g.
 pub fn check(
     f: &[u8],
     a: usize,
@@ -54,12 +64,11 @@ pub fn check(
     t: &[u8],
     u: &[u8],
     whose: Part,
-    key: &[u8],
     how: Manner,
 ) -> Checked
     requires { ⌜ (a ≤ e) × (e ≤ length (now f)) × (0 < length (now u)) ⌝ }
     ensures { λ r. ⌜ r ≡ checkedOf how high (now (t .entry)) (now (u .entry)) whose (now (f .entry)) a e
-        (now (key .entry)) ⌝ }
+        channelNumber ⌝ }
 {
     if e <= a {
         return has(f, e, t, e, e, 0);
@@ -82,7 +91,7 @@ pub fn check(
             Step::Next(o, n) => {
                 k = at + 2;
                 g = k + n;
-                let first = (e <= hit) & text::is_named(&f[k..g], key, how);
+                let first = (e <= hit) & is_sought(&f[k..g], how);
                 hit = choose(first, at, hit);
                 gap = choose(first, g, gap);
                 size = choose(first, o, size);

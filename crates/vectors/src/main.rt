@@ -118,7 +118,6 @@ fn accepted(area: &[u8]) -> bool {
         b"\x00",
         b"\x0a\x0d",
         Part::File,
-        b"",
         Manner::Strict,
     );
     match v {

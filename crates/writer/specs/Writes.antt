@@ -1,56 +1,41 @@
 -- What each row of an addition leaves, and what the rows before the first store have shown.
 -- Assumes nothing.
-use mathlib.Core.Path.{_≡_, refl, sym, ap, _∙_}
-use mathlib.Core.Bool.{Bool, true, false, _&&_, _||_}
+use mathlib.Core.Path.{_≡_, refl, sym, _∙_}
+use mathlib.Core.Bool.{Bool, true, false, _||_}
 use mathlib.Core.List.{List}
-use Prim.Native.Nat.{ℕ, zero, suc, _+_, _*_, _%_, _≤_, _<_}
+use Prim.Native.Nat.{ℕ, _+_, _<_}
 use native.Mathlib.Omega.{arith}
 use lib.ListN.{length, take}
-use lib.Seq.{length-take-le}
-use lib.Dec.{ltb, eqb}
-use borrow.Author.Tests.{lt-ltb, le-ltb, ne-eqb, eqb-false}
-use Rattle.word.specs.Part.{part}
-use Rattle.word.specs.Word.{wordAt}
+use lib.Dec.{ltb}
+use borrow.Author.Tests.{lt-ltb}
 use Rattle.word.specs.Round.{round4}
 use Rattle.word.specs.Bytes.{Bytes, bytes-take}
-use Rattle.refusal.specs.Table.{refusal}
 use Rattle.refusal.specs.Rows.{pick}
 use Rattle.refusal.specs.Verdicts.{asked}
 use Rattle.refusal.specs.declared.Refusal.{Refusal}
-use Rattle.refusal.specs.declared.Rule.the-variants.{NoSlot, SheetChannel, EntryCode, NoRoom}
-use Rattle.refusal.specs.declared.Part.the-variants.{File}
+use Rattle.refusal.specs.declared.Rule.the-variants.{NoRoom}
 use Rattle.refusal.specs.declared.Verdict.{Verdict}
 use Rattle.refusal.specs.declared.Verdict.the-variants as verdict
-use Rattle.fit.specs.declared.Fit.{Fit}
 use Rattle.sample.specs.Needed.{room}
-use Rattle.decode.specs.Sample.{integersAsked, bitsAsked}
-use Rattle.sheet.specs.declared.Measured.{Measured}
 use Rattle.sheet.specs.declared.Measured.the-variants as measured
-use Rattle.sheet.specs.Area.{areaSize, measuredOf}
+use Rattle.sheet.specs.Area.{areaSize}
 use Rattle.area.specs.Spelling.{measured-size}
-use Rattle.strings.specs.declared.Found.{Found}
-use Rattle.strings.specs.Strings.{placesOf, findOf, found}
-use Rattle.channel.specs.Channel.{channelNumber}
-use Rattle.sheet_channel.specs.SheetChannel.{badSheet}
-use Rattle.head.specs.Head.{maximum, highFirst, roomOf, countOf, refused, fileBlockOf}
-use Rattle.terminators.specs.Terminators.{stringEnd, lineEnd, goodTerminator}
-use Rattle.text.specs.declared.Manner.the-variants.{Strict}
-use Rattle.head.specs.declared.Purpose.the-variants.{Grow}
-use Rattle.block.specs.Block.{pointerOf, blockSize}
-use Rattle.image.specs.Image.{channelAt, withChannel, imageOf, checkOf}
-use Rattle.image.specs.Accepted.{image-headed, image-traced, traced-places}
-use Rattle.head.specs.declared.FileBlock.{FileBlock}
+use Rattle.head.specs.Head.{maximum, roomOf}
+use Rattle.terminators.specs.Terminators.{stringEnd, lineEnd}
 use Rattle.refusal.specs.declared.Written.{Written}
 use Rattle.refusal.specs.declared.Written.the-variants.{To, Refused}
 use Rattle.refusal.specs.Writing.{refuse}
 use Rattle.start.specs.Start.{within, onMeasured}
-use Rattle.layout.specs.Layout.{Trace, Samples, count, fitting, unfit}
+use Rattle.layout.specs.Layout.{Trace, count}
 use Rattle.layout.specs.LayoutLaws.{Kinded, kinded, room-enough}
 use Rattle.layout.specs.Stores.{Held}
 use Rattle.append.specs.Grown.{newLength, grown}
 use Rattle.append.specs.GrownLaws.{Begins}
-use Rattle.writer.specs.Answers.{wrongChannel, takenOf, areaAnswer, onFit, samplesVerdict, addAnswer, addLeft}
-use Rattle.writer.specs.Shown.{room-small, placed, opened, samples-fit, added, add-left, add-refused}
+use Rattle.opening.specs.Opening.{areaAnswer}
+use Rattle.opening.specs.OpeningLaws.{room-small, opened, accepted}
+use Rattle.entry.specs.Entry.{samplesVerdict}
+use Rattle.writer.specs.Answers.{addAnswer, addLeft}
+use Rattle.writer.specs.Shown.{added, add-left, add-refused}
 
 -- ---- every row, with what 28 and 29 say of the samples as one verdict
 
@@ -82,156 +67,6 @@ too-many len n size code s k h =
     or-true : (a : Bool) → refuse NoRoom 0 ≡ pick (a || true) (refuse NoRoom 0) (To (round4 n + (32 + size + room code s)))
     or-true true = refl
     or-true false = refl
-
--- ---- rows 28 and 29 as the code tests them
-
-pub of-integers : (code s : ℕ) → ((eqb code 1 || eqb code 2) || (eqb code 3 && eqb (s % 4) 0)) ≡ integersAsked code s
-of-integers zero s = refl
-of-integers (suc zero) s = refl
-of-integers (suc (suc zero)) s = refl
-of-integers (suc (suc (suc zero))) s = refl
-of-integers (suc (suc (suc (suc zero)))) s = refl
-of-integers (suc (suc (suc (suc (suc zero))))) s = refl
-of-integers (suc (suc (suc (suc (suc (suc c)))))) s =
-    let k : ℕ = suc (suc (suc (suc (suc (suc c))))) in
-    rw (ne-eqb k 1 (λ e. omega arith), ne-eqb k 2 (λ e. omega arith), ne-eqb k 3 (λ e. omega arith))
-
-pub of-bits : (code : ℕ) → (eqb code 4 || eqb code 5) ≡ bitsAsked code
-of-bits zero = refl
-of-bits (suc zero) = refl
-of-bits (suc (suc zero)) = refl
-of-bits (suc (suc (suc zero))) = refl
-of-bits (suc (suc (suc (suc zero)))) = refl
-of-bits (suc (suc (suc (suc (suc zero))))) = refl
-of-bits (suc (suc (suc (suc (suc (suc c)))))) =
-    let k : ℕ = suc (suc (suc (suc (suc (suc c))))) in
-    rw (ne-eqb k 4 (λ e. omega arith), ne-eqb k 5 (λ e. omega arith))
-
-module _ (code : ℕ) (samples : Samples) {asked : Bool} (e : asked ≡ fitting code samples) where
-  pub of-kind : {fit : Fit} {v : Verdict} → asked ≡ true → fit ≡ unfit code samples → v ≡ onFit fit → v ≡ samplesVerdict code samples
-  unfolding samplesVerdict
-  of-kind h f v = v ∙ rw (← e, h, f)
-
-  pub of-other : {v : Verdict} → asked ≡ false → v ≡ refused EntryCode 0 → v ≡ samplesVerdict code samples
-  unfolding samplesVerdict
-  of-other h v = v ∙ rw (← e, h)
-
-  pub code-most : asked ≡ true → code ≤ 5
-  code-most h = kinded code samples (sym e ∙ h) .most
-
--- so where they are accepted the code is one of the five
-pub judged : {code : ℕ} (samples : Samples) {v : Verdict} → v ≡ samplesVerdict code samples → v ≡ verdict.Accepted → Kinded code (count samples)
-judged {code} samples e h = kinded code samples (samples-fit code samples (sym e ∙ h) .0)
-
--- ---- rows 1 to 17, 34 and 24 as the code tests them; b is the file block that it read
-
-pub record Checked (xs : List ℕ) (n : ℕ) : Type 0 where
-  pub low : 32 ≤ n
-  pub most : n ≤ maximum
-  pub within : n ≤ length xs
-  pub size : length (take n xs) ≡ n
-  pub room : 32 + roomOf (take n xs) ≤ n
-  pub strings : goodTerminator (take n xs) 8 ≡ true
-  pub lines : goodTerminator (take n xs) 11 ≡ true
-  pub image : imageOf Strict Grow (take n xs) ≡ verdict.Accepted
-
-pub accepted : (xs : List ℕ) (n : ℕ) {v : Verdict} → v ≡ checkOf Strict Grow xs n → v ≡ verdict.Accepted → Checked xs n
-accepted xs n e v =
-    let p = placed Grow xs n (sym e ∙ v) in
-    let l = p .0 in
-    let h = p .1 in
-    let k : length (take n xs) ≡ n = length-take-le n xs (l .2) in
-    let f : 32 + roomOf (take n xs) ≤ length (take n xs) = h .fits in
-    record {
-      low = l .0;
-      most = l .1;
-      within = l .2;
-      size = k;
-      room = omega arith;
-      strings = h .strings;
-      lines = h .lines;
-      image = p .2;
-    }
-
-module _ (xs : List ℕ) (n : ℕ) (sheet : List ℕ) {v : Verdict} (e : v ≡ checkOf Strict Grow xs n) where
-  pub opened-bad : {r : Refusal} → v ≡ verdict.Refused r → measured.Refused r ≡ areaAnswer xs n sheet
-  unfolding areaAnswer
-  opened-bad h = rw (← e, h)
-
-  module _ (a : v ≡ verdict.Accepted) {b : FileBlock} (read : b ≡ fileBlockOf (take n xs)) where
-    pub opened-full : b .m < 4 * b .n + 4 → measured.Refused (refusal NoSlot File 0) ≡ areaAnswer xs n sheet
-    unfolding fileBlockOf areaAnswer
-    opened-full h =
-        let p : b .m ≡ roomOf (take n xs) = ap (λ (k : FileBlock). k .m) read in
-        let q : b .n ≡ countOf (take n xs) = ap (λ (k : FileBlock). k .n) read in
-        rw (← e, a, lt-ltb (roomOf (take n xs)) (4 * countOf (take n xs) + 4) (omega arith))
-
-    pub opened-free : 4 * b .n + 4 ≤ b .m → takenOf (take n xs) sheet ≡ areaAnswer xs n sheet
-    unfolding fileBlockOf areaAnswer
-    opened-free h =
-        let p : b .m ≡ roomOf (take n xs) = ap (λ (k : FileBlock). k .m) read in
-        let q : b .n ≡ countOf (take n xs) = ap (λ (k : FileBlock). k .n) read in
-        rw (← e, a, le-ltb (roomOf (take n xs)) (4 * countOf (take n xs) + 4) (omega arith))
-
--- ---- rows 25 to 27 and 35 of an image f that was accepted
-
-module _ (f sheet : List ℕ) {m : Measured} (e : m ≡ measuredOf (stringEnd f) (lineEnd f) sheet) where
-  pub taken-bad : {r : Refusal} → m ≡ measured.Refused r → measured.Refused r ≡ takenOf f sheet
-  unfolding takenOf
-  taken-bad h = rw (← e, h)
-
-  module _ {b : ℕ} (h : m ≡ measured.Size b) where
-    pub taken-wrong : wrongChannel f sheet ≡ true → measured.Refused (refusal SheetChannel File 0) ≡ takenOf f sheet
-    unfolding takenOf
-    taken-wrong w = rw (← e, h, w)
-
-    pub taken-size : wrongChannel f sheet ≡ false → measured.Size b ≡ takenOf f sheet
-    unfolding takenOf
-    taken-size w = rw (← e, h, w)
-
--- the first addition is free to choose, whatever `with` says
-pub wrong-first : (f sheet : List ℕ) {first w : Bool} → first ≡ eqb (countOf f) 0 → first ≡ true → w ≡ badSheet true false sheet → w ≡ wrongChannel f sheet
-unfolding wrongChannel badSheet
-wrong-first f sheet c z e = e ∙ rw (sym c ∙ z)
-
-pub wrong-later : (f sheet : List ℕ) {first w with : Bool} → first ≡ eqb (countOf f) 0 → first ≡ false
-    → with ≡ withChannel Strict (highFirst f) (stringEnd f) f
-    → w ≡ badSheet false with sheet → w ≡ wrongChannel f sheet
-unfolding wrongChannel
-wrong-later f sheet c z h e = e ∙ rw (sym c ∙ z, h)
-
-pub some-there : (f : List ℕ) {first : Bool} → first ≡ eqb (countOf f) 0 → first ≡ false → 0 < countOf f
-some-there f c z = let n = eqb-false (countOf f) 0 (sym c ∙ z) in omega arith
-
--- what such an image has: its terminators, and where there is a trace, the block of trace 0
-pub record Image (f : List ℕ) : Type 0 where
-  pub long : 36 ≤ length f
-  pub strings : goodTerminator f 8 ≡ true
-  pub lines : goodTerminator f 11 ≡ true
-
-pub image-shown : (f : List ℕ) → imageOf Strict Grow f ≡ verdict.Accepted → Image f
-image-shown f ok =
-    let h = image-headed Strict Grow f ok in
-    let r : 32 + roomOf f ≤ length f = h .fits in
-    record { long = omega (arith, h .room .0); strings = h .strings; lines = h .lines }
-
-pub record First (high : Bool) (f : List ℕ) : Type 0 where
-  pub block : pointerOf high f 0 + 32 ≤ length f
-  pub least : 32 ≤ wordAt 2 high f (pointerOf high f 0 + 2)
-  pub fits : pointerOf high f 0 + wordAt 2 high f (pointerOf high f 0 + 2) ≤ length f
-
-pub first-lies : (f : List ℕ) {high : Bool} → imageOf Strict Grow f ≡ verdict.Accepted → 0 < countOf f → high ≡ highFirst f → First high f
-unfolding blockSize
-first-lies f ok some e =
-    let t = traced-places Strict f 0 (image-traced Strict Grow f ok 0 some) in
-    rw e (record { block = t .0 .fits; least = t .1 .least; fits = t .1 .fits })
-
--- what was found in its strings is its channel number
-pub first-channel : (f : List ℕ) {high : Bool} {t : List ℕ} {p w : ℕ} {s : Found} → high ≡ highFirst f → t ≡ stringEnd f → p ≡ pointerOf high f 0
-    → w ≡ wordAt 2 high f (p + 2) → s ≡ findOf Strict f (placesOf Strict high t (part (p + 32) (p + w) f) (p + 32)) channelNumber
-    → found s ≡ withChannel Strict (highFirst f) (stringEnd f) f
-unfolding channelAt blockSize
-first-channel f h t p w e = ap found e ∙ rw (w, p, t, h)
 
 -- ---- the answer and what is left
 

@@ -1,7 +1,5 @@
 -- `image::rest` meets its contract. Each part is asked only where the ones before it were accepted. Assumes nothing.
 use mathlib.Core.Path.{sym, _∙_}
-use Rattle.seek.specs.Sought.{checked-refused, checked-has}
-use Rattle.image.specs.Image.{areaVerdict}
 use Rattle.image.specs.Walk.{next-stands, next-within, rest-pointer, rest-strings, rest-traces}
 use borrow.Author.Needs.{needs}
 use native.Mathlib.Omega.{arith}
@@ -9,7 +7,6 @@ use Rattle.image.proofs.rest.Statement.{statement}
 use Rattle.image.proofs.rest.Tie as tie
 
 pub rest-spec : {M : Type 1} → statement M
-unfolding areaVerdict
 rest-spec =
     tie.close
     (tie.spec
@@ -17,9 +14,8 @@ rest-spec =
     (λ c κs. search needs)
     (λ c. search needs)
     (λ c. search needs)
-    (λ c. search needs)
     (λ c κs.
-    let at-x2 = c .before .before in
+    let at-x2 = c .before in
     let at-next = at-x2 .before .before in
     let start = at-next .before .before .before .before in
     let args = start .args in
@@ -29,7 +25,7 @@ rest-spec =
     (λ c. search needs)
     (λ c. search needs)
     (λ c κs.
-    let at-x2 = c .before .before .before .before .before in
+    let at-x2 = c .before .before .before .before in
     let at-next = at-x2 .before .before in
     let start = at-next .before .before .before .before in
     let e = at-next .next .ensures in
@@ -41,19 +37,18 @@ rest-spec =
     rest-pointer _ _ (args .t .now) (args .u .now) (args .f .now) _ _ _ (sym (at-next .next .ensures .0) ∙ at-x .x .given .1))
     (λ c.
     let at-strings = c .before in
-    let at-check = at-strings .before .before in
-    let at-x2 = at-check .before .before .before in
+    let at-own = at-strings .before .before in
+    let at-x2 = at-own .before .before in
     let at-next = at-x2 .before .before in
     let args = at-next .before .before .before .before .args in
     let e = sym (at-next .next .ensures .0) ∙ at-x2 .x2 .given .1 in
-    let s = checked-refused _ _ _ _ _ _ _ _ _ (sym (at-check .check .ensures) ∙ at-strings .strings .given .1) in
-    rest-strings _ _ (args .t .now) (args .u .now) (args .f .now) _ _ _ _ e s)
+    rest-strings _ _ (args .t .now) (args .u .now) (args .f .now) _ _ _ _ e (sym (at-own .own-strings .ensures) ∙ at-strings .strings .given .1))
     (λ c.
     let at-enum-told = c .before in
-    let at-check = at-enum-told .before .before in
-    let at-x2 = at-check .before .before .before in
+    let at-own = at-enum-told .before .before in
+    let at-x2 = at-own .before .before in
     let at-next = at-x2 .before .before in
     let args = at-next .before .before .before .before .args in
     let e = sym (at-next .next .ensures .0) ∙ at-x2 .x2 .given .1 in
-    let s = checked-has _ _ _ _ _ _ _ _ _ (sym (at-check .check .ensures) ∙ at-enum-told .enum-told .given .1) .0 in
+    let s = sym (at-own .own-strings .ensures) ∙ at-enum-told .enum-told .given .1 in
     c .traces .ensures ∙ rest-traces _ _ (args .t .now) (args .u .now) (args .f .now) _ _ _ e s))

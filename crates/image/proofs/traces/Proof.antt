@@ -33,7 +33,7 @@ behind c =
     let low = at-loop-test .loop-test .taken in
     let here = at-loop .loop .inv .1 low .0 in
     let chose = chosen-first (args .how) _ (args .t .now) (args .f .now) (at-loop .loop .with) _ _ here (at-loop .loop .inv .3) in
-    let t = turn-past _ _ (args .t .now) (args .u .now) (args .f .now) _ _ _ low here _ chose _ _ (sym (at-block .block .ensures) ∙ c .w2 .given .1) in
+    let t = turn-past _ _ (args .t .now) (args .u .now) (args .f .now) _ _ _ low here _ chose _ _ (sym (at-block .check .ensures) ∙ c .w2 .given .1) in
     (t .0 ∙ at-loop .loop .inv .2, t .1)
 
 pub traces-spec : {M : Type 1} → statement M
@@ -60,7 +60,7 @@ traces-spec =
     let low = at-loop-test .loop-test .taken in
     let here = at-loop .loop .inv .1 low .0 in
     let chose = chosen-first (args .how) _ (args .t .now) (args .f .now) (at-loop .loop .with) _ _ here (at-loop .loop .inv .3) in
-    turn-bad _ _ (args .t .now) (args .u .now) (args .f .now) _ _ _ low here _ chose _ (sym (at-block .block .ensures) ∙ at-w .w .given .1)
+    turn-bad _ _ (args .t .now) (args .u .now) (args .f .now) _ _ _ low here _ chose _ (sym (at-block .check .ensures) ∙ at-w .w .given .1)
     ∙ at-loop .loop .inv .2)
     (λ c. search needs)
     (λ c. search needs)

@@ -1,7 +1,8 @@
 -- `writer::add_bits` meets its contract. A refusal leaves all as it was, and else the buffer is grown. Assumes nothing.
 use Rattle.word.specs.Bytes.{each-bytes}
 use Rattle.layout.specs.Layout.{patterns, patternsTrace, count}
-use Rattle.writer.specs.Writes.{judged, begins, kept-left, grown-left}
+use Rattle.entry.specs.EntryLaws.{judged}
+use Rattle.writer.specs.Writes.{begins, kept-left, grown-left}
 use borrow.Author.Needs.{needs}
 use Rattle.writer.proofs.add_bits.Statement.{statement}
 use Rattle.writer.proofs.add_bits.Tie as tie

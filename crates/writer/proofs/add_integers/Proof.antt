@@ -2,7 +2,8 @@
 -- nothing.
 use Rattle.word.specs.Bytes.{each-bytes}
 use Rattle.layout.specs.Layout.{integers, integersTrace, count}
-use Rattle.writer.specs.Writes.{judged, begins, kept-left, grown-left}
+use Rattle.entry.specs.EntryLaws.{judged}
+use Rattle.writer.specs.Writes.{begins, kept-left, grown-left}
 use borrow.Author.Needs.{needs}
 use Rattle.writer.proofs.add_integers.Statement.{statement}
 use Rattle.writer.proofs.add_integers.Tie as tie

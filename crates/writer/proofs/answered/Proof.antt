@@ -1,7 +1,7 @@
 -- `writer::answered` meets its contract. The rows before the samples, then the others. Assumes nothing.
 use mathlib.Core.Path.{sym, _∙_}
 use Rattle.area.specs.Spelling.{measured-size}
-use Rattle.writer.specs.Shown.{opened}
+use Rattle.opening.specs.OpeningLaws.{opened}
 use Rattle.writer.specs.Writes.{rows-shut, rows-ended}
 use borrow.Author.Needs.{needs}
 use Rattle.writer.proofs.answered.Statement.{statement}
