@@ -12,7 +12,8 @@ ghost use mathlib.Core.Path.{_≡_};
 ghost use Prim.Native.Nat.{_<_};
 ghost use lib.Dec.{eqb};
 ghost use Rattle.head.specs.Head.{highFirst, countOf};
-ghost use Rattle.terminators.specs.Terminators.{stringEnd};
+ghost use Rattle.sheet.specs.Area.{measuredOf};
+ghost use Rattle.terminators.specs.Terminators.{stringEnd, lineEnd};
 ghost use Rattle.image.specs.Image.{withChannel, imageOf};
 ghost use Rattle.opening.specs.Opening.{wrongChannel, takenOf, areaAnswer};
 
@@ -45,13 +46,22 @@ fn is_wrong_channel(f: &[u8], first: bool, high: bool, sheet: &[u8]) -> bool
     sheet_channel::is_bad(sheet, false, has_channel(f, high))
 }
 
+// Rows 25 to 27 of a sheet, with the terminators of an image that was accepted. A function, so that what it keeps in
+// memory is given back before row 35.
+fn measured(f: &[u8], sheet: &[u8]) -> Measured
+    requires { ⌜ imageOf Manner.Strict Purpose.Grow (now f) ≡ Verdict.Accepted ⌝ }
+    ensures { λ r. ⌜ r ≡ measuredOf (stringEnd (now (f .entry))) (lineEnd (now (f .entry))) (now (sheet .entry)) ⌝ }
+{
+    sheet::measure(sheet, terminators::string_end(f), terminators::line_end(f))
+}
+
 // Rows 25 to 27 and 35 of a sheet, for an image that was accepted.
 fn taken(f: &[u8], first: bool, high: bool, sheet: &[u8]) -> Measured
     requires { ⌜ (imageOf Manner.Strict Purpose.Grow (now f) ≡ Verdict.Accepted) × (first ≡ eqb (countOf (now f)) 0)
         × (high ≡ highFirst (now f)) ⌝ }
     ensures { λ r. ⌜ r ≡ takenOf (now (f .entry)) (now (sheet .entry)) ⌝ }
 {
-    let m = sheet::measure(sheet, terminators::string_end(f), terminators::line_end(f));
+    let m = measured(f, sheet);
     match m {
         Measured::Refused(r) => Measured::Refused(r),
         Measured::Size(size) => {

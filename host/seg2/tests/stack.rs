@@ -104,6 +104,27 @@ fn the_page_tells_how_deep_each_call_goes() {
     assert!(out.status.success(), "{}", text(&out.stderr));
 }
 
+/// README says so, of both machines: those that the page has.
+#[test]
+fn no_call_needs_1_kib() {
+    let page = |name: &str| std::fs::read_to_string(root().join(name)).expect("a page");
+    assert!(page("README.md").contains("none needs 1 KiB of stack"));
+    let mut told = 0;
+    for line in page("docs/PERFORMANCE.md").lines() {
+        let cells: Vec<&str> = line.split('|').map(str::trim).collect();
+        if let ["", call, arm, _, x86, _, ""] = cells[..] {
+            if call.starts_with("`seg2_") {
+                for bytes in [arm, x86] {
+                    let bytes: usize = bytes.parse().expect("a number");
+                    assert!(bytes < 1024, "{call} needs {bytes}");
+                }
+                told += 1;
+            }
+        }
+    }
+    assert_eq!(told, bounds().len());
+}
+
 /// An archive of C code in the place of the proved one.
 fn archive(name: &str, code: &str) -> Temporary {
     let source = Temporary::new(&format!("{name}.c"));

@@ -1,7 +1,6 @@
 -- `opening::taken` meets its contract: the rows of the sheet, then row 35. Assumes nothing.
 use mathlib.Core.Path.{sym, _∙_}
-use native.Mathlib.Omega.{arith}
-use Rattle.opening.specs.OpeningLaws.{image-shown, taken-bad, taken-wrong, taken-size}
+use Rattle.opening.specs.OpeningLaws.{taken-bad, taken-wrong, taken-size}
 use borrow.Author.Needs.{needs}
 use Rattle.opening.proofs.taken.Statement.{statement}
 use Rattle.opening.proofs.taken.Tie as tie
@@ -10,8 +9,6 @@ pub taken-spec : {M : Type 1} → statement M
 taken-spec =
     tie.close
     (tie.spec
-    (λ c κs. let i = image-shown _ (c .before .before .pre .0) in (omega (arith, i .long), i .strings))
-    (λ c κs. let i = image-shown _ (c .before .before .before .pre .0) in (omega (arith, i .long), i .lines))
     (λ c κs. search needs)
     (λ c. search needs)
     (λ c. search needs)
@@ -20,24 +17,12 @@ taken-spec =
     (λ c.
     let at-wrong = c .before .before in
     let at-m2 = at-wrong .before .before in
-    let at-measure = at-m2 .before .before in
-    let at-line-end = at-measure .before in
-    let at-string-end = at-line-end .before in
-    rw (c .of-file .ensures) (taken-wrong _ _
-    (at-measure .measure .ensures ∙ rw (at-string-end .string-end .ensures .0, at-line-end .line-end .ensures .0)) (at-m2 .m2 .given .1)
+    rw (c .of-file .ensures) (taken-wrong _ _ (at-m2 .before .before .measured .ensures) (at-m2 .m2 .given .1)
     (sym (at-wrong .is-wrong-channel .ensures) ∙ c .before .if1 .taken)))
     (λ c.
     let at-m = c .before in
-    let at-measure = at-m .before .before in
-    let at-line-end = at-measure .before in
-    let at-string-end = at-line-end .before in
-    taken-bad _ _ (at-measure .measure .ensures ∙ rw (at-string-end .string-end .ensures .0, at-line-end .line-end .ensures .0)) (at-m .m .given .1))
+    taken-bad _ _ (at-m .before .before .measured .ensures) (at-m .m .given .1))
     (λ c.
     let at-wrong = c .before in
     let at-m2 = at-wrong .before .before in
-    let at-measure = at-m2 .before .before in
-    let at-line-end = at-measure .before in
-    let at-string-end = at-line-end .before in
-    taken-size _ _
-    (at-measure .measure .ensures ∙ rw (at-string-end .string-end .ensures .0, at-line-end .line-end .ensures .0)) (at-m2 .m2 .given .1)
-    (sym (at-wrong .is-wrong-channel .ensures) ∙ c .if1 .left)))
+    taken-size _ _ (at-m2 .before .before .measured .ensures) (at-m2 .m2 .given .1) (sym (at-wrong .is-wrong-channel .ensures) ∙ c .if1 .left)))
