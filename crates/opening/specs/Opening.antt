@@ -1,5 +1,5 @@
--- The file and the sheet of an addition, before its samples (document 01, rows 1 to 17 and 24 to 27; document 02, rows 34
--- and 35). xs is the buffer, n the length given beside it, f the image: the first n bytes.
+-- The file and the sheet of an addition, before its samples (document 01, rows 1 to 17 and 24 to 27; document 02, rows
+-- 34 and 35). xs is the buffer, n the length given beside it, f the image: the first n bytes.
 -- Assumes nothing.
 use mathlib.Core.Bool.{Bool}
 use mathlib.Core.List.{List}

@@ -1,5 +1,5 @@
-// The file and the sheet of an addition, before its samples (document 01, rows 1 to 17 and 24 to 27; document 02, rows 34
-// and 35). Opening has the definitions, OpeningLaws what each row has shown. Stands on `image`, `lookup`, `sheet`,
+// The file and the sheet of an addition, before its samples (document 01, rows 1 to 17 and 24 to 27; document 02, rows
+// 34 and 35). Opening has the definitions, OpeningLaws what each row has shown. Stands on `image`, `lookup`, `sheet`,
 // `sheet_channel`.
 // The rules in words: docs/FORMAT.md, "What we write".
 use head::Purpose;

@@ -12,15 +12,7 @@ use mir.Syntax.{w32}
 use mir.Val.{toZ, ofZ, Fits}
 use Rattle.word.specs.Signed.{kept, sign}
 use Rattle.reader.specs.declared.Whose.the-variants.{Whole, One, Nobody}
-use Rattle.reader.specs.declared.StringAnswer.{StringAnswer}
-use Rattle.reader.specs.declared.StringAnswer.the-variants as string
-use Rattle.reader.specs.Questions.{whoseOf, onString}
-use Rattle.reader.proofs.StringAnswer.{the-type}
-use Rattle.refusal.specs.declared.Refusal.{Refusal}
-use types.Run.{OneOf}
-use denote.Enum.Declared.{tagOf}
-use mathlib.Core.List.{[], _∷_}
-use mathlib.Core.Logic.{⊎-elim}
+use Rattle.reader.specs.Questions.{whoseOf}
 
 -- -1
 pub whole : (z : ℤ) (n : ℕ) → mag z < 2147483648 → ofZ w32 z ≡ 4294967295 → Whole ≡ whoseOf z n
@@ -74,9 +66,3 @@ past z n h t l =
     let a = at-least z h t in
     let p = plain z (a .0) h (a .1) in
     none (a .0) n (omega (arith, p, l)) ∙ ap (λ (y : ℤ). whoseOf y n) (sym (a .1))
-
--- a string that the test for a refusal has passed by
-pub answered : {A : Type 0} (bad : Refusal → A) (s : StringAnswer) → OneOf (0 ∷ 1 ∷ []) (tagOf the-type s) → (a : A) → onString bad s a ≡ a
-answered bad (string.There p) h a = refl
-answered bad string.Absent h a = refl
-answered bad (string.Refused r) h a = absurd (⊎-elim (λ e. omega (arith, e)) (λ e. omega (arith, e)) h)

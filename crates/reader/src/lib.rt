@@ -1,15 +1,11 @@
-// The questions on a file: blocks, strings, keywords and numbers in values (document 01, rows 18, 20 to 23). Questions
-// has the definitions, those of samples too; Listed, Answers and Reach are the second view. Every question checks the
-// whole file first; its answer is one of the image, the first `n` bytes of the lent buffer. A part is -1 for the file,
-// else the trace; `how` is the manner of reading. Stands on `image`, `lookup`, `location`, `double` and what they
-// stand on.
+// The questions on a file: blocks, strings and keywords (document 01, row 18). Questions has the definitions, those of
+// values and samples too; Listed, Answers and Reach are the second view. Every question checks the whole file first; its
+// answer is one of the image, the first `n` bytes of the lent buffer. A part is -1 for the file, else the trace; `how` is
+// the manner of reading. Stands on `image`, `lookup`, and for the definitions on `location`, `double` and `decimal`.
 // The rules in words: docs/FORMAT.md, "Strings".
 use block::TraceAnswer;
-use decimal::NumberAnswer;
-use double::DoubleAnswer;
 use head::FileAnswer;
 use head::Purpose;
-use location::LocationAnswer;
 use refusal::Refusal;
 use refusal::Rule;
 use refusal::Verdict;
@@ -19,15 +15,13 @@ use text::Manner;
 ghost use mathlib.Core.Path.{_≡_};
 ghost use Prim.Native.Nat.{_≤_};
 ghost use lib.ListN.{length};
-ghost use Rattle.word.specs.Part.{PartOf};
 ghost use Rattle.refusal.specs.declared.Verdict.the-variants.{Accepted};
 ghost use Rattle.head.specs.declared.Purpose.the-variants.{Read};
 ghost use Rattle.head.specs.Head.{countOf};
 ghost use Rattle.image.specs.Image.{imageOf};
 ghost use Rattle.reader.specs.Questions.{noTrace, areaAsked, fileAnswer, traceAnswer, countAnswer, nthAnswer};
-ghost use Rattle.reader.specs.Questions.{findAnswer, keywordAnswer, valueThere, valueAnswer, spanThere};
-ghost use Rattle.reader.specs.Questions.{spanAnswer, numberAnswer, doubleAnswer, locationAnswer, whoseOf};
-ghost use Rattle.reader.specs.Leaves.{openedOf, Within};
+ghost use Rattle.reader.specs.Questions.{findAnswer, keywordAnswer, whoseOf};
+ghost use Rattle.reader.specs.Leaves.{openedOf};
 
 // Whom a part number names.
 pub enum Whose {
@@ -249,67 +243,4 @@ pub fn keyword(buffer: &[u8], n: usize, part: i32, key: &[u8], how: Manner) -> K
         StringAnswer::Absent => KeywordAnswer::No,
         StringAnswer::Refused(r) => KeywordAnswer::Refused(r),
     }
-}
-
-// The value of a string that was found, as the caller's own bytes; else the empty part at the start.
-fn value_at<'a>(buffer: &'a [u8], s: StringAnswer) -> &'a [u8]
-    requires { ⌜ Within (length (now buffer)) s ⌝ }
-    ensures { λ r. ⌜ now r ≡ valueThere (now (buffer .entry)) s ⌝ }
-    ensures own { λ r. ⌜ PartOf (buffer .entry) (spanThere s) r ⌝ }
-{
-    match s {
-        StringAnswer::There(p) => {
-            let from = p.value;
-            let to = p.end;
-            &buffer[from..to]
-        }
-        StringAnswer::Absent => {
-            let start = 0; // for a no
-            &buffer[start..start]
-        }
-        StringAnswer::Refused(_) => {
-            let start = 0; // for a refusal
-            &buffer[start..start]
-        }
-    }
-}
-
-// "the other answers the value as the caller's own bytes, not a copy, and for a no or a refusal the empty part".
-pub fn value<'a>(buffer: &'a [u8], n: usize, part: i32, key: &[u8], how: Manner) -> &'a [u8]
-    ensures { λ r. ⌜ now r ≡ valueAnswer how (now (buffer .entry)) n part (now (key .entry)) ⌝ }
-    ensures own { λ r. ⌜ PartOf (buffer .entry) (spanAnswer how (now (buffer .entry)) n part (now (key .entry))) r ⌝ }
-{
-    value_at(buffer, find(buffer, n, part, key, how))
-}
-
-// ---- numbers in values; an absent keyword has the empty value, which is no number and no location
-
-pub fn number(buffer: &[u8], n: usize, part: i32, key: &[u8], how: Manner) -> NumberAnswer
-    ensures { λ r. ⌜ r ≡ numberAnswer how (now (buffer .entry)) n part (now (key .entry)) ⌝ }
-{
-    let s = find(buffer, n, part, key, how);
-    if let StringAnswer::Refused(r) = s {
-        return NumberAnswer::Refused(r);
-    }
-    decimal::number(value_at(buffer, s))
-}
-
-pub fn double(buffer: &[u8], n: usize, part: i32, key: &[u8], how: Manner) -> DoubleAnswer
-    ensures { λ r. ⌜ r ≡ doubleAnswer how (now (buffer .entry)) n part (now (key .entry)) ⌝ }
-{
-    let s = find(buffer, n, part, key, how);
-    if let StringAnswer::Refused(r) = s {
-        return DoubleAnswer::Refused(r);
-    }
-    double::double(value_at(buffer, s))
-}
-
-pub fn location(buffer: &[u8], n: usize, part: i32, key: &[u8], how: Manner) -> LocationAnswer
-    ensures { λ r. ⌜ r ≡ locationAnswer how (now (buffer .entry)) n part (now (key .entry)) ⌝ }
-{
-    let s = find(buffer, n, part, key, how);
-    if let StringAnswer::Refused(r) = s {
-        return LocationAnswer::Refused(r);
-    }
-    location::location(value_at(buffer, s))
 }

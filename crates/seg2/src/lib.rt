@@ -95,7 +95,7 @@ pub extern "C" fn seg2_value(buffer: &[u8], n: usize, part: i32, key: &[u8]) -> 
 pub extern "C" fn seg2_number(buffer: &[u8], n: usize, part: i32, key: &[u8]) -> Seg2Number
     ensures { λ r. ⌜ r ≡ asNumber (numberAnswer Strict (now (buffer .entry)) n part (now (key .entry))) ⌝ }
 {
-    face_values::number_told(reader::number(buffer, n, part, key, Manner::Strict))
+    face_values::number_told(values::number(buffer, n, part, key, Manner::Strict))
 }
 
 // The double that a keyword's value is.
@@ -103,7 +103,7 @@ pub extern "C" fn seg2_number(buffer: &[u8], n: usize, part: i32, key: &[u8]) ->
 pub extern "C" fn seg2_double(buffer: &[u8], n: usize, part: i32, key: &[u8]) -> Seg2Double
     ensures { λ r. ⌜ r ≡ asDouble (doubleAnswer Strict (now (buffer .entry)) n part (now (key .entry))) ⌝ }
 {
-    face_values::double_told(reader::double(buffer, n, part, key, Manner::Strict))
+    face_values::double_told(values::double(buffer, n, part, key, Manner::Strict))
 }
 
 // The location that a keyword's value is.
@@ -111,7 +111,7 @@ pub extern "C" fn seg2_double(buffer: &[u8], n: usize, part: i32, key: &[u8]) ->
 pub extern "C" fn seg2_location(buffer: &[u8], n: usize, part: i32, key: &[u8]) -> Seg2Location
     ensures { λ r. ⌜ r ≡ asLocation (locationAnswer Strict (now (buffer .entry)) n part (now (key .entry))) ⌝ }
 {
-    face_values::location_told(reader::location(buffer, n, part, key, Manner::Strict))
+    face_values::location_told(values::location(buffer, n, part, key, Manner::Strict))
 }
 
 // The samples of a trace of code 1 to 3, into a row of as many.

@@ -1,5 +1,5 @@
--- The check of one trace behind its pointer (document 01, rows 9 to 17 in their order, and 34 of document 02; the rows of a
--- block are block/Block, of a string strings/Strings). f is the image, `how` the manner of reading.
+-- The check of one trace behind its pointer (document 01, rows 9 to 17 in their order, and 34 of document 02; the rows
+-- of a block are block/Block, of a string strings/Strings). f is the image, `how` the manner of reading.
 -- Assumes nothing.
 use mathlib.Core.Bool.{Bool, _&&_}
 use mathlib.Core.List.{List, [], _∷_}
@@ -43,8 +43,8 @@ channelRow how with k p has v = row (asksChannels how && badChannel with has v) 
 abbrev pub channelVerdict : Manner → Bool → List ℕ → ℕ → ℕ → Found → Verdict
 channelVerdict how with f k p s = channelRow how with k p (found s) (valueFound f s)
 
--- ---- 9 to 13, 14 to 17, and 34 "after 17 within each trace", of the trace k, whose block begins at p: one list of checks
--- in their order
+-- ---- 9 to 13, 14 to 17, and 34 "after 17 within each trace", of the trace k, whose block begins at p: one list of
+-- checks in their order
 abbrev pub blockChecks : Manner → Bool → List ℕ → List ℕ → List ℕ → Bool → ℕ → ℕ → List Verdict
 blockChecks how high t u f with k p =
     blockOf high (headAt f p) (length f) k p

@@ -14,8 +14,8 @@ use Rattle.append.specs.Grown.{newLength, grown}
 use Rattle.opening.specs.Opening.{areaAnswer}
 use Rattle.entry.specs.Entry.{samplesVerdict}
 
--- the rows of the file and the sheet (opening/Opening), of the samples (entry/Entry), then 30 "new length over the buffer
--- or the maximum (0)"
+-- the rows of the file and the sheet (opening/Opening), of the samples (entry/Entry), then 30 "new length over the
+-- buffer or the maximum (0)"
 unfoldable pub addAnswer : List ℕ → ℕ → Trace → Written
 addAnswer xs n x =
     onMeasured (areaAnswer xs n (x .sheet)) (asked Refused (samplesVerdict (x .code) (x .samples)) (within (length xs) (newLength (take n xs) n x)))

@@ -1,4 +1,5 @@
--- `opening::opened` meets its contract. The check, row 24, then the rows of the sheet and its channel number. Assumes nothing.
+-- `opening::opened` meets its contract. The check, row 24, then the rows of the sheet and its channel number. Assumes
+-- nothing.
 use mathlib.Core.Path.{sym, _∙_}
 use native.Mathlib.Omega.{arith}
 use Rattle.head.specs.HeadLaws.{block-order, block-count}

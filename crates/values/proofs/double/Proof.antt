@@ -1,16 +1,16 @@
--- `reader::double` meets its contract. What was found lies in the buffer. Assumes nothing.
+-- `values::double` meets its contract. What was found lies in the buffer. Assumes nothing.
 use mathlib.Core.Path.{sym, _∙_}
 use lib.IntN.{ℤ}
 use borrow.Author.Needs.{needs}
 use mir.Syntax.{w32}
 use Rattle.double.specs.Double.{doubleOf}
 use Rattle.double.specs.declared.DoubleAnswer.the-variants as double
 use Rattle.reader.specs.Reach.{find-lent, value-made}
 use Rattle.reader.specs.Questions.{findAnswer, doubleAnswer}
 use Rattle.word.specs.Signed.{handed}
-use Rattle.reader.proofs.Machine.{answered}
-use Rattle.reader.proofs.double.Statement.{statement}
-use Rattle.reader.proofs.double.Tie as tie
+use Rattle.values.proofs.Passed.{answered}
+use Rattle.values.proofs.double.Statement.{statement}
+use Rattle.values.proofs.double.Tie as tie
 
 pub double-spec : {M : Type 1} → statement M
 unfolding doubleAnswer

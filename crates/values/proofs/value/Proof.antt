@@ -1,13 +1,13 @@
--- `reader::value` meets its contract. What was found lies in the buffer. Assumes nothing.
+-- `values::value` meets its contract. What was found lies in the buffer. Assumes nothing.
 use mathlib.Core.Path.{_∙_}
 use lib.IntN.{ℤ}
 use borrow.Author.Needs.{needs}
 use mir.Syntax.{w32}
 use Rattle.reader.specs.Reach.{find-lent, value-told, span-told}
 use Rattle.reader.specs.Questions.{findAnswer}
 use Rattle.word.specs.Signed.{handed}
-use Rattle.reader.proofs.value.Statement.{statement}
-use Rattle.reader.proofs.value.Tie as tie
+use Rattle.values.proofs.value.Statement.{statement}
+use Rattle.values.proofs.value.Tie as tie
 
 pub value-spec : {M : Type 1} → statement M
 value-spec =

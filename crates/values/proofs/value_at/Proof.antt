@@ -1,11 +1,11 @@
--- `reader::value_at` meets its contract. What was found lies in the buffer. Assumes nothing.
+-- `values::value_at` meets its contract. What was found lies in the buffer. Assumes nothing.
 use mathlib.Core.Path.{refl}
 use native.Mathlib.Omega.{arith}
 use borrow.Author.Needs.{needs}
 use Rattle.word.specs.Part.{part-none}
 use Rattle.reader.specs.Reach.{held}
-use Rattle.reader.proofs.value_at.Statement.{statement}
-use Rattle.reader.proofs.value_at.Tie as tie
+use Rattle.values.proofs.value_at.Statement.{statement}
+use Rattle.values.proofs.value_at.Tie as tie
 
 pub value-at-spec : {M : Type 1} → statement M
 value-at-spec =

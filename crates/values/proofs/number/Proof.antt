@@ -1,16 +1,16 @@
--- `reader::number` meets its contract. What was found lies in the buffer. Assumes nothing.
+-- `values::number` meets its contract. What was found lies in the buffer. Assumes nothing.
 use mathlib.Core.Path.{sym, _∙_}
 use lib.IntN.{ℤ}
 use borrow.Author.Needs.{needs}
 use mir.Syntax.{w32}
 use Rattle.decimal.specs.Number.{numberIn}
 use Rattle.decimal.specs.declared.NumberAnswer.the-variants as number
 use Rattle.reader.specs.Reach.{find-lent, value-made}
 use Rattle.reader.specs.Questions.{findAnswer, numberAnswer}
 use Rattle.word.specs.Signed.{handed}
-use Rattle.reader.proofs.Machine.{answered}
-use Rattle.reader.proofs.number.Statement.{statement}
-use Rattle.reader.proofs.number.Tie as tie
+use Rattle.values.proofs.Passed.{answered}
+use Rattle.values.proofs.number.Statement.{statement}
+use Rattle.values.proofs.number.Tie as tie
 
 pub number-spec : {M : Type 1} → statement M
 unfolding numberAnswer

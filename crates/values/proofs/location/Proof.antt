@@ -1,16 +1,16 @@
--- `reader::location` meets its contract. What was found lies in the buffer. Assumes nothing.
+-- `values::location` meets its contract. What was found lies in the buffer. Assumes nothing.
 use mathlib.Core.Path.{sym, _∙_}
 use lib.IntN.{ℤ}
 use borrow.Author.Needs.{needs}
 use mir.Syntax.{w32}
 use Rattle.location.specs.Location.{locationOf}
 use Rattle.location.specs.declared.LocationAnswer.the-variants as location
 use Rattle.reader.specs.Reach.{find-lent, value-made}
 use Rattle.reader.specs.Questions.{findAnswer, locationAnswer}
 use Rattle.word.specs.Signed.{handed}
-use Rattle.reader.proofs.Machine.{answered}
-use Rattle.reader.proofs.location.Statement.{statement}
-use Rattle.reader.proofs.location.Tie as tie
+use Rattle.values.proofs.Passed.{answered}
+use Rattle.values.proofs.location.Statement.{statement}
+use Rattle.values.proofs.location.Tie as tie
 
 pub location-spec : {M : Type 1} → statement M
 unfolding locationAnswer
