@@ -1,11 +1,11 @@
 -- The trace block (document 01, "The trace block" and rows 8 to 13). f is the image; b is a block's first 32 bytes, and
 -- all that is said of the block stands there.
 -- Assumes nothing.
-use mathlib.Core.Bool.{Bool, not, _&&_, _||_}
+use mathlib.Core.Bool.{Bool, not}
 use mathlib.Core.List.{List, [], _∷_}
-use Prim.Native.Nat.{ℕ, _+_, _*_, _%_}
+use Prim.Native.Nat.{ℕ, _+_, _*_}
 use lib.ListN.{getD}
-use lib.Dec.{ltb, eqb}
+use lib.Dec.{eqb}
 use Rattle.word.specs.Word.{wordAt}
 use Rattle.refusal.specs.declared.Rule.{Rule}
 use Rattle.refusal.specs.declared.Rule.the-variants.{Pointer, TraceMark, BlockSize, DataSize, FormatCode, SampleCount}
@@ -14,7 +14,7 @@ use Rattle.refusal.specs.declared.Verdict.{Verdict}
 use Rattle.refusal.specs.declared.Verdict.the-variants.{Accepted, Refused}
 use Rattle.refusal.specs.Table.{refusal}
 use Rattle.refusal.specs.Rows.{Rows, first, pick}
-use Rattle.sample.specs.Needed.{needed}
+use Rattle.limits.specs.Limits.{badPointer, badBlock, badData, badCode, badSamples}
 use Rattle.refusal.specs.Verdicts.{asked}
 use Rattle.block.specs.declared.TraceBlock.{TraceBlock}
 use Rattle.block.specs.declared.TraceAnswer.{TraceAnswer}
@@ -54,22 +54,6 @@ unfoldable pub endAt : Bool → List ℕ → ℕ → ℕ
 endAt high f p = dataAt high f p + dataSize high f p
 
 -- ---- rows 8 to 13 of the trace k, which follows what ends at prev; end is the image's length
-
-abbrev pub badPointer : ℕ → ℕ → ℕ → Bool
-badPointer end prev p = not (eqb (p % 4) 0) || (ltb p prev || ltb end (p + 32))
-
-abbrev pub badBlock : ℕ → ℕ → ℕ → Bool
-badBlock end p b = ltb b 32 || (not (eqb (b % 4) 0) || ltb end (p + b))
-
-abbrev pub badData : ℕ → ℕ → ℕ → Bool
-badData end at d = not (eqb (d % 4) 0) || ltb end (at + d)
-
-abbrev pub badCode : ℕ → Bool
-badCode c = ltb c 1 || ltb 5 c
-
--- "S no multiple of 4 under code 3, or needed bytes over D"
-abbrev pub badSamples : ℕ → ℕ → ℕ → Bool
-badSamples c s d = (eqb c 3 && not (eqb (s % 4) 0)) || ltb d (needed c s)
 
 abbrev pub wrong : Rule → ℕ → ℕ → Verdict
 wrong r k at = Refused (refusal r (Trace k) at)

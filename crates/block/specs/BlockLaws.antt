@@ -18,7 +18,8 @@ use Rattle.refusal.specs.declared.Verdict.the-variants.{Accepted}
 use Rattle.sample.specs.Needed.{needed}
 use Rattle.block.specs.declared.TraceBlock.{TraceBlock}
 use Rattle.block.specs.Block.{traceMark, pointerOf, markAt, blockSize, dataSize, sampleCount, formatCode, dataAt}
-use Rattle.block.specs.Block.{badPointer, wrong, pointerRow, blockRows, blockOf, blockIn, traceBlockOf}
+use Rattle.limits.specs.Limits.{badPointer}
+use Rattle.block.specs.Block.{wrong, pointerRow, blockRows, blockOf, blockIn, traceBlockOf}
 
 -- ---- what row 8 has shown of the pointer p, and what passes it
 pub record Pointed (end prev p : ℕ) : Type 0 where

@@ -1,5 +1,5 @@
 // The trace block (document 01, "The trace block", rows 8 to 13): its pointer, sizes, format code and sample count.
-// Block has the definitions, BlockLaws what a trace that passes the rows has. Stands on `sample`, `word`, `refusal`.
+// Block has the definitions, BlockLaws what a trace that passes the rows has. Stands on `limits`, `word`, `refusal`.
 // f is the image, b the first 32 bytes of a block; `high` is the byte order, k the trace, p its pointer.
 // The rules in words: docs/FORMAT.md, "The trace block".
 use refusal::Part;
@@ -9,8 +9,7 @@ use refusal::Verdict;
 ghost use mathlib.Core.Path.{_≡_};
 ghost use Prim.Native.Nat.{_+_, _*_, _≤_, _<_};
 ghost use lib.ListN.{length};
-ghost use Rattle.block.specs.Block.{badPointer, badBlock, badData, badCode, badSamples, badTrace, pointerOf};
-ghost use Rattle.block.specs.Block.{pointerRow, blockIn, blockAnswer, traceBlockOf};
+ghost use Rattle.block.specs.Block.{badTrace, pointerOf, pointerRow, blockIn, blockAnswer, traceBlockOf};
 
 // Where the block stands, its size B, the data's size D, the sample count S and the format code. The strings stand from
 // p+32 to p+B, the data from p+B on.
@@ -27,41 +26,6 @@ pub enum TraceAnswer {
     Refused(Refusal),
 }
 
-// ---- the trace blocks
-
-fn is_bad_pointer(end: usize, prev: usize, p: usize) -> bool
-    requires { ⌜ p < 4294967296 ⌝ }
-    ensures { λ r. ⌜ r ≡ badPointer end prev p ⌝ }
-{
-    (p % 4 != 0) | ((p < prev) | (end < p + 32))
-}
-
-fn is_bad_block(end: usize, p: usize, b: usize) -> bool
-    requires { ⌜ (p < 4294967296) × (b < 65536) ⌝ }
-    ensures { λ r. ⌜ r ≡ badBlock end p b ⌝ }
-{
-    (b < 32) | ((b % 4 != 0) | (end < p + b))
-}
-
-fn is_bad_data(end: usize, at: usize, d: usize) -> bool
-    requires { ⌜ (at < 8589934592) × (d < 4294967296) ⌝ }
-    ensures { λ r. ⌜ r ≡ badData end at d ⌝ }
-{
-    (d % 4 != 0) | (end < at + d)
-}
-
-fn is_bad_code(c: u8) -> bool
-    ensures { λ r. ⌜ r ≡ badCode c ⌝ }
-{
-    (c < 1) | (5 < c)
-}
-
-fn is_bad_samples(c: u8, s: u32, d: usize) -> bool
-    ensures { λ r. ⌜ r ≡ badSamples c s d ⌝ }
-{
-    ((c == 3) & (s % 4 != 0)) | (d < sample::needed(c, s))
-}
-
 // The pointer to the trace k.
 pub fn pointer(f: &[u8], high: bool, k: u16) -> usize
     requires { ⌜ 36 + 4 * k ≤ length (now f) ⌝ }
@@ -75,7 +39,7 @@ pub fn pointer_row(end: usize, k: u16, prev: usize, p: usize) -> Verdict
     requires { ⌜ p < 4294967296 ⌝ }
     ensures { λ r. ⌜ r ≡ pointerRow end k prev p ⌝ }
 {
-    if is_bad_pointer(end, prev, p) {
+    if limits::is_bad_pointer(end, prev, p) {
         return Verdict::Refused(Refusal {
             rule: Rule::Pointer,
             part: Part::Trace(k),
@@ -125,16 +89,16 @@ pub fn block_rows(b: &[u8], high: bool, end: usize, k: u16, p: usize) -> TraceAn
     if mark != 17442 {
         return bad_trace(Rule::TraceMark, k, p);
     }
-    if is_bad_block(end, p, x.b) {
+    if limits::is_bad_block(end, p, x.b) {
         return bad_trace(Rule::BlockSize, k, p + 2);
     }
-    if is_bad_data(end, p + x.b, x.d) {
+    if limits::is_bad_data(end, p + x.b, x.d) {
         return bad_trace(Rule::DataSize, k, p + 4);
     }
-    if is_bad_code(x.code) {
+    if limits::is_bad_code(x.code) {
         return bad_trace(Rule::FormatCode, k, p + 12);
     }
-    if is_bad_samples(x.code, x.s as u32, x.d) {
+    if limits::is_bad_samples(x.code, x.s as u32, x.d) {
         return bad_trace(Rule::SampleCount, k, p + 8);
     }
     TraceAnswer::Is(x)

@@ -33,7 +33,8 @@ use Rattle.strings.specs.Strings.{onFrame, stepOf, onStep, stringsFrom, strings
 use Rattle.head.specs.declared.Purpose.{Purpose}
 use Rattle.head.specs.Head.{highFirst, roomOf, countOf, headRows, headOf}
 use Rattle.terminators.specs.Terminators.{stringEnd, lineEnd}
-use Rattle.block.specs.Block.{pointerOf, blockSize, endAt, badPointer, pointerRow, blockRows, blockOf}
+use Rattle.limits.specs.Limits.{badPointer}
+use Rattle.block.specs.Block.{pointerOf, blockSize, endAt, pointerRow, blockRows, blockOf}
 use Rattle.block.specs.BlockLaws.{headAt}
 use Rattle.trace.specs.Trace.{areaVerdict, channelAt}
 use Rattle.image.specs.Image.{withChannel, traceChecks, traceOf, tracesFrom, filledChecks, restOf}

@@ -1,7 +1,7 @@
--- `block::is_bad_samples` meets its contract. Assumes nothing.
+-- `limits::is_bad_samples` meets its contract. Assumes nothing.
 use borrow.Author.Needs.{needs}
-use Rattle.block.proofs.is_bad_samples.Statement.{statement}
-use Rattle.block.proofs.is_bad_samples.Tie as tie
+use Rattle.limits.proofs.is_bad_samples.Statement.{statement}
+use Rattle.limits.proofs.is_bad_samples.Tie as tie
 
 pub is-bad-samples-spec : {M : Type 1} → statement M
 is-bad-samples-spec =
