@@ -1,6 +1,6 @@
 // The face for other languages: thin functions on numbers and byte slices, each with a whole promise and no `requires`.
-// include/seg2.h declares them. The answers are those of `image`, `reader`, `samples`, `start`, `writer`, `decimal` and
-// `numeral`, as `face` and `face_values` hand them over. Strings are read in the strict manner.
+// include/seg2.h declares them. What is exported has to stand here; the work, with the same promise, is done by the
+// crates `call_*`, so that a wrong program is tried in a small crate. Strings are read in the strict manner.
 // The rules in words: docs/FORMAT.md, "Refusal numbers, in order of checking".
 use face::Seg2Count;
 use face::Seg2File;
@@ -13,8 +13,6 @@ use face_values::Seg2Location;
 use face_values::Seg2Number;
 use face_values::Seg2String;
 use face_values::Seg2Value;
-use head::Purpose;
-use text::Manner;
 ghost use mathlib.Core.Path.{_≡_};
 ghost use lib.ListN.{length};
 ghost use Rattle.text.specs.declared.Manner.the-variants.{Strict};
@@ -39,7 +37,7 @@ ghost use Rattle.face_values.specs.FaceValues.{asString, asKeyword, asValue, as
 pub extern "C" fn seg2_check(buffer: &[u8], n: usize) -> Seg2Verdict
     ensures { λ r. ⌜ r ≡ asVerdict (checkOf Strict Read (now (buffer .entry)) n) ⌝ }
 {
-    face::told(image::check(buffer, n, Purpose::Read, Manner::Strict))
+    call_blocks::check(buffer, n)
 }
 
 // The file block.
@@ -47,7 +45,7 @@ pub extern "C" fn seg2_check(buffer: &[u8], n: usize) -> Seg2Verdict
 pub extern "C" fn seg2_file_block(buffer: &[u8], n: usize) -> Seg2File
     ensures { λ r. ⌜ r ≡ asFile (fileAnswer Strict (now (buffer .entry)) n) ⌝ }
 {
-    face::file_told(reader::file_block(buffer, n, Manner::Strict))
+    call_blocks::file_block(buffer, n)
 }
 
 // A trace's block.
@@ -55,7 +53,7 @@ pub extern "C" fn seg2_file_block(buffer: &[u8], n: usize) -> Seg2File
 pub extern "C" fn seg2_trace_block(buffer: &[u8], n: usize, trace: i32) -> Seg2Trace
     ensures { λ r. ⌜ r ≡ asTrace (traceAnswer Strict (now (buffer .entry)) n trace) ⌝ }
 {
-    face::trace_told(reader::trace_block(buffer, n, trace, Manner::Strict))
+    call_blocks::trace_block(buffer, n, trace)
 }
 
 // How many strings the file (part -1) or a trace has.
@@ -63,7 +61,7 @@ pub extern "C" fn seg2_trace_block(buffer: &[u8], n: usize, trace: i32) -> Seg2T
 pub extern "C" fn seg2_string_count(buffer: &[u8], n: usize, part: i32) -> Seg2Count
     ensures { λ r. ⌜ r ≡ asCount (countAnswer Strict (now (buffer .entry)) n part) ⌝ }
 {
-    face::count_told(reader::string_count(buffer, n, part, Manner::Strict))
+    call_blocks::string_count(buffer, n, part)
 }
 
 // The string with an index, counted from 0.
@@ -71,7 +69,7 @@ pub extern "C" fn seg2_string_count(buffer: &[u8], n: usize, part: i32) -> Seg2C
 pub extern "C" fn seg2_string(buffer: &[u8], n: usize, part: i32, index: usize) -> Seg2String
     ensures { λ r. ⌜ r ≡ asString (nthAnswer Strict (now (buffer .entry)) n part index) ⌝ }
 {
-    face_values::string_told(reader::string(buffer, n, part, index, Manner::Strict))
+    call_strings::string(buffer, n, part, index)
 }
 
 // Whether a keyword is there: one of the two calls of a keyword question.
@@ -79,7 +77,7 @@ pub extern "C" fn seg2_string(buffer: &[u8], n: usize, part: i32, index: usize) 
 pub extern "C" fn seg2_keyword(buffer: &[u8], n: usize, part: i32, key: &[u8]) -> Seg2Keyword
     ensures { λ r. ⌜ r ≡ asKeyword (keywordAnswer Strict (now (buffer .entry)) n part (now (key .entry))) ⌝ }
 {
-    face_values::keyword_told(reader::keyword(buffer, n, part, key, Manner::Strict))
+    call_strings::keyword(buffer, n, part, key)
 }
 
 // A keyword's value: the other one.
@@ -87,7 +85,7 @@ pub extern "C" fn seg2_keyword(buffer: &[u8], n: usize, part: i32, key: &[u8]) -
 pub extern "C" fn seg2_value(buffer: &[u8], n: usize, part: i32, key: &[u8]) -> Seg2Value
     ensures { λ r. ⌜ r ≡ asValue (findAnswer Strict (now (buffer .entry)) n part (now (key .entry))) ⌝ }
 {
-    face_values::value_told(reader::find(buffer, n, part, key, Manner::Strict))
+    call_strings::value(buffer, n, part, key)
 }
 
 // The number that a keyword's value is.
@@ -95,7 +93,7 @@ pub extern "C" fn seg2_value(buffer: &[u8], n: usize, part: i32, key: &[u8]) -> 
 pub extern "C" fn seg2_number(buffer: &[u8], n: usize, part: i32, key: &[u8]) -> Seg2Number
     ensures { λ r. ⌜ r ≡ asNumber (numberAnswer Strict (now (buffer .entry)) n part (now (key .entry))) ⌝ }
 {
-    face_values::number_told(values::number(buffer, n, part, key, Manner::Strict))
+    call_values::number(buffer, n, part, key)
 }
 
 // The double that a keyword's value is.
@@ -103,7 +101,7 @@ pub extern "C" fn seg2_number(buffer: &[u8], n: usize, part: i32, key: &[u8]) ->
 pub extern "C" fn seg2_double(buffer: &[u8], n: usize, part: i32, key: &[u8]) -> Seg2Double
     ensures { λ r. ⌜ r ≡ asDouble (doubleAnswer Strict (now (buffer .entry)) n part (now (key .entry))) ⌝ }
 {
-    face_values::double_told(values::double(buffer, n, part, key, Manner::Strict))
+    call_values::double(buffer, n, part, key)
 }
 
 // The location that a keyword's value is.
@@ -111,7 +109,7 @@ pub extern "C" fn seg2_double(buffer: &[u8], n: usize, part: i32, key: &[u8]) ->
 pub extern "C" fn seg2_location(buffer: &[u8], n: usize, part: i32, key: &[u8]) -> Seg2Location
     ensures { λ r. ⌜ r ≡ asLocation (locationAnswer Strict (now (buffer .entry)) n part (now (key .entry))) ⌝ }
 {
-    face_values::location_told(values::location(buffer, n, part, key, Manner::Strict))
+    call_values::location(buffer, n, part, key)
 }
 
 // The samples of a trace of code 1 to 3, into a row of as many.
@@ -121,7 +119,7 @@ pub extern "C" fn seg2_integers(buffer: &[u8], n: usize, trace: i32, row: &mut [
         (length (now (row .entry)))) ⌝ }
     ensures row { λ _. ⌜ now (row .exit) ≡ integersLeft Strict (now (buffer .entry)) n trace (now (row .entry)) ⌝ }
 {
-    face::told(samples::integers(buffer, n, trace, row, Manner::Strict))
+    call_samples::integers(buffer, n, trace, row)
 }
 
 // The bit patterns and the classes of the samples of a trace of code 4 or 5, into two rows of as many.
@@ -140,7 +138,7 @@ pub extern "C" fn seg2_bits(
     ensures classes { λ _. ⌜ now (classes .exit)
         ≡ classesLeft Strict (now (buffer .entry)) n trace (now (row .entry)) (now (classes .entry)) ⌝ }
 {
-    face::told(samples::bits(buffer, n, trace, row, classes, Manner::Strict))
+    call_samples::bits(buffer, n, trace, row, classes)
 }
 
 // ---- writing
@@ -151,7 +149,7 @@ pub extern "C" fn seg2_start(buffer: &mut [u8], order: u32, slots: u32, sheet: &
     ensures answer { λ r. ⌜ r ≡ asLength (startAnswer (now (buffer .entry)) order slots (now (sheet .entry))) ⌝ }
     ensures left { λ _. ⌜ now (buffer .exit) ≡ startLeft (now (buffer .entry)) order slots (now (sheet .entry)) ⌝ }
 {
-    face::length_told(start::start(buffer, order as usize, slots as usize, sheet))
+    call_writers::start(buffer, order, slots, sheet)
 }
 
 // A trace of integers (codes 1 to 3) behind the image that the buffer's first `n` bytes are.
@@ -168,7 +166,7 @@ pub extern "C" fn seg2_add_integers(
     ensures left { λ _. ⌜ now (buffer .exit)
         ≡ addLeft (now (buffer .entry)) n (integersTrace (now (sheet .entry)) code (now (row .entry))) ⌝ }
 {
-    face::length_told(writer::add_integers(buffer, n, sheet, code, row))
+    call_writers::add_integers(buffer, n, sheet, code, row)
 }
 
 // A trace of bit patterns (codes 4 and 5).
@@ -185,7 +183,7 @@ pub extern "C" fn seg2_add_bits(
     ensures left { λ _. ⌜ now (buffer .exit)
         ≡ addLeft (now (buffer .entry)) n (patternsTrace (now (sheet .entry)) code (now (row .entry))) ⌝ }
 {
-    face::length_told(writer::add_bits(buffer, n, sheet, code, row))
+    call_writers::add_bits(buffer, n, sheet, code, row)
 }
 
 // ---- a number by itself
@@ -195,7 +193,7 @@ pub extern "C" fn seg2_add_bits(
 pub extern "C" fn seg2_read_number(text: &[u8]) -> Seg2Number
     ensures { λ r. ⌜ r ≡ asNumber (numberIn (now (text .entry))) ⌝ }
 {
-    face_values::number_told(decimal::number(text))
+    call_numbers::read_number(text)
 }
 
 // A number as text with its own decimals, at the start of the lent bytes: minus is 0 or not.
@@ -212,6 +210,5 @@ pub extern "C" fn seg2_write_number(
     ensures left { λ _. ⌜ now (text .exit) ≡ numeralLeft (now (text .entry))
         (asGiven minus coefficient power decimals) ⌝ }
 {
-    let n = face_values::number_given(minus, coefficient, power, decimals);
-    face::length_told(numeral::write(text, n))
+    call_numbers::write_number(text, minus, coefficient, power, decimals)
 }

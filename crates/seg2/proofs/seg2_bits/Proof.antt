@@ -1,8 +1,6 @@
--- `seg2::seg2_bits` meets its contract. The answer of the function below it, as it crosses. Assumes nothing.
-use mathlib.Core.Path.{ap, _∙_}
+-- `seg2::seg2_bits` meets its contract: the promise of the function that it calls. Assumes nothing.
 use mir.Syntax.{w32}
 use mir.Facts.{toZ-ofZ}
-use Rattle.face.specs.Face.{asVerdict}
 use borrow.Author.Needs.{needs}
 use Rattle.seg2.proofs.seg2_bits.Statement.{statement}
 use Rattle.seg2.proofs.seg2_bits.Tie as tie
@@ -12,16 +10,9 @@ seg2-bits-spec =
     tie.close
     (tie.spec
     (λ c κs. search needs)
-    (λ c κs. search needs)
     (λ c. search needs)
     (λ c. search needs)
     (λ c.
-    let at-bits = c .before .before .before .before .before in
-    let start = at-bits .before .before .before .before .before .before in (
-      c .told .ensures ∙ ap asVerdict (rw (toZ-ofZ {w = w32} (start .fits .trace)) at (at-bits .bits .ensures .0)),
-      (
-        rw (toZ-ofZ {w = w32}
-            (start .fits .trace)) at (at-bits .bits .ensures .1 .0),
-        rw (toZ-ofZ {w = w32} (start .fits .trace)) at (at-bits .bits .ensures .1 .1),
-      ),
-    )))
+    let e = c .before .before .before .before .bits .ensures in
+    let z = toZ-ofZ {w = w32} (c .before .before .before .before .before .before .before .before .before .before .fits .trace) in
+    (rw z at (e .0), (rw z at (e .1 .0), rw z at (e .1 .1)))))

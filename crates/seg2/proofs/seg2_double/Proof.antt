@@ -1,8 +1,6 @@
--- `seg2::seg2_double` meets its contract. The answer of the function below it, as it crosses. Assumes nothing.
-use mathlib.Core.Path.{ap, _∙_}
+-- `seg2::seg2_double` meets its contract: the promise of the function that it calls. Assumes nothing.
 use mir.Syntax.{w32}
 use mir.Facts.{toZ-ofZ}
-use Rattle.face_values.specs.FaceValues.{asDouble}
 use borrow.Author.Needs.{needs}
 use Rattle.seg2.proofs.seg2_double.Statement.{statement}
 use Rattle.seg2.proofs.seg2_double.Tie as tie
@@ -12,6 +10,4 @@ seg2-double-spec =
     tie.close
     (tie.spec
     (λ c κs. search needs)
-    (λ c κs. search needs)
-    (λ c. c .double-told .ensures ∙ ap asDouble (rw (toZ-ofZ {w = w32} (c .before .before .before .before .fits .part)) at
-    (c .before .double .ensures))))
+    (λ c. rw (toZ-ofZ {w = w32} (c .before .before .before .fits .part)) at (c .double .ensures)))

@@ -1,8 +1,6 @@
--- `seg2::seg2_integers` meets its contract. The answer of the function below it, as it crosses. Assumes nothing.
-use mathlib.Core.Path.{ap, _∙_}
+-- `seg2::seg2_integers` meets its contract: the promise of the function that it calls. Assumes nothing.
 use mir.Syntax.{w32}
 use mir.Facts.{toZ-ofZ}
-use Rattle.face.specs.Face.{asVerdict}
 use borrow.Author.Needs.{needs}
 use Rattle.seg2.proofs.seg2_integers.Statement.{statement}
 use Rattle.seg2.proofs.seg2_integers.Tie as tie
@@ -12,12 +10,8 @@ seg2-integers-spec =
     tie.close
     (tie.spec
     (λ c κs. search needs)
-    (λ c κs. search needs)
     (λ c. search needs)
     (λ c.
-    let at-integers = c .before .before in
-    let start = at-integers .before .before .before in (
-      c .told .ensures ∙ ap asVerdict (rw (toZ-ofZ {w = w32} (start .fits .trace)) at (at-integers .integers .ensures .0)),
-      rw (toZ-ofZ {w = w32}
-          (start .fits .trace)) at (at-integers .integers .ensures .1),
-    )))
+    let e = c .before .integers .ensures in
+    let z = toZ-ofZ {w = w32} (c .before .before .before .before .fits .trace) in
+    (rw z at (e .0), rw z at (e .1))))

@@ -1,8 +1,6 @@
--- `seg2::seg2_location` meets its contract. The answer of the function below it, as it crosses. Assumes nothing.
-use mathlib.Core.Path.{ap, _∙_}
+-- `seg2::seg2_location` meets its contract: the promise of the function that it calls. Assumes nothing.
 use mir.Syntax.{w32}
 use mir.Facts.{toZ-ofZ}
-use Rattle.face_values.specs.FaceValues.{asLocation}
 use borrow.Author.Needs.{needs}
 use Rattle.seg2.proofs.seg2_location.Statement.{statement}
 use Rattle.seg2.proofs.seg2_location.Tie as tie
@@ -12,8 +10,4 @@ seg2-location-spec =
     tie.close
     (tie.spec
     (λ c κs. search needs)
-    (λ c κs. search needs)
-    (λ c.
-    let c1 = c .before in
-    let c4 = c1 .before .before .before in
-    c .location-told .ensures ∙ ap asLocation (rw (toZ-ofZ {w = w32} (c4 .fits .part)) at (c1 .location .ensures))))
+    (λ c. rw (toZ-ofZ {w = w32} (c .before .before .before .fits .part)) at (c .location .ensures)))

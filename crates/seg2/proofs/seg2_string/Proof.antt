@@ -1,8 +1,6 @@
--- `seg2::seg2_string` meets its contract. The answer of the function below it, as it crosses. Assumes nothing.
-use mathlib.Core.Path.{ap, _∙_}
+-- `seg2::seg2_string` meets its contract: the promise of the function that it calls. Assumes nothing.
 use mir.Syntax.{w32}
 use mir.Facts.{toZ-ofZ}
-use Rattle.face_values.specs.FaceValues.{asString}
 use borrow.Author.Needs.{needs}
 use Rattle.seg2.proofs.seg2_string.Statement.{statement}
 use Rattle.seg2.proofs.seg2_string.Tie as tie
@@ -12,5 +10,4 @@ seg2-string-spec =
     tie.close
     (tie.spec
     (λ c κs. search needs)
-    (λ c κs. search needs)
-    (λ c. c .string-told .ensures ∙ ap asString (rw (toZ-ofZ {w = w32} (c .before .before .before .fits .part)) at (c .before .string .ensures))))
+    (λ c. rw (toZ-ofZ {w = w32} (c .before .before .fits .part)) at (c .string .ensures)))

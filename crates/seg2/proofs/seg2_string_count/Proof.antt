@@ -1,8 +1,6 @@
--- `seg2::seg2_string_count` meets its contract. The answer of the function below it, as it crosses. Assumes nothing.
-use mathlib.Core.Path.{ap, _∙_}
+-- `seg2::seg2_string_count` meets its contract: the promise of the function that it calls. Assumes nothing.
 use mir.Syntax.{w32}
 use mir.Facts.{toZ-ofZ}
-use Rattle.face.specs.Face.{asCount}
 use borrow.Author.Needs.{needs}
 use Rattle.seg2.proofs.seg2_string_count.Statement.{statement}
 use Rattle.seg2.proofs.seg2_string_count.Tie as tie
@@ -12,5 +10,4 @@ seg2-string-count-spec =
     tie.close
     (tie.spec
     (λ c κs. search needs)
-    (λ c κs. search needs)
-    (λ c. c .count-told .ensures ∙ ap asCount (rw (toZ-ofZ {w = w32} (c .before .before .before .fits .part)) at (c .before .string-count .ensures))))
+    (λ c. rw (toZ-ofZ {w = w32} (c .before .before .fits .part)) at (c .string-count .ensures)))

@@ -1,8 +1,6 @@
--- `seg2::seg2_trace_block` meets its contract. The answer of the function below it, as it crosses. Assumes nothing.
-use mathlib.Core.Path.{ap, _∙_}
+-- `seg2::seg2_trace_block` meets its contract: the promise of the function that it calls. Assumes nothing.
 use mir.Syntax.{w32}
 use mir.Facts.{toZ-ofZ}
-use Rattle.face.specs.Face.{asTrace}
 use borrow.Author.Needs.{needs}
 use Rattle.seg2.proofs.seg2_trace_block.Statement.{statement}
 use Rattle.seg2.proofs.seg2_trace_block.Tie as tie
@@ -12,5 +10,4 @@ seg2-trace-block-spec =
     tie.close
     (tie.spec
     (λ c κs. search needs)
-    (λ c κs. search needs)
-    (λ c. c .trace-told .ensures ∙ ap asTrace (rw (toZ-ofZ {w = w32} (c .before .before .before .fits .trace)) at (c .before .trace-block .ensures))))
+    (λ c. rw (toZ-ofZ {w = w32} (c .before .before .fits .trace)) at (c .trace-block .ensures)))

@@ -1,8 +1,6 @@
--- `seg2::seg2_value` meets its contract. The answer of the function below it, as it crosses. Assumes nothing.
-use mathlib.Core.Path.{ap, _∙_}
+-- `seg2::seg2_value` meets its contract: the promise of the function that it calls. Assumes nothing.
 use mir.Syntax.{w32}
 use mir.Facts.{toZ-ofZ}
-use Rattle.face_values.specs.FaceValues.{asValue}
 use borrow.Author.Needs.{needs}
 use Rattle.seg2.proofs.seg2_value.Statement.{statement}
 use Rattle.seg2.proofs.seg2_value.Tie as tie
@@ -12,5 +10,4 @@ seg2-value-spec =
     tie.close
     (tie.spec
     (λ c κs. search needs)
-    (λ c κs. search needs)
-    (λ c. c .value-told .ensures ∙ ap asValue (rw (toZ-ofZ {w = w32} (c .before .before .before .before .fits .part)) at (c .before .find .ensures))))
+    (λ c. rw (toZ-ofZ {w = w32} (c .before .before .before .fits .part)) at (c .value .ensures)))

@@ -1,12 +1,12 @@
--- `seg2::seg2_add_integers` meets its contract. The answer of the function below it, as it crosses. Assumes nothing.
+-- `call_writers::add_integers` meets its contract. The answer of the function below it, as it crosses. Assumes nothing.
 use mathlib.Core.Path.{ap, _∙_}
 use Rattle.face.specs.Face.{asLength}
 use borrow.Author.Needs.{needs}
-use Rattle.seg2.proofs.seg2_add_integers.Statement.{statement}
-use Rattle.seg2.proofs.seg2_add_integers.Tie as tie
+use Rattle.call_writers.proofs.add_integers.Statement.{statement}
+use Rattle.call_writers.proofs.add_integers.Tie as tie
 
-pub seg2-add-integers-spec : {M : Type 1} → statement M
-seg2-add-integers-spec =
+pub add-integers-spec : {M : Type 1} → statement M
+add-integers-spec =
     tie.close
     (tie.spec
     (λ c κs. search needs)

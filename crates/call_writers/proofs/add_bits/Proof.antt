@@ -1,12 +1,12 @@
--- `seg2::seg2_add_bits` meets its contract. The answer of the function below it, as it crosses. Assumes nothing.
+-- `call_writers::add_bits` meets its contract. The answer of the function below it, as it crosses. Assumes nothing.
 use mathlib.Core.Path.{ap, _∙_}
 use Rattle.face.specs.Face.{asLength}
 use borrow.Author.Needs.{needs}
-use Rattle.seg2.proofs.seg2_add_bits.Statement.{statement}
-use Rattle.seg2.proofs.seg2_add_bits.Tie as tie
+use Rattle.call_writers.proofs.add_bits.Statement.{statement}
+use Rattle.call_writers.proofs.add_bits.Tie as tie
 
-pub seg2-add-bits-spec : {M : Type 1} → statement M
-seg2-add-bits-spec =
+pub add-bits-spec : {M : Type 1} → statement M
+add-bits-spec =
     tie.close
     (tie.spec
     (λ c κs. search needs)

@@ -1,12 +1,12 @@
--- `seg2::seg2_start` meets its contract. The answer of the function below it, as it crosses. Assumes nothing.
+-- `call_writers::start` meets its contract. The answer of the function below it, as it crosses. Assumes nothing.
 use mathlib.Core.Path.{ap, _∙_}
 use Rattle.face.specs.Face.{asLength}
 use borrow.Author.Needs.{needs}
-use Rattle.seg2.proofs.seg2_start.Statement.{statement}
-use Rattle.seg2.proofs.seg2_start.Tie as tie
+use Rattle.call_writers.proofs.start.Statement.{statement}
+use Rattle.call_writers.proofs.start.Tie as tie
 
-pub seg2-start-spec : {M : Type 1} → statement M
-seg2-start-spec =
+pub start-spec : {M : Type 1} → statement M
+start-spec =
     tie.close
     (tie.spec
     (λ c κs. search needs)
