@@ -12,7 +12,8 @@ use Rattle.image.proofs.traces.Tie as tie
 
 abbrev Inv-loop : tie.InvT-loop
 Inv-loop f high t u n first how k₀ p₀ with₀ k p with =
-    (k ≤ n) × Stands high f n k p × (pointedFrom how high t u f (n - k) k ≡ pointedFrom how high t u f n 0) × (0 < k → with ≡ withChannel how high t f)
+    (k ≤ n) × Stands high f n k p × (pointedFrom how high t u f (n - k) k ≡ pointedFrom how high t u f n 0)
+    × (0 < k → with ≡ withChannel how high t f)
 
 abbrev μ-loop : tie.MeasureT-loop
 μ-loop f high t u n first how k₀ p₀ with₀ k p with = n - k

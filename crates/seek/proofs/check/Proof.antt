@@ -16,7 +16,8 @@ use Rattle.seek.proofs.check.Statement.{statement}
 use Rattle.seek.proofs.check.Tie as tie
 
 abbrev Inv-loop : tie.InvT-loop
-Inv-loop f a e high t u whose how at₀ k₀ g₀ hit₀ gap₀ size₀ at k g hit gap size = (a ≤ at) × (at ≤ e) × (k ≤ g) × (g ≤ e) × ((m : ℕ) × (e - at ≤ m)
+Inv-loop f a e high t u whose how at₀ k₀ g₀ hit₀ gap₀ size₀ at k g hit gap size =
+    (a ≤ at) × (at ≤ e) × (k ≤ g) × (g ≤ e) × ((m : ℕ) × (e - at ≤ m)
     × (stringsFrom how m high t u whose (part k g f) (part at e f) at ≡ stringsOf how high t u whose (part a e f) a)
     × Sought how high t f channelNumber a e at hit gap size m)
 
