@@ -47,22 +47,19 @@ use Rattle.block.specs.declared.TraceAnswer.the-variants as trace
 use Rattle.reader.specs.declared.CountAnswer.the-variants as count
 use Rattle.reader.specs.declared.StringAnswer.the-variants as string
 use Rattle.reader.specs.declared.KeywordAnswer.the-variants as keyword
-use Rattle.reader.specs.Questions.{noTrace, whoseOf, areaNamed, areaAsked, onArea, onTrace, fileAnswer, traceAnswer}
+use Rattle.reader.specs.Questions.{noTrace, whoseOf, isTrace, areaNamed, areaAsked, onArea, onTrace, fileAnswer, traceAnswer}
 use Rattle.reader.specs.Questions.{placesIn, countAnswer, there, nthAnswer, findAnswer, yesOrNo, keywordAnswer}
 use Rattle.reader.specs.Questions.{valueThere, valueAnswer, onString, numberAnswer, doubleAnswer, locationAnswer}
 use Rattle.reader.specs.Questions.{codeAt, countAt, ofIntegers, ofBits, blockAt, integersRows, bitsRows}
 use Rattle.reader.specs.Questions.{integersVerdict, bitsVerdict, integersAnswer, bitsAnswer, traceNumber}
+use Rattle.reader.specs.Leaves.{on-trace}
 use Rattle.reader.specs.Listed.{found-value}
 use Rattle.refusal.specs.FirstRow.{row, firstOf, first-more, rowsAt, rule-first, asked-more, asked-row, asked-none}
 use Rattle.demands.specs.FileRows.{checkRows, check-answers-first}
 
 -- ---- 18
 
--- the number of a trace, and of a trace or the file
-abbrev pub isTrace : ℤ → ℕ → Bool
-isTrace (pos k) n = ltb k n
-isTrace (negsuc k) n = false
-
+-- the number of a trace or of the file
 abbrev pub isPart : ℤ → ℕ → Bool
 isPart (pos k) n = ltb k n
 isPart (negsuc zero) n = true
@@ -88,16 +85,6 @@ pub file-answers-first : (how : Manner) (xs : List ℕ) (n : ℕ)
     → fileAnswer how xs n ≡ asked file.Refused (firstOf (checkRows how Read xs n)) (file.Is (fileBlockOf (take n xs)))
 unfolding fileAnswer
 file-answers-first how xs n = rw (check-answers-first how Read xs n)
-
-on-trace : {A : Type 0} (none : A) (some : ℕ → A) (z : ℤ) (n : ℕ) → onTrace (whoseOf z n) none some ≡ pick (not (isTrace z n)) none (some (traceNumber z))
-unfolding whoseOf
-on-trace none some (pos k) n = go (ltb k n)
-  where
-    go : (w : Bool) → onTrace (pick w (One k) Nobody) none some ≡ pick (not w) none (some k)
-    go true = refl
-    go false = refl
-on-trace none some (negsuc zero) n = refl
-on-trace none some (negsuc (suc k)) n = refl
 
 -- Rules out a trace that is not there.
 pub trace-answers-first : (how : Manner) (xs : List ℕ) (n : ℕ) (z : ℤ)

@@ -18,13 +18,13 @@ use Rattle.head.specs.declared.Purpose.{Purpose}
 use Rattle.head.specs.declared.FileBlock.{FileBlock}
 use Rattle.head.specs.declared.FileAnswer.{FileAnswer}
 use Rattle.head.specs.declared.FileAnswer.the-variants as file
-use Rattle.head.specs.Head.{maximum, roomOf, countOf, headOf, fileBlockOf, headAnswer, InWords}
+use Rattle.head.specs.Head.{maximum, highFirst, roomOf, countOf, headOf, fileBlockOf, headAnswer, InWords}
 use Rattle.terminators.specs.Terminators.{stringEnd, lineEnd}
 use Rattle.head.specs.HeadLaws.{Headed, headed, own-block, block-order, block-room, block-count}
 use Rattle.image.specs.Image.{restOf, imageOf, badLength}
 
 -- ---- rows 2 to 7, then the rest
-file-told : (v : Verdict) (y : FileBlock) (r : Refusal) → asked file.Refused v (file.Is y) ≡ file.Refused r → v ≡ Refused r
+pub file-told : (v : Verdict) (y : FileBlock) (r : Refusal) → asked file.Refused v (file.Is y) ≡ file.Refused r → v ≡ Refused r
 file-told Accepted y r e = let z : _≡_ {A = ℕ} 0 1 = cc in absurd (omega arith)
 file-told (Refused q) y r e = let s : q ≡ r = cc in ap Refused s
 
@@ -37,7 +37,7 @@ in-words a x e h = rw e at h
 
 -- x is the block that the rows hand on
 module _ (purpose : Purpose) (f : List ℕ) (x : FileBlock) (e : headAnswer purpose (take 32 f) (length f) ≡ file.Is x) where
-  head-passed : (headOf purpose (take 32 f) (length f) ≡ Accepted) × (x ≡ fileBlockOf (take 32 f))
+  pub head-passed : (headOf purpose (take 32 f) (length f) ≡ Accepted) × (x ≡ fileBlockOf (take 32 f))
   unfolding headAnswer
   head-passed = file-read _ _ x e
 
@@ -47,6 +47,9 @@ module _ (purpose : Purpose) (f : List ℕ) (x : FileBlock) (e : headAnswer purp
   head-block : x ≡ fileBlockOf f
   head-block = head-passed .1 ∙ own-block f
 
+  pub head-order : highFirst f ≡ x .high
+  head-order = block-order f head-block
+
   pub head-room : roomOf f ≡ x .m
   head-room = block-room f head-block
 
@@ -55,7 +58,7 @@ module _ (purpose : Purpose) (f : List ℕ) (x : FileBlock) (e : headAnswer purp
 
   pub head-rest : (how : Manner) → restOf how (x .high) (stringEnd f) (lineEnd f) f (x .m) (x .n) ≡ imageOf how purpose f
   unfolding imageOf andThen
-  head-rest how = sym (rw (head-passed .0, block-order f head-block, head-room, head-count))
+  head-rest how = sym (rw (head-passed .0, head-order, head-room, head-count))
 
 pub head-bad : (how : Manner) (purpose : Purpose) (f : List ℕ) (r : Refusal) → headAnswer purpose (take 32 f) (length f) ≡ file.Refused r
     → Refused r ≡ imageOf how purpose f

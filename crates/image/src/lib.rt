@@ -18,7 +18,7 @@ ghost use mathlib.Core.Path.{_≡_};
 ghost use Prim.Native.Nat.{_+_, _-_, _*_, _≤_, _<_};
 ghost use lib.ListN.{length};
 ghost use Rattle.trace.specs.Trace.{areaVerdict};
-ghost use Rattle.image.specs.Image.{restOf, imageOf, checkOf};
+ghost use Rattle.image.specs.Image.{restOf, imageOf, badLength, checkOf};
 ghost use Rattle.image.specs.Walk.{nextOf, pointedFrom, InWord, Stands};
 
 // A step of the walk over the file: where it goes on, or the refusal.
@@ -128,11 +128,18 @@ fn image(f: &[u8], purpose: Purpose, how: Manner) -> Verdict
     }
 }
 
+// Row 1 of a buffer of so many bytes and the length given beside it.
+pub fn is_bad_length(size: usize, n: usize) -> bool
+    ensures { λ r. ⌜ r ≡ badLength size n ⌝ }
+{
+    (n < 32) | ((head::MAXIMUM < n) | (size < n))
+}
+
 // The check of a file: the first row met, or accepted.
 pub fn check(buffer: &[u8], n: usize, purpose: Purpose, how: Manner) -> Verdict
     ensures { λ r. ⌜ r ≡ checkOf how purpose (now (buffer .entry)) n ⌝ }
 {
-    if (n < 32) | ((head::MAXIMUM < n) | (buffer.len() < n)) {
+    if is_bad_length(buffer.len(), n) {
         return head::refusing(Rule::Length, 0);
     }
     image(&buffer[..n], purpose, how)

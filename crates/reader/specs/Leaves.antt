@@ -1,11 +1,12 @@
 -- What the leaves of the questions answer, and that the questions are made of them.
 -- Assumes nothing.
 use mathlib.Core.Path.{_≡_, refl}
-use mathlib.Core.Bool.{Bool, false}
+use mathlib.Core.Bool.{Bool, true, false, not}
 use mathlib.Core.List.{List}
 use Prim.Native.Nat.{ℕ, zero, suc, _+_, _-_, _≤_, _%_}
-use lib.IntN.{ℤ}
+use lib.IntN.{ℤ, pos, negsuc}
 use lib.ListN.{length, take}
+use lib.Dec.{ltb}
 use Rattle.word.specs.Part.{part}
 use Rattle.word.specs.Word.{wordAt}
 use Rattle.refusal.specs.declared.Refusal.{Refusal}
@@ -16,13 +17,14 @@ use Rattle.text.specs.declared.Manner.{Manner}
 use Rattle.strings.specs.Strings.{placesOf, PlaceIn, nthOf, findOf}
 use Rattle.head.specs.declared.Purpose.the-variants.{Read}
 use Rattle.refusal.specs.Verdicts.{asked}
+use Rattle.refusal.specs.Rows.{pick}
 use Rattle.sample.specs.Needed.{needed}
 use Rattle.block.specs.declared.TraceBlock.{TraceBlock}
 use Rattle.head.specs.Head.{maximum, highFirst, roomOf}
 use Rattle.terminators.specs.Terminators.{stringEnd}
 use Rattle.block.specs.Block.{pointerOf, blockSize}
 use Rattle.image.specs.Image.{checkOf}
-use Rattle.reader.specs.declared.Whose.the-variants.{Whole, One}
+use Rattle.reader.specs.declared.Whose.the-variants.{Whole, One, Nobody}
 use Rattle.reader.specs.declared.Area.{Area}
 use Rattle.reader.specs.declared.Area.the-variants.{Outside, From}
 use Rattle.reader.specs.declared.Opened.{Opened}
@@ -30,8 +32,19 @@ use Rattle.reader.specs.declared.Opened.the-variants as opened
 use Rattle.reader.specs.declared.StringAnswer.{StringAnswer}
 use Rattle.reader.specs.declared.StringAnswer.the-variants as string
 use Rattle.reader.specs.declared.CountAnswer.the-variants as count
-use Rattle.reader.specs.Questions.{noTrace, areaNamed, areaAsked, onArea, placesIn, there, countAnswer, nthAnswer}
-use Rattle.reader.specs.Questions.{findAnswer, ofIntegers, ofBits}
+use Rattle.reader.specs.Questions.{noTrace, whoseOf, areaNamed, areaAsked, onArea, onTrace, isTrace, traceNumber}
+use Rattle.reader.specs.Questions.{placesIn, there, countAnswer, nthAnswer, findAnswer, ofIntegers, ofBits}
+
+-- ---- a question on a trace: none, or that of the trace
+pub on-trace : {A : Type 0} (none : A) (some : ℕ → A) (z : ℤ) (n : ℕ) → onTrace (whoseOf z n) none some ≡ pick (not (isTrace z n)) none (some (traceNumber z))
+unfolding whoseOf
+on-trace none some (pos k) n = go (ltb k n)
+  where
+    go : (w : Bool) → onTrace (pick w (One k) Nobody) none some ≡ pick (not w) none (some k)
+    go true = refl
+    go false = refl
+on-trace none some (negsuc zero) n = refl
+on-trace none some (negsuc (suc k)) n = refl
 
 -- ---- the area of a part, as it is read
 pub area-whole : (f : List ℕ) (h : Bool) (m p : ℕ) → h ≡ highFirst f → m ≡ wordAt 2 h f 4 → p ≡ pointerOf h f 0 → From (32 + m) p ≡ areaNamed f Whole

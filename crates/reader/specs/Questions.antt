@@ -92,6 +92,15 @@ onTrace (One k) none some = some k
 onTrace Whole none some = none
 onTrace Nobody none some = none
 
+-- whether a number is that of a trace, and which trace it then is
+abbrev pub isTrace : ℤ → ℕ → Bool
+isTrace (pos k) n = ltb k n
+isTrace (negsuc k) n = false
+
+abbrev pub traceNumber : ℤ → ℕ
+traceNumber (pos k) = k
+traceNumber (negsuc k) = 0
+
 -- ---- blocks
 
 unfoldable pub fileAnswer : Manner → List ℕ → ℕ → FileAnswer
@@ -244,11 +253,6 @@ classesOf f k = classesIn f (blockAt f k)
 abbrev pub kept : {A : Type 0} → Verdict → A → A → A
 kept Accepted new old = new
 kept (Refused r) new old = old
-
--- the trace that a number names
-abbrev pub traceNumber : ℤ → ℕ
-traceNumber (pos k) = k
-traceNumber (negsuc k) = 0
 
 unfoldable pub integersLeft : Manner → List ℕ → ℕ → ℤ → List ℤ → List ℤ
 integersLeft how xs n z row = kept (integersAnswer how xs n z (length row)) (samplesOf (take n xs) (traceNumber z)) row

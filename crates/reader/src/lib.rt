@@ -83,7 +83,7 @@ fn whose_in(f: &[u8], part: i32) -> Whose
 }
 
 // Row 18.
-fn no_trace() -> Refusal
+pub fn no_trace() -> Refusal
     ensures { λ r. ⌜ r ≡ noTrace ⌝ }
 {
     refusal::of_file(Rule::NoTrace, 0)

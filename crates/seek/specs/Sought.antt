@@ -6,17 +6,16 @@ use mathlib.Core.Bool.{Bool, true, false, _&&_}
 use mathlib.Core.List.{List, [], _∷_}
 use Prim.Native.Nat.{ℕ, _+_, _-_, _≤_, _<_}
 use native.Mathlib.Omega.{arith}
-use lib.ListN.{length, drop}
+use lib.ListN.{length}
 use lib.Dec.{leb}
 use borrow.Author.Tests.{leb-true, leb-false}
-use Rattle.word.specs.Part.{part, length-part, part-none, part-part, part-drop}
+use Rattle.word.specs.Part.{part, part-none}
 use Rattle.refusal.specs.Rows.{pick}
 use Rattle.refusal.specs.declared.Part.{Part}
 use Rattle.refusal.specs.declared.Refusal.{Refusal}
 use Rattle.refusal.specs.declared.Verdict.{Verdict}
 use Rattle.refusal.specs.declared.Verdict.the-variants as verdict
 use Rattle.refusal.specs.Verdicts.{asked}
-use Rattle.strings.specs.declared.Frame.the-variants.{Text}
 use Rattle.strings.specs.declared.Step.the-variants.{Next, Done}
 use Rattle.strings.specs.declared.Place.{Place}
 use Rattle.strings.specs.declared.Entry.the-variants.{Stop, At}
@@ -27,10 +26,10 @@ use Rattle.seek.specs.declared.Checked.the-variants as checked
 use Rattle.text.specs.declared.Manner.{Manner}
 use Rattle.text.specs.Manner.{named}
 use Rattle.chars.specs.Runs.{same}
-use Rattle.strings.specs.Strings.{body, keyLen, gapLen, frameOf, stepOf, placeOf, onText, entryOf, placesFrom, placesOf}
+use Rattle.strings.specs.Strings.{stepOf, placeOf, onText, entryOf, placesFrom, placesOf}
 use Rattle.strings.specs.Strings.{stringsOf, findOf, found, valueFound}
-use Rattle.strings.specs.Walks.{in-frame, next-fits, done-frame, judged-clear, place-fits, place-next, place-stop, place-over}
-use Rattle.strings.specs.Walks.{walk-none}
+use Rattle.strings.specs.Walks.{next-fits, done-frame, place-next, place-stop, place-over, walk-none}
+use Rattle.strings.specs.Passed.{seenPlace, Lies, seen-lies, seen-place}
 
 -- what is told of a string: whether it is there, and where its value begins and ends
 unfoldable pub valueFrom : Found → ℕ
@@ -61,19 +60,9 @@ pub record Told (s : Found) (has : Bool) (from to : ℕ) : Type 0 where
   pub from-is : valueFrom s ≡ from
   pub to-is : valueTo s ≡ to
 
--- the string of `size` bytes that was seen at `hit`, its keyword up to `gap`
-abbrev pub seenPlace : List ℕ → List ℕ → ℕ → ℕ → ℕ → Place
-seenPlace t f hit gap size =
-    let end = hit + (size - length t) in
-    record { key = hit + 2; gap = gap; value = gap + gapLen (part gap end f); end = end }
-
 -- and what was seen in the area that ends at e: before it is seen, hit is that end
 unfoldable pub seenOf : List ℕ → List ℕ → ℕ → ℕ → ℕ → ℕ → Found
 seenOf t f e hit gap size = pick (leb e hit) Nothing (Is (seenPlace t f hit gap size))
-
--- a string that was seen lies in the area; the terminator has so many bytes
-abbrev pub Lies : ℕ → ℕ → ℕ → ℕ → ℕ → Type 0
-Lies lt e hit gap size = (lt ≤ size) × (hit + 2 ≤ gap) × (gap ≤ hit + (size - lt)) × (hit + (size - lt) ≤ e)
 
 -- ---- where a walk stands that has seen the keyword at `hit`, or is to see it from `at` on: hit is then the area's end
 module _ (how : Manner) (high : Bool) (t f key : List ℕ) (a e : ℕ) where
@@ -113,33 +102,9 @@ module _ (how : Manner) (high : Bool) (t f key : List ℕ) (a e : ℕ) where
     -- a string is passed, and its keyword compared
     module _ (u : List ℕ) (p : Part) (prev : List ℕ) (o n : ℕ) (low : at < e) (fits : e ≤ length f) (enough : e - at ≤ m)
         (h : stepOf how high t u p prev (part at e f) at ≡ Next o n) where
-      frame : frameOf how high t (part at e f) ≡ Text o
-      frame = next-fits how high t u p prev (part at e f) at o n h .0
-
       here : entryOf how high t (part at e f) at ≡ At (placeOf t o (part at e f) at) o
       unfolding entryOf onText
-      here = rw frame
-
-      long : keyLen (body t o (part at e f)) ≡ n
-      long = judged-clear how u prev (body t o (part at e f)) n (next-fits how high t u p prev (part at e f) at o n h .1) .1
-
-      lies-here : Lies (length t) e at (at + 2 + n) o
-      lies-here =
-          let i = in-frame how high t (part at e f) o frame in
-          let b = place-fits how high t (part at e f) at o frame in
-          let w = length-part at e f fits in
-          let k = long in
-          let v = b .inside in
-          (omega (arith, i .low), omega arith, omega (arith, v .1, v .2), omega (arith, i .fit))
-
-      place-here : placeOf t o (part at e f) at ≡ seenPlace t f at (at + 2 + n) o
-      unfolding body
-      place-here =
-          let l = lies-here in
-          let b : part 2 (o - length t) (part at e f) ≡ part (at + 2) (at + (o - length t)) f = part-part 2 (o - length t) at e f (omega (arith, l .3)) in
-          let k : keyLen (part (at + 2) (at + (o - length t)) f) ≡ n = rw b at long in
-          let d : drop n (part (at + 2) (at + (o - length t)) f) ≡ part (at + 2 + n) (at + (o - length t)) f = part-drop n (at + 2) (at + (o - length t)) f in
-          rw (b, k, d)
+      here = rw (next-fits how high t u p prev (part at e f) at o n h .0)
 
       compared : (w : Bool) → same (named how (part (at + 2) (at + 2 + n) f)) key ≡ w
           → findOf how f (placesFrom how m high t (part at e f) at) key
@@ -148,7 +113,7 @@ module _ (how : Manner) (high : Bool) (t f key : List ℕ) (a e : ℕ) where
       compared w q =
           let rest : List Place = placesFrom how (m - 1) high t (part (at + o) e f) (at + o) in
           let p : placesFrom how m high t (part at e f) at ≡ seenPlace t f at (at + 2 + n) o ∷ rest =
-          place-next how high t f e at m low fits enough _ o here ∙ ap (λ (x : Place). x ∷ rest) place-here in
+          place-next how high t f e at m low fits enough _ o here ∙ ap (λ (x : Place). x ∷ rest) (seen-place how high t u p prev f e at o n fits h) in
           rw (p, q)
 
       pub sought-next : {seen : Bool} {hit' gap' size' : ℕ} → seen ≡ same (named how (part (at + 2) (at + 2 + n) f)) key
@@ -163,7 +128,7 @@ module _ (how : Manner) (high : Bool) (t f key : List ℕ) (a e : ℕ) where
               (record {
                 later = λ l. absurd (omega arith);
                 before = λ l. sym (compared true b) ∙ s .later (leb-true e hit c);
-                lies = λ l. lies-here;
+                lies = λ l. seen-lies how high t u p prev f e at o n fits h;
               })
           go true false c b x y z =
               rw (x, y, z)

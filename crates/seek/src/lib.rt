@@ -15,7 +15,8 @@ ghost use Rattle.refusal.specs.Rows.{pick};
 ghost use Rattle.chars.specs.Runs.{same};
 ghost use Rattle.text.specs.Manner.{named};
 ghost use Rattle.channel.specs.Channel.{channelNumber};
-ghost use Rattle.seek.specs.Sought.{Lies, hasOf, seenOf, checkedOf};
+ghost use Rattle.strings.specs.Passed.{Lies};
+ghost use Rattle.seek.specs.Sought.{hasOf, seenOf, checkedOf};
 
 // What the check of an area answers: the refusal, or whether it has a channel number, and where the value of the first
 // begins and ends in the file (0 and 0 where there is none).

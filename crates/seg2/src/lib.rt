@@ -23,6 +23,7 @@ ghost use Rattle.image.specs.Image.{checkOf};
 ghost use Rattle.reader.specs.Questions.{fileAnswer, traceAnswer, countAnswer, nthAnswer, findAnswer, keywordAnswer};
 ghost use Rattle.reader.specs.Questions.{numberAnswer, doubleAnswer, locationAnswer, integersAnswer, integersLeft};
 ghost use Rattle.reader.specs.Questions.{bitsAnswer, patternsLeft, classesLeft};
+ghost use Rattle.quick.specs.Quick.{quickFind, quickKeyword};
 ghost use Rattle.layout.specs.Layout.{integersTrace, patternsTrace};
 ghost use Rattle.start.specs.Start.{startAnswer, startLeft};
 ghost use Rattle.writer.specs.Answers.{addAnswer, addLeft};
@@ -139,6 +140,24 @@ pub extern "C" fn seg2_bits(
         ≡ classesLeft Strict (now (buffer .entry)) n trace (now (row .entry)) (now (classes .entry)) ⌝ }
 {
     call_samples::bits(buffer, n, trace, row, classes)
+}
+
+// ---- one trace, quickly: the rest of the file is not looked at
+
+// Whether a trace has a keyword: one of the two calls.
+#[no_mangle]
+pub extern "C" fn seg2_quick_keyword(buffer: &[u8], n: usize, trace: i32, key: &[u8]) -> Seg2Keyword
+    ensures { λ r. ⌜ r ≡ asKeyword (quickKeyword (now (buffer .entry)) n trace (now (key .entry))) ⌝ }
+{
+    call_quick::keyword(buffer, n, trace, key)
+}
+
+// Its value: the other one.
+#[no_mangle]
+pub extern "C" fn seg2_quick_value(buffer: &[u8], n: usize, trace: i32, key: &[u8]) -> Seg2Value
+    ensures { λ r. ⌜ r ≡ asValue (quickFind (now (buffer .entry)) n trace (now (key .entry))) ⌝ }
+{
+    call_quick::value(buffer, n, trace, key)
 }
 
 // ---- writing

@@ -2,5 +2,6 @@ pub mod Strings
 pub mod Frames
 pub mod Texts
 pub mod Walks
+pub mod Passed
 pub mod Spelled
 pub mod Paper

@@ -103,6 +103,14 @@ before-transitive a b c h k = go (same a note) (same b note) (same c note) h k
     go false false true p q = refl
     go false false false p q = less-transitive a b c p q
 
+-- what comes before a keyword is another
+pub before-other : (a b : List ℕ) → before a b ≡ true → same b a ≡ false
+before-other a b h = go (same b a) refl
+  where
+    go : (w : Bool) → same b a ≡ w → w ≡ false
+    go true e = never (sym (before-irreflexive a) ∙ rw (same-eq b a e) at h)
+    go false e = refl
+
 -- the two may repeat, and no other
 pub repeats-two : (k : List ℕ) → (repeats k ≡ true) ↔ ((k ≡ receiverGeometry) ⊎ (k ≡ sourceGeometry))
 unfolding repeats same
@@ -157,6 +165,10 @@ rises-transitive a b c h k =
     (λ x. ⊎-elim (λ y. rises-later a c (before-transitive a b c x y)) (λ y. rw (← y .0) h) (rises-so b c k))
     (λ x. rw (x .0) k)
     (rises-so a b h)
+
+-- and what comes before a keyword comes before its followers
+pub before-rises : (a b c : List ℕ) → before a b ≡ true → rises b c ≡ true → before a c ≡ true
+before-rises a b c h k = ⊎-elim (λ x. before-transitive a b c h x) (λ x. rw (← x .0) h) (rises-so b c k)
 
 -- of two that follow each other both are the same
 pub rises-both : (a b : List ℕ) → rises a b ≡ true → rises b a ≡ true → a ≡ b

@@ -106,7 +106,7 @@ pub fn asks_channels(how: Manner) -> bool
 }
 
 // Whether the keyword p comes before the keyword k: byte order, and NOTE after all others.
-fn is_before(p: &[u8], k: &[u8]) -> bool
+pub fn is_before(p: &[u8], k: &[u8]) -> bool
     ensures { λ r. ⌜ r ≡ before (now (p .entry)) (now (k .entry)) ⌝ }
 {
     if is_note(p) {

@@ -15,7 +15,7 @@ ghost use Rattle.reader.specs.Questions.{locationAnswer};
 ghost use Rattle.reader.specs.Leaves.{Within};
 
 // The value of a string that was found, as the caller's own bytes; else the empty part at the start.
-fn value_at<'a>(buffer: &'a [u8], s: StringAnswer) -> &'a [u8]
+pub fn value_at<'a>(buffer: &'a [u8], s: StringAnswer) -> &'a [u8]
     requires { ⌜ Within (length (now buffer)) s ⌝ }
     ensures { λ r. ⌜ now r ≡ valueThere (now (buffer .entry)) s ⌝ }
     ensures own { λ r. ⌜ PartOf (buffer .entry) (spanThere s) r ⌝ }

@@ -14,17 +14,16 @@ check-spec =
     tie.close
     (tie.spec
     (λ c κs. search needs)
-    (λ c. c .refusing .ensures ∙ rw (c .before .if1 .taken))
+    (λ c κs. search needs)
+    (λ c. c .refusing .ensures ∙ rw (← c .before .before .is-bad-length .ensures, c .before .if1 .taken))
     (λ c.
-    let at-if1 = c .before in
-    let start = at-if1 .before .before in
-    let args = start .args in
-    let l = long-enough (length (args .buffer .now)) (args .n) (at-if1 .if1 .left) in
+    let at-length = c .before .before in
+    let args = at-length .before .before .args in
+    let l = long-enough (length (args .buffer .now)) (args .n) (sym (at-length .is-bad-length .ensures) ∙ c .before .if1 .left) in
     sym (length-take-le _ _ (l .2)))
     (λ c κs.
-    let at-if1 = c .before in
-    let start = at-if1 .before .before in
-    let args = start .args in
-    let l = long-enough (length (args .buffer .now)) (args .n) (at-if1 .if1 .left) in
+    let at-length = c .before .before in
+    let args = at-length .before .before .args in
+    let l = long-enough (length (args .buffer .now)) (args .n) (sym (at-length .is-bad-length .ensures) ∙ c .before .if1 .left) in
     rw (length-take-le (args .n) (args .buffer .now) (l .2)) (l .0))
-    (λ c. c .image .ensures ∙ rw (c .before .before .if1 .left)))
+    (λ c. c .image .ensures ∙ rw (← c .before .before .before .is-bad-length .ensures, c .before .before .if1 .left)))

@@ -1,0 +1,2 @@
+pub mod Until
+pub mod Turns

@@ -1,0 +1,77 @@
+-- The strings of an area in order, until a keyword is found or passed: "its strings in order only until the keyword is
+-- found or passed (that string is read whole and checked); NOTE is sought to the end" (document 02 §5). The step is that
+-- of the check (strings/Strings `stepOf`: rows 14 to 17), with a stop. Every definition is on the bytes l that are left of
+-- the area; `at` is their place in the file. key is the asked keyword, of any bytes; prev the keyword before, the empty
+-- one before the first; t is the string terminator, u the line terminator, `high` the byte order.
+-- Assumes nothing.
+use mathlib.Core.Bool.{Bool, not, _&&_}
+use mathlib.Core.List.{List, []}
+use Prim.Native.Nat.{ℕ, zero, suc, _+_}
+use lib.ListN.{length, take, drop}
+use lib.Dec.{ltb, leb, eqb}
+use Rattle.refusal.specs.declared.Refusal.{Refusal}
+use Rattle.refusal.specs.declared.Rule.the-variants.{StringOffset}
+use Rattle.refusal.specs.declared.Part.{Part}
+use Rattle.refusal.specs.Table.{refusal}
+use Rattle.refusal.specs.Rows.{pick}
+use Rattle.chars.specs.Runs.{same}
+use Rattle.text.specs.declared.Manner.the-variants.{Strict}
+use Rattle.text.specs.Order.{before}
+use Rattle.strings.specs.declared.Step.{Step}
+use Rattle.strings.specs.declared.Step.the-variants.{Next, Done, Bad}
+use Rattle.strings.specs.Strings.{offset, stepOf, placeOf}
+use Rattle.until.specs.declared.Sought.{Sought}
+use Rattle.until.specs.declared.Sought.the-variants as sought
+
+-- ---- what ends the search
+
+-- the keyword k is passed where the asked one comes before it: k is greater, or it is NOTE and NOTE is not asked for.
+-- None comes behind NOTE, so none passes it, and it is sought to the end
+abbrev pub passed : List ℕ → List ℕ → Bool
+passed key k = before key k
+
+-- behind a string with the keyword k that met no row: it is the asked one, or it is passed and there is none, or the
+-- search goes on
+abbrev pub compared : {A : Type 0} → List ℕ → List ℕ → A → A → A → A
+compared key k here none more = pick (same k key) here (pick (passed key k) none more)
+
+-- a step: past a string, at the end of the list, or refused
+abbrev pub onStep : {A : Type 0} → Step → (Refusal → A) → A → (ℕ → ℕ → A) → A
+onStep (Next o n) bad done next = next o n
+onStep Done bad done next = done
+onStep (Bad r) bad done next = bad r
+
+-- ---- the search. The number bounds how many strings there are; the length of l is enough, for each has a byte. Where
+-- no byte is left the missing end mark is 14
+unfoldable pub soughtFrom : ℕ → Bool → List ℕ → List ℕ → Part → List ℕ → List ℕ → List ℕ → ℕ → Sought
+soughtFrom zero high t u p key prev l at = sought.Refused (refusal StringOffset p at)
+soughtFrom (suc m) high t u p key prev l at =
+    onStep (stepOf Strict high t u p prev l at) sought.Refused sought.Nothing
+    (λ o n.
+    compared key (take n (drop 2 l)) (sought.Is (placeOf t o l at)) sought.Nothing
+    (soughtFrom m high t u p key (take n (drop 2 l)) (drop o l) (at + o)))
+
+-- "An empty area is an empty list"
+unfoldable pub soughtOf : Bool → List ℕ → List ℕ → Part → List ℕ → List ℕ → ℕ → Sought
+soughtOf high t u p key l at = pick (eqb (length l) 0) sought.Nothing (soughtFrom (length l) high t u p key [] l at)
+
+-- ---- the bytes that it reads: as many of the area's first
+
+-- of a string "its offset (none where fewer than 2 bytes are left), and where rows of 14 on the offset pass, the string to
+-- its end"; an offset of 0 ends the list
+abbrev pub reaches : Bool → List ℕ → List ℕ → Bool
+reaches high t l = leb (3 + length t) (offset high l) && leb (offset high l) (length l)
+
+unfoldable pub stringRead : Bool → List ℕ → List ℕ → ℕ
+stringRead high t l = pick (ltb (length l) 2) 0 (pick (reaches high t l) (offset high l) 2)
+
+-- string by string, and none behind that which ends the search
+unfoldable pub readFrom : ℕ → Bool → List ℕ → List ℕ → Part → List ℕ → List ℕ → List ℕ → ℕ → ℕ
+readFrom zero high t u p key prev l at = 0
+readFrom (suc m) high t u p key prev l at =
+    stringRead high t l
+    + onStep (stepOf Strict high t u p prev l at) (λ r. 0) 0
+    (λ o n. compared key (take n (drop 2 l)) 0 0 (readFrom m high t u p key (take n (drop 2 l)) (drop o l) (at + o)))
+
+unfoldable pub readOf : Bool → List ℕ → List ℕ → Part → List ℕ → List ℕ → ℕ → ℕ
+readOf high t u p key l at = readFrom (length l) high t u p key [] l at
