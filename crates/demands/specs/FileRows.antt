@@ -62,7 +62,7 @@ pick-first true v vs h = refl
 pick-first false v vs h = h
 
 -- a string's text: its rows, and then what comes behind
-text-first : (how : Manner) (u prev b : List ℕ) (p : Part) (at o : ℕ) (next : ℕ → ℕ → Verdict) (more : List Verdict) → next o (keyLen b) ≡ firstOf more
+pub text-first : (how : Manner) (u prev b : List ℕ) (p : Part) (at o : ℕ) (next : ℕ → ℕ → Verdict) (more : List Verdict) → next o (keyLen b) ≡ firstOf more
     → onStep (onJudged (judgedOf how u prev b) p at o) next ≡ firstOf (rowsAt p at (textRows how u prev b) ++ more)
 unfolding judgedOf
 text-first how u prev b p at o next more h =
@@ -71,7 +71,7 @@ text-first how u prev b p at o next more h =
     ∙ rule-first rs p at (next o (keyLen b)) ∙ ap (andThen (firstOf (rowsAt p at rs))) h ∙ sym (first-more (rowsAt p at rs) more)
 
 -- its frame: its rows, and then the end of the list or the text
-ends-first : (how : Manner) (w : Bool) (o : ℕ) (t u prev l : List ℕ) (p : Part) (at : ℕ) (next : ℕ → ℕ → Verdict) (more : List Verdict)
+pub ends-first : (how : Manner) (w : Bool) (o : ℕ) (t u prev l : List ℕ) (p : Part) (at : ℕ) (next : ℕ → ℕ → Verdict) (more : List Verdict)
     → onStep (onJudged (judgedOf how u prev (body t o l)) p at o) next ≡ firstOf more
     → onStep (onFrame how (pick w End (Text o)) t u prev l p at) next ≡ firstOf (pick w [] more)
 unfolding onFrame firstOf
@@ -134,7 +134,7 @@ tracesRows how high t u f (suc left) k prev =
 block-refuses : (high : Bool) (b : List ℕ) (end k p : ℕ) → Refuses (blockRows high b end k p)
 block-refuses high b end k p = ((_, refl), ((_, refl), ((_, refl), ((_, refl), ((_, refl), tt)))))
 
-block-first : (high : Bool) (b : List ℕ) (end k p : ℕ) → blockOf high b end k p ≡ firstOf (each (blockRows high b end k p))
+pub block-first : (high : Bool) (b : List ℕ) (end k p : ℕ) → blockOf high b end k p ≡ firstOf (each (blockRows high b end k p))
 unfolding blockOf
 block-first high b end k p = first-each (blockRows high b end k p) (block-refuses high b end k p)
 
@@ -182,7 +182,7 @@ checkRows how purpose xs n = row (badLength (length xs) n) Length File 0 ∷ ima
 head-refuses : (purpose : Purpose) (b : List ℕ) (end : ℕ) → Refuses (headRows purpose b end)
 head-refuses purpose b end = ((_, refl), ((_, refl), ((_, refl), ((_, refl), ((_, refl), ((_, refl), ((_, refl), tt)))))))
 
-head-first : (purpose : Purpose) (b : List ℕ) (end : ℕ) → headOf purpose b end ≡ firstOf (each (headRows purpose b end))
+pub head-first : (purpose : Purpose) (b : List ℕ) (end : ℕ) → headOf purpose b end ≡ firstOf (each (headRows purpose b end))
 unfolding headOf
 head-first purpose b end = first-each (headRows purpose b end) (head-refuses purpose b end)
 

@@ -18,3 +18,4 @@ pub mod Ignored
 pub mod Repeats
 pub mod Decimals
 pub mod Channels
+pub mod Quickly

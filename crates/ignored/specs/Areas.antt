@@ -50,17 +50,17 @@ frame-same : (high : Bool) (t l r : List ℕ) → length l ≡ length r → offs
 unfolding frameOf
 frame-same high t l r n o p = rw (n, p, o)
 
-offset-same : (high : Bool) (m : ℕ) (l r : List ℕ) → 2 ≤ m → take m l ≡ take m r → offset high l ≡ offset high r
+pub offset-same : (high : Bool) (m : ℕ) (l r : List ℕ) → 2 ≤ m → take m l ≡ take m r → offset high l ≡ offset high r
 unfolding offset
 offset-same high m l r h e = sym (word-take 2 high m l 0 (omega arith)) ∙ ap (λ (x : List ℕ). wordAt 2 high x 0) e ∙ word-take 2 high m r 0 (omega arith)
 
-part-same : (a e m : ℕ) (l r : List ℕ) → e ≤ m → take m l ≡ take m r → part a e l ≡ part a e r
+pub part-same : (a e m : ℕ) (l r : List ℕ) → e ≤ m → take m l ≡ take m r → part a e l ≡ part a e r
 part-same a e m l r h q = sym (part-take m a e l h) ∙ ap (part a e) q ∙ part-take m a e r h
 
-front-same : (a m : ℕ) (l r : List ℕ) → a ≤ m → take m l ≡ take m r → take a l ≡ take a r
+pub front-same : (a m : ℕ) (l r : List ℕ) → a ≤ m → take m l ≡ take m r → take a l ≡ take a r
 front-same a m l r h q = sym (take-take a m l h) ∙ ap (take a) q ∙ take-take a m r h
 
-rest-same : (a m : ℕ) (l r : List ℕ) → take (a + m) l ≡ take (a + m) r → take m (drop a l) ≡ take m (drop a r)
+pub rest-same : (a m : ℕ) (l r : List ℕ) → take (a + m) l ≡ take (a + m) r → take m (drop a l) ≡ take m (drop a r)
 rest-same a m l r q =
     let k : a + m - a ≡ m = omega arith in
     let cut : (x : List ℕ) → drop a (take (a + m) x) ≡ take m (drop a x) = λ (x : List ℕ). drop-take a (a + m) x ∙ ap (λ (j : ℕ). take j (drop a x)) k in
@@ -86,7 +86,7 @@ module _ (high : Bool) (t l r : List ℕ) (long : length l ≡ length r) where
 
 -- ---- an area, string by string
 
-drop-long : (o : ℕ) (l r : List ℕ) → length l ≡ length r → length (drop o l) ≡ length (drop o r)
+pub drop-long : (o : ℕ) (l r : List ℕ) → length l ≡ length r → length (drop o l) ≡ length (drop o r)
 drop-long o l r n = length-drop o l ∙ ap (λ (k : ℕ). k - o) n ∙ sym (length-drop o r)
 
 all-same : (l r : List ℕ) → length l ≡ length r → take (length l) l ≡ take (length l) r → l ≡ r

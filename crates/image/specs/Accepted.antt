@@ -263,6 +263,11 @@ pub traced-places : (how : Manner) (f : List ℕ) (k : ℕ) → Traced how f k
     → Pointed (length f) (endBefore f k) (traceAt f k) × Blocked (highFirst f) f (traceAt f k)
 traced-places how f k h = let a = shown how f k h in (a .place, a .block)
 
+-- its strings
+pub traced-strings : (how : Manner) (f : List ℕ) (k : ℕ) → Traced how f k
+    → areaVerdict how (highFirst f) (stringEnd f) (lineEnd f) f (Trace k) (traceAt f k + 32) (dataAt (highFirst f) f (traceAt f k)) ≡ Accepted
+traced-strings how f k h = shown how f k h .strings
+
 -- the file's strings
 pub image-strings : (how : Manner) (purpose : Purpose) (f : List ℕ) → imageOf how purpose f ≡ Accepted
     → areaVerdict how (highFirst f) (stringEnd f) (lineEnd f) f File (32 + roomOf f) (stringsEnd f) ≡ Accepted

@@ -1,0 +1,3 @@
+pub mod Strings
+pub mod Full
+pub mod Same
