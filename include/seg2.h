@@ -20,6 +20,7 @@
  * the file; any length may be given, and one over `size` is refused by 1. A `part` is -1
  * for the file itself, else a trace, counted from 0. Every question about a file checks the
  * whole file first, so its refusal may be any row from 1 to 17, or 34, before one of its own.
+ * The functions with quick in their name do not: each reads one trace and judges what it reads.
  *
  * An answer begins with the refusal: `number` 0, `part` -1 and `place` 0 where there is
  * none. After a refusal the rest of the answer is 0 and no lent byte has changed. An answer
@@ -297,6 +298,35 @@ seg2_verdict seg2_integers(const uint8_t *buffer, size_t size, size_t length, in
 seg2_verdict seg2_bits(const uint8_t *buffer, size_t size, size_t length, int32_t trace, uint64_t *row, size_t row_size,
                        uint8_t *classes, size_t classes_size);
 
+/* ---- one trace, quickly (document 02, section 5): without the check of the whole file
+ *
+ * To show one value of a long file: what these cost does not grow with the number of traces. They read the file block's
+ * first 32 bytes, the trace's pointer, the first 32 bytes of its block, and its strings in order, each whole, until the
+ * keyword is found or passed: until a keyword stands there that is greater than the asked one, or NOTE. NOTE itself is
+ * sought to the end of the list. The strings behind, the other traces, the file's own strings and the samples are not
+ * looked at.
+ *
+ * So this is no check. It may answer where seg2_check refuses the file, for something that was not read; whoever wants to
+ * know whether the file is sound asks seg2_check. Where seg2_check accepts the file, the answer is that of seg2_keyword
+ * and seg2_value, for every trace number from 0 on and every key.
+ *
+ * Refusals, of what was read alone: 1 to 7, then 18 where there is no such trace (-1 is none: the file's own strings are
+ * not asked here), 8 (a pointer that is no multiple of 4, leads into the pointer room, or leaves no room for a block; it
+ * may lead into another trace), 9 to 13, then 14 to 17 string by string, the found or passed one too. 34 is never given:
+ * it would need another trace. */
+
+/* Whether a trace has a keyword: yes, no, or the refusal. Any bytes may be asked for; what cannot be a keyword is sought
+ * by its bytes like others, and is a no. */
+void seg2_quick_keyword(struct seg2_keyword *answer, const uint8_t *buffer, size_t size, size_t length, int32_t trace,
+                        const uint8_t *key, size_t key_size);
+
+/* The value of a trace's keyword as the buffer's own bytes, the first where it stands several times. A no is start 0 and
+ * length 0 without a refusal; a value that is there, be it empty, never starts at 0. seg2_read_number takes a value as a
+ * number. The lines of a NOTE are parted by the line terminator, whose length stands in byte 11 of the file and whose
+ * characters in byte 12 on; where there is an answer, both have been judged. */
+void seg2_quick_value(struct seg2_value *answer, const uint8_t *buffer, size_t size, size_t length, int32_t trace,
+                      const uint8_t *key, size_t key_size);
+
 /* ---- a number and its text (document 02, section 4): no file is lent, so no row of its check comes first */
 
 /* A text as a number: what a user typed, before it goes into a sheet. Any bytes may be given. The answer is the one that
@@ -397,6 +427,20 @@ static inline struct seg2_location seg2_location_of(const uint8_t *buffer, size_
                                                     const uint8_t *key, size_t key_size) {
     struct seg2_location answer;
     seg2_location(&answer, buffer, size, length, part, key, key_size);
+    return answer;
+}
+
+static inline struct seg2_keyword seg2_quick_keyword_of(const uint8_t *buffer, size_t size, size_t length, int32_t trace,
+                                                        const uint8_t *key, size_t key_size) {
+    struct seg2_keyword answer;
+    seg2_quick_keyword(&answer, buffer, size, length, trace, key, key_size);
+    return answer;
+}
+
+static inline struct seg2_value seg2_quick_value_of(const uint8_t *buffer, size_t size, size_t length, int32_t trace,
+                                                    const uint8_t *key, size_t key_size) {
+    struct seg2_value answer;
+    seg2_quick_value(&answer, buffer, size, length, trace, key, key_size);
     return answer;
 }
 

@@ -47,6 +47,8 @@ enum {
     LOCATION,
     INTEGERS,
     BITS,
+    QUICK_KEYWORD,
+    QUICK_VALUE,
     READ_NUMBER,
     START,
     ADD_INTEGERS,
@@ -71,6 +73,8 @@ static const struct {
     [LOCATION] = {"seg2_location", sizeof(struct seg2_location)},
     [INTEGERS] = {"seg2_integers", sizeof(seg2_verdict)},
     [BITS] = {"seg2_bits", sizeof(seg2_verdict)},
+    [QUICK_KEYWORD] = {"seg2_quick_keyword", sizeof(struct seg2_keyword)},
+    [QUICK_VALUE] = {"seg2_quick_value", sizeof(struct seg2_value)},
     [READ_NUMBER] = {"seg2_read_number", sizeof(struct seg2_number)},
     [START] = {"seg2_start", sizeof(seg2_length)},
     [ADD_INTEGERS] = {"seg2_add_integers", sizeof(seg2_length)},
@@ -192,6 +196,8 @@ __attribute__((noinline)) static void perform(call *c) {
         *(seg2_verdict *)c->answer =
             seg2_bits(c->buffer, c->size, c->length, c->part, c->row, c->row_size, c->classes, c->classes_size);
         break;
+    case QUICK_KEYWORD: seg2_quick_keyword(c->answer, c->buffer, c->size, c->length, c->part, c->text, c->text_size); break;
+    case QUICK_VALUE: seg2_quick_value(c->answer, c->buffer, c->size, c->length, c->part, c->text, c->text_size); break;
     case READ_NUMBER: seg2_read_number(c->answer, c->text, c->text_size); break;
     case START: seg2_start(c->answer, c->buffer, c->size, c->code, c->slots, c->text, c->text_size); break;
     case ADD_INTEGERS: seg2_add_integers(c->answer, c->buffer, c->size, c->length, c->text, c->text_size, c->code, c->row, c->row_size); break;
@@ -254,8 +260,10 @@ static size_t fields_of(uint64_t function, const void *answer, uint64_t *f) {
         f[0] = a->found, f[1] = a->key_start, f[2] = a->key_length, f[3] = a->value_start, f[4] = a->value_length;
         return 5;
     }
-    case KEYWORD: f[0] = ((const struct seg2_keyword *)answer)->found; return 1;
-    case VALUE: f[0] = ((const struct seg2_value *)answer)->value_start, f[1] = ((const struct seg2_value *)answer)->value_length; return 2;
+    case KEYWORD:
+    case QUICK_KEYWORD: f[0] = ((const struct seg2_keyword *)answer)->found; return 1;
+    case VALUE:
+    case QUICK_VALUE: f[0] = ((const struct seg2_value *)answer)->value_start, f[1] = ((const struct seg2_value *)answer)->value_length; return 2;
     case NUMBER:
     case READ_NUMBER: {
         const struct seg2_number *a = answer;

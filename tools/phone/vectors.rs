@@ -6,7 +6,7 @@
 
 use seg2_reference as reference;
 use reference::generate::{
-    addition_case, damaged, forged_number, location_case, mutated, number_case, number_edges, sample_case,
+    addition_case, damaged, forged_number, location_case, mutated, number_case, number_edges, quick_case, sample_case,
     several_damages, start_case, Model, Rng, SampleQuestion, WAYS,
 };
 use reference::{Number, Order, Refusal, Row, TraceGiven};
@@ -27,11 +27,13 @@ const DOUBLE: u64 = 9;
 const LOCATION: u64 = 10;
 const INTEGERS: u64 = 11;
 const BITS: u64 = 12;
-const READ_NUMBER: u64 = 13;
-const START: u64 = 14;
-const ADD_INTEGERS: u64 = 15;
-const ADD_BITS: u64 = 16;
-const WRITE_NUMBER: u64 = 17;
+const QUICK_KEYWORD: u64 = 13;
+const QUICK_VALUE: u64 = 14;
+const READ_NUMBER: u64 = 15;
+const START: u64 = 16;
+const ADD_INTEGERS: u64 = 17;
+const ADD_BITS: u64 = 18;
+const WRITE_NUMBER: u64 = 19;
 const END: u64 = u64::MAX;
 
 type Answer = Result<Vec<u64>, Refusal>;
@@ -148,6 +150,17 @@ fn keyword(out: &mut Out, buffer: &[u8], length: usize, part: i32, key: &[u8]) {
         let values = [u64::from(l.count), l.x.to_bits(), l.y.to_bits(), l.z.to_bits()];
         [&values[..], &l.decimals.map(u64::from)].concat()
     }));
+    quick(out, buffer, length, part, key);
+}
+
+/// The same of one trace alone (document 02, §5).
+fn quick(out: &mut Out, buffer: &[u8], length: usize, trace: i32, key: &[u8]) {
+    let there = reference::quick_keyword(buffer, length, i64::from(trace), key);
+    let range = reference::quick_value(buffer, length, i64::from(trace), key);
+    out.ask(QUICK_KEYWORD, trace, 0, key);
+    out.told(1, there.map(|yes| vec![u64::from(yes)]));
+    out.ask(QUICK_VALUE, trace, 0, key);
+    out.told(2, there.map(|_| vec![range.start as u64, range.len() as u64]));
 }
 
 fn number_fields(n: Number) -> Vec<u64> {
@@ -234,6 +247,20 @@ fn broken_files(out: &mut Out, rng: &mut Rng) {
         if round % 60 == 0 {
             all_questions(out, rng, &buffer, length);
         }
+    }
+}
+
+/// Questions of one trace, on files that are broken where they look and where they do not; the answers are those that the
+/// file was laid out for.
+fn one_trace(out: &mut Out, rng: &mut Rng) {
+    for _ in 0..3000 {
+        let case = quick_case(rng);
+        let Ok(trace) = i32::try_from(case.trace) else { continue };
+        out.buffer(&case.buffer, case.length);
+        out.ask(QUICK_KEYWORD, trace, 0, &case.key);
+        out.told(1, case.expected.clone().map(|found| vec![u64::from(found.is_some())]));
+        out.ask(QUICK_VALUE, trace, 0, &case.key);
+        out.told(2, case.expected.map(|found| found.map_or(vec![0, 0], |r| vec![r.start as u64, r.len() as u64])));
     }
 }
 
@@ -360,7 +387,7 @@ fn main() {
     let mut out = Out { file: BufWriter::new(std::io::stdout()), vectors: 0 };
     let mut rng = Rng::new(20_261_115);
     let parts = [
-        valid_files, damaged_files, broken_files, any_bytes, numbers, texts_of_numbers, samples, starts, additions,
+        valid_files, damaged_files, broken_files, one_trace, any_bytes, numbers, texts_of_numbers, samples, starts, additions,
     ];
     for part in parts {
         part(&mut out, &mut rng);

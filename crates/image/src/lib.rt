@@ -16,7 +16,8 @@ use text::Manner;
 use trace::Traced;
 ghost use mathlib.Core.Path.{_≡_};
 ghost use Prim.Native.Nat.{_+_, _-_, _*_, _≤_, _<_};
-ghost use lib.ListN.{length};
+ghost use lib.ListN.{length, take};
+ghost use Rattle.head.specs.Head.{headAnswer, InWords};
 ghost use Rattle.trace.specs.Trace.{areaVerdict};
 ghost use Rattle.image.specs.Image.{restOf, imageOf, badLength, checkOf};
 ghost use Rattle.image.specs.Walk.{nextOf, pointedFrom, InWord, Stands};
@@ -108,12 +109,25 @@ fn rest(f: &[u8], high: bool, t: &[u8], u: &[u8], m: usize, n: u16, how: Manner)
     }
 }
 
+// Rows 2 to 7, and the file block. A function, so that the memory that the answer comes back in is given back before the
+// rest.
+fn top_of(f: &[u8], purpose: Purpose) -> FileAnswer
+    requires { ⌜ 32 ≤ length (now f) ⌝ }
+    ensures { λ r. ⌜ (r ≡ headAnswer purpose (take 32 (now (f .entry))) (length (now (f .entry)))) × InWords r ⌝ }
+{
+    let top = head::head(&f[..32], f.len(), purpose);
+    match top {
+        FileAnswer::Refused(r) => FileAnswer::Refused(r),
+        FileAnswer::Is(x) => FileAnswer::Is(x),
+    }
+}
+
 // Rows 2 to 17 and 34.
 fn image(f: &[u8], purpose: Purpose, how: Manner) -> Verdict
     requires { ⌜ 32 ≤ length (now f) ⌝ }
     ensures { λ r. ⌜ r ≡ imageOf how purpose (now (f .entry)) ⌝ }
 {
-    let top = head::head(&f[..32], f.len(), purpose);
+    let top = top_of(f, purpose);
     match top {
         FileAnswer::Refused(r) => Verdict::Refused(r),
         FileAnswer::Is(x) => rest(

@@ -15,6 +15,7 @@ ghost use Rattle.head.specs.Head.{highFirst, countOf};
 ghost use Rattle.sheet.specs.Area.{measuredOf};
 ghost use Rattle.terminators.specs.Terminators.{stringEnd, lineEnd};
 ghost use Rattle.image.specs.Image.{withChannel, imageOf};
+ghost use Rattle.image.specs.Image.{checkOf};
 ghost use Rattle.opening.specs.Opening.{wrongChannel, takenOf, areaAnswer};
 
 // Whether trace 0 of an image that was accepted has a channel number.
@@ -73,11 +74,23 @@ fn taken(f: &[u8], first: bool, high: bool, sheet: &[u8]) -> Measured
     }
 }
 
+// Rows 1 to 17 and 34 of a file that is to grow. A function, so that the memory that the answer comes back in is given back
+// before the sheet.
+fn checked(buffer: &[u8], n: usize) -> Verdict
+    ensures { λ r. ⌜ r ≡ checkOf Manner.Strict Purpose.Grow (now (buffer .entry)) n ⌝ }
+{
+    let v = image::check(buffer, n, Purpose::Grow, Manner::Strict);
+    match v {
+        Verdict::Refused(r) => Verdict::Refused(r),
+        Verdict::Accepted => Verdict::Accepted,
+    }
+}
+
 // Rows 1 to 17 and 34, 24 to 27 and 35: the size of the new trace's area, or the first of them that is met.
 pub fn opened(buffer: &[u8], n: usize, sheet: &[u8]) -> Measured
     ensures { λ r. ⌜ r ≡ areaAnswer (now (buffer .entry)) n (now (sheet .entry)) ⌝ }
 {
-    let v = image::check(buffer, n, Purpose::Grow, Manner::Strict);
+    let v = checked(buffer, n);
     if let Verdict::Refused(r) = v {
         return Measured::Refused(r);
     }

@@ -262,14 +262,23 @@ read-named xs n z key =
     let k : ℕ = traceNumber z in
     let p : ℕ = traceAt f k in
     let e : ℕ = dataAt (highFirst f) f p in
-    next-named f k (firstRow xs n) (0, 32) _ (λ c1. (file-block, next-named f k (firstOf (topRows f z)) (32 + 4 * k, 36 + 4 * k) _
-    (λ c2. (pointer, next-named f k (pointerCheck f k) (p, p + 32) _
-    (λ c3. (trace-block, next-named f k (blockCheck f k) (p + 32, p + 32 + readIn f k key) []
-    (λ c4.
-    let b = blocked (highFirst f) f k p c4 in
-    let w = read-within (highFirst f) (stringEnd f) (lineEnd f) (Trace k) key (part (p + 32) e f) (p + 32) in
-    let l = length-part (p + 32) e f (b .fits) in
-    (strings (readIn f k key) (omega (arith, b .least, w, l)), tt))))))))
+    next-named f k (firstRow xs n) (0, 32) _ (λ c1. (
+      file-block,
+      next-named f k (firstOf (topRows f z)) (32 + 4 * k, 36 + 4 * k) _
+          (λ c2. (
+            pointer,
+            next-named f k (pointerCheck f k) (p, p + 32) _
+                (λ c3. (
+                  trace-block,
+                  next-named f k (blockCheck f k) (p + 32, p + 32 + readIn f k key) []
+                      (λ c4.
+                      let b = blocked (highFirst f) f k p c4 in
+                      let w = read-within (highFirst f) (stringEnd f) (lineEnd f) (Trace k) key (part (p + 32) e f) (p + 32) in
+                      let l = length-part (p + 32) e f (b .fits) in
+                      (strings (readIn f k key) (omega (arith, b .least, w, l)), tt)),
+                )),
+          )),
+    ))
 
 -- the string that is found is the last that is read
 pub found-is-last : (f : List ℕ) (k : ℕ) (key : List ℕ) (s : Place) → soughtIn f k key ≡ sought.Is s

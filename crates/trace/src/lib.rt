@@ -13,6 +13,10 @@ ghost use Prim.Native.Nat.{_+_, _≤_, _<_};
 ghost use lib.ListN.{length};
 ghost use Rattle.refusal.specs.Verdicts.{asked};
 ghost use Rattle.word.specs.Part.{part};
+ghost use Rattle.seek.specs.Sought.{checkedOf};
+ghost use Rattle.channel.specs.Channel.{channelNumber};
+ghost use Rattle.block.specs.Block.{blockAnswer};
+ghost use Rattle.block.specs.BlockLaws.{headAt};
 ghost use Rattle.trace.specs.Trace.{channelRow, chosenBy, chosenAt, traced};
 
 // A trace that was checked: where it ends, and whether the file's traces have a channel number; or the refusal.
@@ -58,6 +62,42 @@ fn numbered(
     Traced::Through(end, all)
 }
 
+// Rows 9 to 13 of the trace k, whose block begins at p, and the block. A function, so that the memory that the answer comes
+// back in is given back before the strings.
+fn block_of(f: &[u8], high: bool, k: u16, p: usize) -> TraceAnswer
+    requires { ⌜ (p < 4294967296) × (p + 32 ≤ length (now f)) ⌝ }
+    ensures { λ r. ⌜ r ≡ blockAnswer high (headAt (now (f .entry)) p) (length (now (f .entry))) k p ⌝ }
+{
+    let from = p + 32;
+    let rows = block::block_rows(&f[p..from], high, f.len(), k, p);
+    match rows {
+        TraceAnswer::Refused(r) => TraceAnswer::Refused(r),
+        TraceAnswer::Is(x) => TraceAnswer::Is(x),
+    }
+}
+
+// Rows 14 to 17 of its strings, which stand from a to e, and its channel number. A function for the same reason.
+fn strings_of(
+    f: &[u8],
+    a: usize,
+    e: usize,
+    high: bool,
+    t: &[u8],
+    u: &[u8],
+    k: u16,
+    how: Manner,
+) -> Checked
+    requires { ⌜ (a ≤ e) × (e ≤ length (now f)) × (0 < length (now u)) ⌝ }
+    ensures { λ r. ⌜ r ≡ checkedOf how high (now (t .entry)) (now (u .entry)) (Part.Trace k) (now (f .entry)) a e
+        channelNumber ⌝ }
+{
+    let strings = seek::check(f, a, e, high, t, u, Part::Trace(k), how);
+    match strings {
+        Checked::Refused(r) => Checked::Refused(r),
+        Checked::Has(has, from, to) => Checked::Has(has, from, to),
+    }
+}
+
 // Rows 9 to 17 and 34 of the trace k, whose block begins at p; and where it ends.
 pub fn check(
     f: &[u8],
@@ -74,12 +114,12 @@ pub fn check(
         (chosenAt how high (now (t .entry)) (now (f .entry)) with k p) k p ⌝ }
 {
     let from = p + 32;
-    let rows = block::block_rows(&f[p..from], high, f.len(), k, p);
+    let rows = block_of(f, high, k, p);
     match rows {
         TraceAnswer::Refused(r) => Traced::Not(r),
         TraceAnswer::Is(x) => {
             let end = p + x.b;
-            let strings = seek::check(f, from, end, high, t, u, Part::Trace(k), how);
+            let strings = strings_of(f, from, end, high, t, u, k, how);
             match strings {
                 Checked::Refused(r) => Traced::Not(r),
                 Checked::Has(has, value, to) => {

@@ -52,6 +52,18 @@ fn answered(buffer: &[u8], n: usize, sheet: &[u8], code: u32, count: usize, fit:
     }
 }
 
+// The same. A function, so that the memory that the answer comes back in is given back before the file grows.
+fn told(buffer: &[u8], n: usize, sheet: &[u8], code: u32, count: usize, fit: Verdict) -> Written
+    requires { ⌜ (fit ≡ Verdict.Accepted → Kinded code count) ⌝ }
+    ensures { λ r. ⌜ r ≡ rowsAnswer (now (buffer .entry)) n (now (sheet .entry)) code count fit ⌝ }
+{
+    let w = answered(buffer, n, sheet, code, count, fit);
+    match w {
+        Written::Refused(r) => Written::Refused(r),
+        Written::To(end) => Written::To(end),
+    }
+}
+
 // ---- adding
 
 // A trace of integers (codes 1 to 3) behind the image that the buffer's first `n` bytes are: a file, or a start's image
@@ -63,7 +75,7 @@ pub fn add_integers(buffer: &mut [u8], n: usize, sheet: &[u8], code: u32, row: &
         ≡ addLeft (now (buffer .entry)) n (integersTrace (now (sheet .entry)) code (now (row .entry))) ⌝ }
 {
     let fit = entry::integers_fit(code, row);
-    let w = answered(&buffer[..], n, sheet, code, row.len(), fit);
+    let w = told(&buffer[..], n, sheet, code, row.len(), fit);
     match w {
         Written::Refused(r) => Written::Refused(r),
         Written::To(end) => {
@@ -81,7 +93,7 @@ pub fn add_bits(buffer: &mut [u8], n: usize, sheet: &[u8], code: u32, row: &[u64
         ≡ addLeft (now (buffer .entry)) n (patternsTrace (now (sheet .entry)) code (now (row .entry))) ⌝ }
 {
     let fit = entry::bits_fit(code, row);
-    let w = answered(&buffer[..], n, sheet, code, row.len(), fit);
+    let w = told(&buffer[..], n, sheet, code, row.len(), fit);
     match w {
         Written::Refused(r) => Written::Refused(r),
         Written::To(end) => {

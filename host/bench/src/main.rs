@@ -4,7 +4,7 @@
 use seg2::calls;
 use seg2_bench::files::{file, file_of_one, file_with, started, trace_sheet, unnumbered_sheet};
 use seg2_bench::time::{least, Work};
-use seg2_bench::{plain, plain_file, processor};
+use seg2_bench::{plain, plain_file, plain_quick, processor};
 use seg2_reference::{trace_block, Order, Row};
 use std::hint::black_box;
 
@@ -34,6 +34,7 @@ fn main() {
     long_texts(rounds);
     values(rounds);
     each_trace(rounds);
+    one_trace(rounds);
     samples(rounds);
     searches(rounds);
     additions(rounds);
@@ -49,6 +50,11 @@ fn check(buffer: &[u8]) -> plain_file::Refused {
 
 fn value(buffer: &[u8], part: i32, key: &[u8]) -> (u32, usize, usize) {
     let answer = calls::value(buffer, buffer.len(), part, key);
+    (answer.number, answer.value_start, answer.value_length)
+}
+
+fn quick_value(buffer: &[u8], trace: i32, key: &[u8]) -> (u32, usize, usize) {
+    let answer = calls::quick_value(buffer, buffer.len(), trace, key);
     (answer.number, answer.value_start, answer.value_length)
 }
 
@@ -236,7 +242,7 @@ fn values(rounds: usize) {
     }
 }
 
-/// Every question makes the check of the whole file first, so a question for each trace
+/// A full question makes the check of the whole file first, so a question for each trace
 /// grows with the square of their number.
 fn each_trace(rounds: usize) {
     println!("\nA value of each trace: one question, and that times the traces. Opened and walked: Rust's way through all blocks and strings.\n");
@@ -266,6 +272,60 @@ fn each_trace(rounds: usize) {
             b / 1e6
         );
     }
+}
+
+/// Document 02, section 5: what one trace's value costs does not grow with the file.
+fn one_trace(rounds: usize) {
+    println!("\nThe value of STACK, the last of seven strings, in one trace: quickly, which reads no other trace, and by the question that makes the check first.\n");
+    println!(
+        "| traces | order | trace | quick ns | plain ns | quick/plain | full us | full/quick |"
+    );
+    println!("|---|---|---|---|---|---|---|---|");
+    for traces in [12, 2_000, 16_000] {
+        for order in [0, 1] {
+            let mut bytes = file(order, traces, 500);
+            for trace in [traces / 2, traces - 1] {
+                let [a, b] = quickly(&mut bytes, trace as i32, rounds);
+                let c = fully(&mut bytes, trace as i32, rounds);
+                println!(
+                    "| {traces} | {} | {trace} | {a:.1} | {b:.1} | {:.2} | {:.2} | {:.0} |",
+                    order_name(order),
+                    a / b,
+                    c / 1e3,
+                    c / a
+                );
+            }
+        }
+    }
+}
+
+/// Times of the quick question: proved and plain.
+fn quickly(bytes: &mut Vec<u8>, trace: i32, rounds: usize) -> [f64; 2] {
+    let (number, start, size) = quick_value(bytes, trace, b"STACK");
+    assert_eq!((number, &bytes[start..start + size]), (0, &b"4"[..]));
+    let plainly = plain_quick::value(bytes, bytes.len(), trace, b"STACK");
+    assert_eq!(plainly, Ok((start, size)));
+    let ours: Work<Vec<u8>> = &|file| {
+        black_box(quick_value(file, black_box(trace), black_box(b"STACK")));
+    };
+    let plain: Work<Vec<u8>> = &|file| {
+        let (trace, key) = (black_box(trace), black_box(b"STACK"));
+        let _ = black_box(plain_quick::value(file, file.len(), trace, key));
+    };
+    least(bytes, rounds, [ours, plain])
+}
+
+/// The time of the full question.
+fn fully(bytes: &mut Vec<u8>, trace: i32, rounds: usize) -> f64 {
+    assert_eq!(
+        value(bytes, trace, b"STACK"),
+        quick_value(bytes, trace, b"STACK")
+    );
+    let ask: Work<Vec<u8>> = &|file| {
+        black_box(value(file, black_box(trace), black_box(b"STACK")));
+    };
+    let [time] = least(bytes, rounds.div_ceil(8), [ask]);
+    time
 }
 
 /// A file with one trace, rows for its samples, and a place for the copy. Both sides use

@@ -48,9 +48,9 @@ fn all_value(text: &[u8]) -> bool {
 pub struct Checked<'a> {
     file: &'a [u8],
     high: bool,
-    m: usize,
-    n: usize,
-    string: &'a [u8],
+    pub(crate) m: usize,
+    pub(crate) n: usize,
+    pub(crate) string: &'a [u8],
     line: &'a [u8],
     /// Whether the traces have channel numbers, by trace 0.
     channels: bool,
@@ -77,15 +77,20 @@ fn at<const N: usize>(file: &[u8], place: usize) -> [u8; N] {
 
 /// Rows 1 to 17 and 34; `grow` also takes N=0.
 pub fn check(buffer: &[u8], length: usize, grow: bool) -> Result<Checked<'_>, Refused> {
-    if !(32..=MOST).contains(&length) || length > buffer.len() {
-        return Err((1, -1, 0));
-    }
-    let file = &buffer[..length];
+    let file = image(buffer, length)?;
     match (file[0], file[1]) {
         (0x55, 0x3A) => checked::<false>(file, grow),
         (0x3A, 0x55) => checked::<true>(file, grow),
         _ => Err((2, -1, 0)),
     }
+}
+
+/// Row 1.
+pub(crate) fn image(buffer: &[u8], length: usize) -> Result<&[u8], Refused> {
+    if !(32..=MOST).contains(&length) || length > buffer.len() {
+        return Err((1, -1, 0));
+    }
+    Ok(&buffer[..length])
 }
 
 fn checked<const HIGH: bool>(file: &[u8], grow: bool) -> Result<Checked<'_>, Refused> {
@@ -105,7 +110,7 @@ fn checked<const HIGH: bool>(file: &[u8], grow: bool) -> Result<Checked<'_>, Ref
 }
 
 /// Rows 3 to 7.
-fn head<const HIGH: bool>(file: &[u8], grow: bool) -> Result<Checked<'_>, Refused> {
+pub(crate) fn head<const HIGH: bool>(file: &[u8], grow: bool) -> Result<Checked<'_>, Refused> {
     let fixed: [u8; 32] = at(file, 0);
     let word = |place: usize| two::<HIGH>([fixed[place], fixed[place + 1]]);
     let (m, n) = (word(4), word(6));
@@ -146,8 +151,12 @@ fn terminator(file: &[u8], place: usize) -> Option<&[u8]> {
     used.iter().all(|&c| c <= 31 && c != 9).then_some(used)
 }
 
-/// Row 8.
-fn pointer<const HIGH: bool>(found: &Checked, k: usize, end: usize) -> Result<usize, Refused> {
+/// Row 8, for what may stand from such an end on.
+pub(crate) fn pointer<const HIGH: bool>(
+    found: &Checked,
+    k: usize,
+    end: usize,
+) -> Result<usize, Refused> {
     let slot = 32 + 4 * k;
     let p = four::<HIGH>(at(found.file, slot));
     match p % 4 == 0 && p >= end && p + 32 <= found.file.len() {
@@ -158,8 +167,26 @@ fn pointer<const HIGH: bool>(found: &Checked, k: usize, end: usize) -> Result<us
 
 /// Rows 8 to 17 and 34 of trace k; where it ends.
 fn trace<const HIGH: bool>(found: &mut Checked, k: usize, end: usize) -> Result<usize, Refused> {
-    let (file, part) = (found.file, k as i32);
+    let part = k as i32;
     let p = pointer::<HIGH>(found, k, end)?;
+    let (b, d) = fixed::<HIGH>(found.file, part, p)?;
+    let channel = strings::<HIGH>(found, part, p + 32, p + b)?;
+    if k == 0 {
+        found.channels = channel.is_some();
+    }
+    if !fits(channel, found.channels) {
+        return Err((34, part, p + 32));
+    }
+    Ok(p + b + d)
+}
+
+/// Rows 9 to 13 of the block at p; B and D.
+#[inline(always)]
+pub(crate) fn fixed<const HIGH: bool>(
+    file: &[u8],
+    part: i32,
+    p: usize,
+) -> Result<(usize, usize), Refused> {
     let fixed: [u8; 32] = at(file, p);
     let b = two::<HIGH>([fixed[2], fixed[3]]);
     let d = four::<HIGH>([fixed[4], fixed[5], fixed[6], fixed[7]]);
@@ -183,14 +210,7 @@ fn trace<const HIGH: bool>(found: &mut Checked, k: usize, end: usize) -> Result<
     if fixed[12] == 3 && s % 4 != 0 || needed > d {
         return Err((13, part, p + 8));
     }
-    let channel = strings::<HIGH>(found, part, p + 32, p + b)?;
-    if k == 0 {
-        found.channels = channel.is_some();
-    }
-    if !fits(channel, found.channels) {
-        return Err((34, part, p + 32));
-    }
-    Ok(p + b + d)
+    Ok((b, d))
 }
 
 const CHANNEL: &[u8] = b"CHANNEL_NUMBER";
@@ -228,45 +248,72 @@ fn strings<'a, const HIGH: bool>(
     let mut previous: &[u8] = &[];
     loop {
         let place = end - rest.len();
-        let refused = |number| Err((number, part, place));
-        let Some((&[a, b], _)) = rest.split_first_chunk() else {
-            return refused(14);
-        };
-        let offset = two::<HIGH>([a, b]);
-        if offset == 0 {
-            return Ok(channel);
+        match next::<HIGH>(found, rest, previous) {
+            Next::End => return Ok(channel),
+            Next::Refused(number) => return Err((number, part, place)),
+            Next::Text { key, value, behind } => {
+                if key == CHANNEL {
+                    channel = Some(value);
+                }
+                previous = key;
+                rest = behind;
+            }
         }
-        if offset < 3 + found.string.len() || offset > rest.len() {
-            return refused(14);
-        }
-        let (whole, next) = rest.split_at(offset);
-        let Some(body) = whole[2..].strip_suffix(found.string) else {
-            return refused(15);
-        };
-        let letters = body.iter().position(|&c| !is(KEY, c));
-        let (key, after) = body.split_at(letters.unwrap_or(body.len()));
-        if key.is_empty() || after.first().is_some_and(|&c| !is(BLANK, c)) {
-            return refused(16);
-        }
-        let gap = after.iter().position(|&c| !is(BLANK, c));
-        let value = &after[gap.unwrap_or(after.len())..];
-        let note = key == b"NOTE";
-        let allowed = match note {
-            true => all_lines(found.line, value),
-            false => all_value(value),
-        };
-        if !allowed {
-            return refused(16);
-        }
-        if !note && previous >= key && !again(previous, key) || previous == b"NOTE" {
-            return refused(17);
-        }
-        if key == CHANNEL {
-            channel = Some(value);
-        }
-        previous = key;
-        rest = next;
     }
+}
+
+/// What stands at the start of the rest of an area.
+pub(crate) enum Next<'a> {
+    Text {
+        key: &'a [u8],
+        value: &'a [u8],
+        behind: &'a [u8],
+    },
+    /// The end mark.
+    End,
+    Refused(u32),
+}
+
+/// Rows 14 to 17 of one string.
+#[inline(always)]
+pub(crate) fn next<'a, const HIGH: bool>(
+    found: &Checked<'a>,
+    rest: &'a [u8],
+    previous: &[u8],
+) -> Next<'a> {
+    let Some((&[a, b], _)) = rest.split_first_chunk() else {
+        return Next::Refused(14);
+    };
+    let offset = two::<HIGH>([a, b]);
+    if offset == 0 {
+        return Next::End;
+    }
+    if offset < 3 + found.string.len() || offset > rest.len() {
+        return Next::Refused(14);
+    }
+    let (whole, behind) = rest.split_at(offset);
+    let Some(body) = whole[2..].strip_suffix(found.string) else {
+        return Next::Refused(15);
+    };
+    let letters = body.iter().position(|&c| !is(KEY, c));
+    let (key, after) = body.split_at(letters.unwrap_or(body.len()));
+    if key.is_empty() || after.first().is_some_and(|&c| !is(BLANK, c)) {
+        return Next::Refused(16);
+    }
+    let gap = after.iter().position(|&c| !is(BLANK, c));
+    let value = &after[gap.unwrap_or(after.len())..];
+    let note = key == b"NOTE";
+    let allowed = match note {
+        true => all_lines(found.line, value),
+        false => all_value(value),
+    };
+    if !allowed {
+        return Next::Refused(16);
+    }
+    if !note && previous >= key && !again(previous, key) || previous == b"NOTE" {
+        return Next::Refused(17);
+    }
+    Next::Text { key, value, behind }
 }
 
 /// Whether the keyword is the one before it, and may stand several times running.

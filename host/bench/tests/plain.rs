@@ -1,7 +1,7 @@
-//! The plain side gives the reference's answers: a benchmark against something that
-//! does less would say nothing.
+//! The plain side gives the reference's answers, and where one trace is asked for quickly
+//! the archive's: a benchmark against something that does less would say nothing.
 
-use seg2_bench::{plain, plain_file};
+use seg2_bench::{plain, plain_file, plain_quick};
 use seg2_reference as reference;
 use seg2_reference::generate::writing::{some_integers, some_patterns};
 use seg2_reference::generate::{
@@ -11,6 +11,7 @@ use seg2_reference::generate::{
 use seg2_reference::samples::{encode_bits, encode_integers};
 use seg2_reference::worked::{CHANNEL_NUMBERS, NO_CHANNEL_NUMBERS};
 use seg2_reference::{Order, Refusal, Row};
+use std::collections::BTreeSet;
 
 fn told(refusal: Refusal) -> plain_file::Refused {
     let Refusal {
@@ -85,10 +86,55 @@ fn values() {
     }
 }
 
+/// Answers of the quick question on a buffer, each beside the archive's; the rows met.
+fn quick_alike(buffer: &[u8], length: usize, key: &[u8], met: &mut BTreeSet<u32>) {
+    for trace in [-1, 0, 1, 2, 5, i32::MAX] {
+        let archive = seg2::calls::quick_value(buffer, length, trace, key);
+        let expected = match archive.number {
+            0 => Ok((archive.value_start, archive.value_length)),
+            number => Err((number, archive.part, archive.place)),
+        };
+        let answer = plain_quick::value(buffer, length, trace, key);
+        let said = key.escape_ascii();
+        assert_eq!(answer, expected, "{trace} {said}");
+        met.insert(archive.number);
+    }
+}
+
+/// Document 02, §5, on files that the check accepts and on others.
+#[test]
+fn quick_values() {
+    let mut rng = Rng::new(806);
+    let mut met = BTreeSet::new();
+    for way in WAYS {
+        for _ in 0..30 {
+            let case = damaged(&mut rng, way);
+            for key in [&b""[..], b"NOTE", b"STACK", b"~"] {
+                quick_alike(&case.buffer, case.length, key, &mut met);
+            }
+        }
+    }
+    for _ in 0..3_000 {
+        let (buffer, length) = mutated(&mut rng);
+        quick_alike(&buffer, length, b"NOTE", &mut met);
+        let laid = Model::random(&mut rng).lay();
+        let mut keys = vec![b"".to_vec(), b"NOTE".to_vec(), b"A B".to_vec()];
+        for string in (0..i64::from(laid.file.n)).flat_map(|part| laid.strings(part)) {
+            let keyword = &laid.buffer[string.keyword.clone()];
+            keys.push(keyword.to_vec());
+            keys.push(keyword[..keyword.len() - 1].to_vec());
+        }
+        for key in keys {
+            quick_alike(&laid.buffer, laid.length, &key, &mut met);
+        }
+    }
+    assert_eq!(met, (0..=18).collect());
+}
+
 #[test]
 fn additions() {
     let mut rng = Rng::new(803);
-    let mut met = std::collections::BTreeSet::new();
+    let mut met = BTreeSet::new();
     for _ in 0..8_000 {
         let case = addition_case(&mut rng);
         let mut buffer = case.buffer.clone();
@@ -129,7 +175,7 @@ fn channel_numbers() {
 #[test]
 fn samples_read() {
     let mut rng = Rng::new(804);
-    let mut met = std::collections::BTreeSet::new();
+    let mut met = BTreeSet::new();
     for _ in 0..8_000 {
         let case = sample_case(&mut rng);
         let Ok(trace) = i32::try_from(case.trace) else {

@@ -3,8 +3,9 @@
 use crate::call::Call;
 use crate::pair::{Difference, Pair};
 use seg2_reference as reference;
-use seg2_reference::generate::Rng;
-use seg2_reference::StringPlace;
+use seg2_reference::generate::{quick_key, Rng};
+use seg2_reference::words::u16_at;
+use seg2_reference::{Order, StringPlace};
 
 /// Of parts and strings that there are many of, so many are asked for.
 const MOST: usize = 4;
@@ -26,7 +27,7 @@ pub fn ask_all(pair: &mut Pair, length: usize, rng: &mut Rng) -> Result<(), Diff
         pair.ask(other, Call::Check)?;
         ask_each(pair, other, rng)?;
     }
-    Ok(())
+    ask_quick(pair, length, rng)
 }
 
 /// Every part of a file that keeps the rules, and parts that it does not have.
@@ -126,10 +127,60 @@ fn ask_key(pair: &mut Pair, length: usize, part: i32) -> Result<(), Difference> 
         Call::Number { part },
         Call::Double { part },
         Call::Location { part },
+        Call::QuickKeyword { trace: part },
+        Call::QuickValue { trace: part },
     ] {
         pair.ask(length, call)?;
     }
     Ok(())
+}
+
+/// The question of one trace (document 02, §5), which may answer where every other refuses:
+/// of traces that the file block tells of and one that it does not, each with some keys.
+fn ask_quick(pair: &mut Pair, length: usize, rng: &mut Rng) -> Result<(), Difference> {
+    let count = traces_told(&pair.memory().buffer, length);
+    let mut traces: Vec<i32> = some_of(rng, count).iter().map(|&k| k as i32).collect();
+    let n = count as i32;
+    traces.push(rng.pick(&[-2, -1, -1, n, n + 1, i32::MIN, i32::MAX]));
+    for trace in traces {
+        let keywords = keywords_met(&pair.memory().buffer, length, trace);
+        for _ in 0..MOST {
+            pair.lend_key(&quick_key(rng, &keywords));
+            pair.ask(length, Call::QuickKeyword { trace })?;
+            pair.ask(length, Call::QuickValue { trace })?;
+        }
+    }
+    Ok(())
+}
+
+/// N, where rows 1 to 7 pass; whether there are so many traces is another matter.
+fn traces_told(buffer: &[u8], length: usize) -> usize {
+    // A trace that no file has: 18 comes right behind row 7.
+    let nowhere = reference::quick_keyword(buffer, length, -1, b"");
+    let order = match buffer.first() {
+        Some(0x55) => Order::Low,
+        _ => Order::High,
+    };
+    match nowhere.is_err_and(|refusal| refusal.number == 18) {
+        true => u16_at(buffer, 6, order).into(),
+        false => 0,
+    }
+}
+
+/// The keywords that a search to the end meets among a trace's strings, with that of the
+/// string which it refuses, if it gets to one.
+fn keywords_met(buffer: &[u8], length: usize, trace: i32) -> Vec<Vec<u8>> {
+    let search = reference::quick_search(buffer, length, trace.into(), b"NOTE");
+    let word = |s: &StringPlace| buffer[s.keyword.clone()].to_vec();
+    let mut met: Vec<Vec<u8>> = search.strings.iter().map(word).collect();
+    if let Err(refusal) = search.answer {
+        if matches!(refusal.number, 15..=17) {
+            let text = &buffer[refusal.place as usize + 2..];
+            let is_letter = |c: &&u8| **c > b' ';
+            met.push(text.iter().take_while(is_letter).copied().collect());
+        }
+    }
+    met
 }
 
 /// Rows of the right length, one less, one more and none.

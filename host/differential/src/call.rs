@@ -21,6 +21,8 @@ pub enum Call {
     Location { part: i32 },
     Integers { trace: i32 },
     Bits { trace: i32 },
+    QuickKeyword { trace: i32 },
+    QuickValue { trace: i32 },
     ReadNumber,
     WriteNumber(Forged),
     Start { order: u32, slots: u32 },
@@ -54,6 +56,8 @@ impl Call {
             Call::Location { .. } => "location",
             Call::Integers { .. } => "integers",
             Call::Bits { .. } => "bits",
+            Call::QuickKeyword { .. } => "quick_keyword",
+            Call::QuickValue { .. } => "quick_value",
             Call::ReadNumber => "read_number",
             Call::WriteNumber(_) => "write_number",
             Call::Start { .. } => "start",
@@ -151,6 +155,12 @@ impl Archive {
                     raw::seg2_bits(buffer, size, length, trace, patterns, bits, classes, count)
                         .into()
                 }
+                Call::QuickKeyword { trace } => answered(beside, |answer| {
+                    raw::seg2_quick_keyword(answer, buffer, size, length, trace, key, letters)
+                }),
+                Call::QuickValue { trace } => answered(beside, |answer| {
+                    raw::seg2_quick_value(answer, buffer, size, length, trace, key, letters)
+                }),
                 Call::ReadNumber => {
                     answered(beside, |answer| raw::seg2_read_number(answer, text, room))
                 }

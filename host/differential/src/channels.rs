@@ -238,6 +238,10 @@ impl Library for Rule {
             Call::AddIntegers { .. } | Call::AddBits { .. } => self.add(call, length, &mut memory),
             Call::Start { .. } => self.start(call, &mut memory),
             Call::ReadNumber | Call::WriteNumber(_) => expected(call, length, &mut memory),
+            // It reads one trace: no channel number stands beside another (document 02, §5).
+            Call::QuickKeyword { .. } | Call::QuickValue { .. } => {
+                expected(call, length, &mut memory)
+            }
             _ => self.ask(call, length, &mut memory),
         };
         lent.buffer.contents_mut().copy_from_slice(&memory.buffer);

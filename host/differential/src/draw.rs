@@ -9,8 +9,8 @@ use seg2_reference::generate::model::{AreaModel, End, SamplesModel, StringModel}
 use seg2_reference::generate::writing::row_for;
 use seg2_reference::generate::{
     bad_channel, channel_for, damaged, forged_number, good_channel, good_sheet, location_case,
-    mutated, number_case, several_damages, sheet_case, sheet_of_a_start, with_channel, Model, Rng,
-    Way, WAYS,
+    mutated, number_case, quick_case, several_damages, sheet_case, sheet_of_a_start, with_channel,
+    Model, Rng, Way, WAYS,
 };
 use seg2_reference::Order;
 
@@ -34,6 +34,7 @@ pub const KINDS: &[(&str, Draw)] = &[
     ("growing from another maker's file", grown_from_image),
     ("typed text", typed),
     ("forged number", forged),
+    ("one trace", one_trace),
 ];
 
 /// The generator of one case of a run: a case can be drawn without those before it.
@@ -140,6 +141,13 @@ pub fn damaged_twice(rng: &mut Rng) -> Case {
 pub fn mutated_bytes(rng: &mut Rng) -> Case {
     let (buffer, length) = mutated(rng);
     asked(rng, buffer, length)
+}
+
+/// Files for the question of one trace: broken where it does not look as often as where it
+/// does, with pointers in any order and traces inside others' data.
+pub fn one_trace(rng: &mut Rng) -> Case {
+    let quick = quick_case(rng);
+    asked(rng, quick.buffer, quick.length)
 }
 
 /// Any bytes; most begin as a file does, or nothing behind row 2 would be met.

@@ -5,6 +5,7 @@ use crate::call::{Call, Forged};
 use crate::lent::Memory;
 use seg2_reference as reference;
 use seg2_reference::{Location, Number, Order, Refusal, StringPlace};
+use std::ops::Range;
 
 /// The reference's answer, and the memory after it.
 pub fn expected(call: Call, length: usize, memory: &mut Memory) -> Answer {
@@ -41,8 +42,7 @@ pub fn expected(call: Call, length: usize, memory: &mut Memory) -> Answer {
             // yes-or-no call's.
             let value = reference::keyword_value(buffer, length, part.into(), key);
             let asked = reference::keyword(buffer, length, part.into(), key);
-            let (start, size) = (value.start as u64, value.len() as u64);
-            told(asked, |_| Answer::good([start, size]))
+            told(asked, |_| place(value))
         }
         Call::Number { part } => of_value(buffer, length, part, key, |text| {
             told(reference::number(text), number)
@@ -63,6 +63,15 @@ pub fn expected(call: Call, length: usize, memory: &mut Memory) -> Answer {
             reference::samples_as_bits(buffer, length, trace.into(), patterns, classes),
             |()| Answer::good([]),
         ),
+        Call::QuickKeyword { trace } => told(
+            reference::quick_keyword(buffer, length, trace.into(), key),
+            |found| Answer::good([u64::from(found)]),
+        ),
+        Call::QuickValue { trace } => {
+            let value = reference::quick_value(buffer, length, trace.into(), key);
+            let asked = reference::quick_keyword(buffer, length, trace.into(), key);
+            told(asked, |_| place(value))
+        }
         Call::ReadNumber => told(reference::number(text), number),
         Call::WriteNumber(given) => told(reference::write_number(text, given.number()), new_length),
         Call::Start { order, slots } => told(
@@ -122,6 +131,11 @@ fn string(string: Option<StringPlace>) -> Answer {
         value.start as u64,
         value.len() as u64,
     ])
+}
+
+/// A value's start and length.
+pub(crate) fn place(value: Range<usize>) -> Answer {
+    Answer::good([value.start as u64, value.len() as u64])
 }
 
 /// A number's values in the order of the answer's fields.

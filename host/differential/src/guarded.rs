@@ -7,7 +7,10 @@
 use crate::answer::Answer;
 use crate::call::{Archive, Call, Library, Places};
 use crate::lent::{Frame, Lent, Pattern};
+use seg2_reference::quick_search;
+use std::cell::Cell;
 use std::ffi::c_void;
+use std::ops::Range;
 use std::ptr::null_mut;
 
 extern "C" {
@@ -135,5 +138,79 @@ impl Library for Guarded {
         take_back(places.classes, &mut lent.classes);
         take_back(places.text, &mut lent.text);
         answer
+    }
+}
+
+/// One buffer on pages of which all are closed but those that hold a byte which a question
+/// of one trace looks at (document 02, §5).
+pub struct Sparse {
+    pages: Pages,
+    closed: Cell<usize>,
+}
+
+impl Sparse {
+    /// A buffer of up to so many bytes.
+    pub fn new(most: usize) -> Sparse {
+        Sparse {
+            pages: Pages::new(most),
+            closed: Cell::new(0),
+        }
+    }
+
+    /// How many pages were closed, in all calls together.
+    pub fn closed(&self) -> usize {
+        self.closed.get()
+    }
+
+    /// A call on an image that fills the buffer, with this key: what the question of this
+    /// trace looks at stands on open pages.
+    pub fn call(&self, call: Call, image: &[u8], trace: i32, key: &[u8]) -> Answer {
+        let mut lent = Lent::new(0);
+        lent.key.lend(key);
+        let places = Places {
+            buffer: (self.lay(image), image.len()),
+            key: lent.key.place(),
+            sheet: lent.sheet.place(),
+            integers: lent.integers.place(),
+            patterns: lent.patterns.place(),
+            classes: lent.classes.place(),
+            text: lent.text.place(),
+        };
+        let search = quick_search(image, image.len(), trace.into(), key);
+        self.close(image.len(), &search.read);
+        // SAFETY: each piece has its own place. Bytes of the buffer without rights are not
+        // to be touched, which is what is tried: the machine does not give them out.
+        unsafe { Archive::call_at(call, image.len(), &places, &mut lent.beside_answer) }
+    }
+
+    /// The image at the start of open pages.
+    fn lay(&self, image: &[u8]) -> *mut u8 {
+        assert!(image.len() <= self.pages.size);
+        let start = self.pages.place::<u8>(0, false);
+        // SAFETY: what `new` has mapped, between the two guards, opened again.
+        unsafe {
+            assert_eq!(mprotect(start.cast(), self.pages.size, BOTH), 0);
+            start.copy_from_nonoverlapping(image.as_ptr(), image.len());
+        }
+        start
+    }
+
+    /// Takes the rights of every page of the image that holds none of these bytes.
+    fn close(&self, length: usize, read: &[Range<usize>]) {
+        for from in (0..length).step_by(PAGE) {
+            let page = from..from + PAGE;
+            if read
+                .iter()
+                .any(|r| r.start < page.end && page.start < r.end)
+            {
+                continue;
+            }
+            // SAFETY: one of the pages that `new` has mapped.
+            unsafe {
+                let at = self.pages.place::<u8>(0, false).add(from);
+                assert_eq!(mprotect(at.cast(), PAGE, NONE), 0);
+            }
+            self.closed.set(self.closed.get() + 1);
+        }
     }
 }

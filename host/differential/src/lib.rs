@@ -17,8 +17,9 @@
 //! - [`run`]: many cases from a seed.
 //! - [`shrink`]: a smaller case with a difference.
 //! - `guarded`: lent memory beside pages that cannot be touched (Linux).
-//! - [`spoiled`], [`channels`]: libraries with one fault, which the comparison has to
-//!   notice.
+//! - [`flips`]: bytes changed that a question of one trace does not look at.
+//! - [`spoiled`], [`channels`], [`quick`]: libraries with one fault, which the comparison
+//!   has to notice.
 
 pub mod answer;
 pub mod asking;
@@ -27,12 +28,14 @@ pub mod case;
 pub mod channels;
 pub mod draw;
 pub mod expected;
+pub mod flips;
 pub mod growing;
 #[cfg(target_os = "linux")]
 pub mod guarded;
 pub mod lent;
 pub mod numbering;
 pub mod pair;
+pub mod quick;
 pub mod run;
 pub mod shrink;
 pub mod spoiled;

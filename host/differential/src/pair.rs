@@ -82,9 +82,13 @@ impl<'a> Pair<'a> {
             memory: Memory::default(),
             tally: Tally::default(),
         };
-        pair.memory.buffer = buffer.to_vec();
-        pair.lent.buffer.lend(buffer);
+        pair.lend_buffer(buffer);
         pair
+    }
+
+    pub fn lend_buffer(&mut self, buffer: &[u8]) {
+        self.memory.buffer = buffer.to_vec();
+        self.lent.buffer.lend(buffer);
     }
 
     pub fn lend_key(&mut self, key: &[u8]) {

@@ -39,7 +39,7 @@ fn each_fault_is_noticed() {
     let patterns: Piece = Fault::Patterns;
     let classes: Piece = Fault::Classes;
     let text: Piece = Fault::Text;
-    let functions: [(&str, usize, &[Piece]); 17] = [
+    let functions: [(&str, usize, &[Piece]); 19] = [
         ("check", 0, &[buffer]),
         ("file_block", 5, &[buffer]),
         ("trace_block", 5, &[buffer]),
@@ -52,6 +52,8 @@ fn each_fault_is_noticed() {
         ("location", 7, &[buffer, key]),
         ("integers", 0, &[buffer, integers]),
         ("bits", 0, &[buffer, patterns, classes]),
+        ("quick_keyword", 1, &[buffer, key]),
+        ("quick_value", 2, &[buffer, key]),
         ("read_number", 4, &[text]),
         ("write_number", 1, &[text]),
         ("start", 1, &[buffer, sheet]),

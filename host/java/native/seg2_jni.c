@@ -154,22 +154,25 @@ NATIVE(void, nativeString)(JNIEnv *env, UNUSED jclass self, jobject buffer, jint
     }
 }
 
-/* The five questions about a keyword differ in their answer alone. */
-#define KEYWORD_QUESTION(name, function, count, ...)                                                                                                 \
+/* The questions about a keyword differ in their answer alone. The part of a quick one is a trace. */
+#define KEYWORD_QUESTION(name, function, kind, count, ...)                                                                                           \
     NATIVE(void, name)(JNIEnv *env, UNUSED jclass self, jobject buffer, jint size, jlong length, jint part, jbyteArray key, jlongArray answer) {     \
         lent b, k;                                                                                                                                   \
         if (places(env, answer, count) && direct(env, buffer, size, 1, &b) && bytes(env, key, &k)) {                                                 \
-            struct function a = function##_of(b.at, b.size, (size_t)length, part, k.at, k.size);                                                     \
+            struct kind a = function(b.at, b.size, (size_t)length, part, k.at, k.size);                                                              \
             returned(env, key, k);                                                                                                                   \
             TELL(a, __VA_ARGS__);                                                                                                                    \
         }                                                                                                                                            \
     }
 
-KEYWORD_QUESTION(nativeKeyword, seg2_keyword, 4, a.found)
-KEYWORD_QUESTION(nativeValue, seg2_value, 5, (jlong)a.value_start, (jlong)a.value_length)
-KEYWORD_QUESTION(nativeNumber, seg2_number, 7, a.minus, a.power, (jlong)a.coefficient, a.decimals)
-KEYWORD_QUESTION(nativeDouble, seg2_double, 4, bits_of(a.value))
-KEYWORD_QUESTION(nativeLocation, seg2_location, 10, a.count, bits_of(a.x), bits_of(a.y), bits_of(a.z), a.x_decimals, a.y_decimals, a.z_decimals)
+KEYWORD_QUESTION(nativeKeyword, seg2_keyword_of, seg2_keyword, 4, a.found)
+KEYWORD_QUESTION(nativeValue, seg2_value_of, seg2_value, 5, (jlong)a.value_start, (jlong)a.value_length)
+KEYWORD_QUESTION(nativeNumber, seg2_number_of, seg2_number, 7, a.minus, a.power, (jlong)a.coefficient, a.decimals)
+KEYWORD_QUESTION(nativeDouble, seg2_double_of, seg2_double, 4, bits_of(a.value))
+KEYWORD_QUESTION(nativeLocation, seg2_location_of, seg2_location, 10, a.count, bits_of(a.x), bits_of(a.y), bits_of(a.z), a.x_decimals, a.y_decimals,
+                 a.z_decimals)
+KEYWORD_QUESTION(nativeQuickKeyword, seg2_quick_keyword_of, seg2_keyword, 4, a.found)
+KEYWORD_QUESTION(nativeQuickValue, seg2_quick_value_of, seg2_value, 5, (jlong)a.value_start, (jlong)a.value_length)
 
 /* ---- a number and its text */
 

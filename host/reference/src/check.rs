@@ -6,12 +6,13 @@ use crate::refusal::{refuse_if, Refusal, FILE_PART};
 use crate::samples::needed_bytes;
 use crate::strings::{Area, StringPlace, Terminators};
 use crate::words::{u16_at, u32_at, Order};
+use std::ops::Range;
 
 /// "A file is at most 67,108,864 bytes"
 pub const MAXIMUM_LENGTH: usize = 67_108_864;
 
 /// The size of the fixed part of either block.
-const FIXED_PART: usize = 32;
+pub(crate) const FIXED_PART: usize = 32;
 
 /// A checked file. The strings keep places in the file, not copies.
 #[derive(Clone, Debug, PartialEq, Eq)]
@@ -45,6 +46,11 @@ pub struct Trace {
 }
 
 impl Trace {
+    /// "strings from byte 32 to B"
+    pub(crate) fn strings_range(&self) -> Range<usize> {
+        self.p as usize + FIXED_PART..self.data_start() as usize
+    }
+
     /// Where the data starts: p+B.
     pub fn data_start(&self) -> u64 {
         u64::from(self.p) + u64::from(self.b)
@@ -68,7 +74,7 @@ pub fn check_for_addition(buffer: &[u8], length: usize) -> Result<File, Refusal>
 }
 
 #[derive(Clone, Copy, PartialEq, Eq)]
-enum Purpose {
+pub(crate) enum Purpose {
     Reading,
     Addition,
 }
@@ -78,12 +84,12 @@ enum Purpose {
 fn check_as(buffer: &[u8], length: usize, purpose: Purpose) -> Result<File, Refusal> {
     let image = image(buffer, length)?;
     let head = Head::check(image, purpose)?;
-    let room_end = FIXED_PART + usize::from(head.m);
+    let room_end = head.room_end();
     let strings_end = match head.n {
         0 => image.len(),
         _ => head.pointer(0, room_end as u64)? as usize,
     };
-    let strings = head.strings(FILE_PART, room_end, strings_end)?;
+    let strings = head.area(FILE_PART, room_end..strings_end).strings()?;
     let traces = head.traces(room_end as u64)?;
     Ok(File {
         order: head.order,
@@ -97,24 +103,24 @@ fn check_as(buffer: &[u8], length: usize, purpose: Purpose) -> Result<File, Refu
 }
 
 /// Row 1: the image is the first `length` bytes of the lent buffer.
-fn image(buffer: &[u8], length: usize) -> Result<&[u8], Refusal> {
+pub(crate) fn image(buffer: &[u8], length: usize) -> Result<&[u8], Refusal> {
     refuse_if(length < FIXED_PART, Refusal::file(1, 0))?;
     refuse_if(length > MAXIMUM_LENGTH, Refusal::file(1, 0))?;
     buffer.get(..length).ok_or(Refusal::file(1, 0))
 }
 
 /// The fixed part of the file block, checked.
-struct Head<'a> {
+pub(crate) struct Head<'a> {
     image: &'a [u8],
     order: Order,
     m: u16,
-    n: u16,
+    pub n: u16,
     terminators: Terminators,
 }
 
 impl<'a> Head<'a> {
     /// Rows 2 to 7.
-    fn check(image: &'a [u8], purpose: Purpose) -> Result<Head<'a>, Refusal> {
+    pub fn check(image: &'a [u8], purpose: Purpose) -> Result<Head<'a>, Refusal> {
         let order = byte_order(image)?;
         let revision = u16_at(image, 2, order);
         let m = u16_at(image, 4, order);
@@ -124,22 +130,25 @@ impl<'a> Head<'a> {
         refuse_if(n == 0 && purpose == Purpose::Reading, Refusal::file(5, 6))?;
         refuse_if(n > m / 4, Refusal::file(5, 6))?;
         let terminators = terminators(image)?;
-        refuse_if(
-            FIXED_PART + usize::from(m) > image.len(),
-            Refusal::file(7, 4),
-        )?;
-        Ok(Head {
+        let head = Head {
             image,
             order,
             m,
             n,
             terminators,
-        })
+        };
+        refuse_if(head.room_end() > image.len(), Refusal::file(7, 4))?;
+        Ok(head)
+    }
+
+    /// The pointer room's end, 32+M.
+    pub fn room_end(&self) -> usize {
+        FIXED_PART + usize::from(self.m)
     }
 
     /// Row 8 for trace k, whose block may not start before `previous_end` (for
     /// the first trace the pointer room's end, 32+M).
-    fn pointer(&self, k: u16, previous_end: u64) -> Result<u32, Refusal> {
+    pub fn pointer(&self, k: u16, previous_end: u64) -> Result<u32, Refusal> {
         let slot = FIXED_PART + 4 * usize::from(k);
         let p = u32_at(self.image, slot, self.order);
         let refusal = Refusal::new(8, i64::from(k), slot);
@@ -167,8 +176,7 @@ impl<'a> Head<'a> {
         let part = i64::from(k);
         let p = self.pointer(k, previous_end)?;
         let mut trace = self.trace_block(part, p)?;
-        let start = p as usize + FIXED_PART;
-        trace.strings = self.strings(part, start, trace.data_start() as usize)?;
+        trace.strings = self.area(part, trace.strings_range()).strings()?;
         Ok(trace)
     }
 
@@ -184,7 +192,7 @@ impl<'a> Head<'a> {
 
     /// Rows 9 to 13: the fixed part of the trace block at p. Row 8 has shown
     /// that its 32 bytes lie in the image.
-    fn trace_block(&self, part: i64, p: u32) -> Result<Trace, Refusal> {
+    pub fn trace_block(&self, part: i64, p: u32) -> Result<Trace, Refusal> {
         let at = p as usize;
         let trace = Trace {
             p,
@@ -208,16 +216,15 @@ impl<'a> Head<'a> {
         Ok(trace)
     }
 
-    /// Rows 14 to 17 for the strings between two places.
-    fn strings(&self, part: i64, start: usize, end: usize) -> Result<Vec<StringPlace>, Refusal> {
+    /// The area of a part's strings between two places.
+    pub fn area(&self, part: i64, range: Range<usize>) -> Area<'_> {
         Area {
             image: self.image,
             order: self.order,
             terminators: &self.terminators,
             part,
-            range: start..end,
+            range,
         }
-        .strings()
     }
 
     /// Beyond the image's length; equal passes.

@@ -22,6 +22,7 @@ pub mod generate;
 pub mod listing;
 pub mod number;
 pub mod questions;
+pub mod quick;
 pub mod refusal;
 pub mod samples;
 pub mod sheet;
@@ -38,6 +39,7 @@ pub use questions::{
     file_block, keyword, keyword_value, note_lines, samples_as_bits, samples_as_integers, string,
     string_count, trace_block, FileBlock,
 };
+pub use quick::{quick_keyword, quick_search, quick_value, Search};
 pub use refusal::{is_of_check, Refusal, ALL};
 pub use strings::StringPlace;
 pub use words::Order;

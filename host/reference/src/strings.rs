@@ -105,16 +105,29 @@ impl Area<'_> {
             return Ok(found);
         }
         let mut at = self.range.start;
-        while let Some(next) = self.next_string(at)? {
-            let body = self.body(at, next)?;
-            let string = self.keyword_and_value(at, body)?;
-            if let Some(previous) = found.last() {
-                self.in_order(at, previous, &string)?;
-            }
+        while let Some((string, next)) = self.string_at(at, found.last())? {
             found.push(string);
             at = next;
         }
         Ok(found)
+    }
+
+    /// Rows 14 to 17 of the string at a place, behind the one before it: the string and
+    /// where the next one starts, `None` at the end mark.
+    pub fn string_at(
+        &self,
+        at: usize,
+        previous: Option<&StringPlace>,
+    ) -> Result<Option<(StringPlace, usize)>, Refusal> {
+        let Some(next) = self.next_string(at)? else {
+            return Ok(None);
+        };
+        let body = self.body(at, next)?;
+        let string = self.keyword_and_value(at, body)?;
+        if let Some(previous) = previous {
+            self.in_order(at, previous, &string)?;
+        }
+        Ok(Some((string, next)))
     }
 
     fn refusal(&self, number: u8, at: usize) -> Refusal {
@@ -124,7 +137,7 @@ impl Area<'_> {
     /// Row 14: where the next string starts; `None` at the end mark. The offset
     /// counts from its own first byte. A missing end mark is an offset that is
     /// not in the area.
-    fn next_string(&self, at: usize) -> Result<Option<usize>, Refusal> {
+    pub fn next_string(&self, at: usize) -> Result<Option<usize>, Refusal> {
         let end = self.range.end;
         refuse_if(at + 2 > end, self.refusal(14, at))?;
         let offset = usize::from(u16_at(self.image, at, self.order));

@@ -44,7 +44,7 @@ pub fn string(buffer: &[u8], length: usize, part: i32, index: usize) -> raw::Tex
     answered(|a| unsafe { raw::seg2_string(a, buffer.as_ptr(), buffer.len(), length, part, index) })
 }
 
-/// The five keyword questions differ in their answer alone.
+/// The keyword questions differ in their answer alone. The part of a quick one is a trace.
 macro_rules! keyword_question {
     ($name:ident, $exported:ident, $answer:ident) => {
         pub fn $name(buffer: &[u8], length: usize, part: i32, key: &[u8]) -> raw::$answer {
@@ -61,6 +61,8 @@ keyword_question!(value, seg2_value, Value);
 keyword_question!(number, seg2_number, Number);
 keyword_question!(double, seg2_double, Double);
 keyword_question!(location, seg2_location, Location);
+keyword_question!(quick_keyword, seg2_quick_keyword, Keyword);
+keyword_question!(quick_value, seg2_quick_value, Value);
 
 pub fn integers(buffer: &[u8], length: usize, trace: i32, row: &mut [i32]) -> raw::Verdict {
     let (bytes, size) = (buffer.as_ptr(), buffer.len());

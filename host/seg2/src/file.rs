@@ -372,7 +372,7 @@ impl<'a> File<'a> {
     where
         'a: 'v,
     {
-        Lines::of(value, self.line_terminator())
+        Lines::of(Some(value), self.line_terminator())
     }
 
     /// The lines of the file's NOTE; none at all where it has none.

@@ -23,12 +23,15 @@
 //!
 //! # Cost
 //!
-//! Every exported function that is lent a file checks all of it before it answers, so
-//! every question of [`File`] and [`Trace`] does, and every item of their iterators. A
+//! The exported functions behind [`File`] and [`Trace`] check the whole file before they
+//! answer, so every question of these two does, and every item of their iterators. A
 //! check looks at each block and each string once, not at the samples. Each doc comment
 //! says how many calls it makes; where it says nothing it makes one. What needs no call is
 //! free: it was learned when the file or the trace was opened. A [`Number`] is read from a
 //! text and written as one without a file.
+//!
+//! To show one value of a file of thousands of traces there is [`Quick`]: it reads one
+//! trace and checks no more than it reads, so its cost does not grow with the file.
 //!
 //! So all strings of a file of some hundred traces take as many checks as there are
 //! strings. [`File::walk`] lists them in one pass; it is the only part of this crate that
@@ -46,6 +49,7 @@ pub mod calls;
 mod file;
 mod number;
 mod part;
+mod quick;
 #[doc(hidden)]
 pub mod raw;
 mod refusal;
@@ -56,6 +60,7 @@ mod write;
 pub use file::{File, Traces};
 pub use number::{Location, Number};
 pub use part::{Lines, Strings};
+pub use quick::Quick;
 pub use refusal::{numbers, text, Place, Refusal};
 pub use trace::{Bits, Class, Trace};
 pub use walk::{Step, Walk};

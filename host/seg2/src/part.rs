@@ -46,10 +46,7 @@ impl<'a> Part<'a> {
 
     /// The lines of its NOTE, by the file's line terminator.
     pub fn note(self, terminator: &'a [u8]) -> Lines<'a> {
-        Lines {
-            rest: self.value(b"NOTE"),
-            terminator,
-        }
+        Lines::of(self.value(b"NOTE"), terminator)
     }
 
     pub fn number(self, keyword: &[u8]) -> Result<Number, Refusal> {
@@ -107,8 +104,8 @@ impl<'a> Iterator for Strings<'a> {
 impl std::iter::FusedIterator for Strings<'_> {}
 
 /// The lines of a value, parted by whole line terminators from the left:
-/// [`File::lines`](crate::File::lines), [`File::note`](crate::File::note) and
-/// [`Trace::note`](crate::Trace::note).
+/// [`File::lines`](crate::File::lines), [`File::note`](crate::File::note),
+/// [`Trace::note`](crate::Trace::note) and [`Quick::note`](crate::Quick::note).
 ///
 /// ```
 /// # use seg2::{Builder, Order};
@@ -126,9 +123,10 @@ pub struct Lines<'a> {
 }
 
 impl<'a> Lines<'a> {
-    pub(crate) fn of(value: &'a [u8], terminator: &'a [u8]) -> Lines<'a> {
+    /// Of no value at all there are no lines.
+    pub(crate) fn of(value: Option<&'a [u8]>, terminator: &'a [u8]) -> Lines<'a> {
         Lines {
-            rest: Some(value),
+            rest: value,
             terminator,
         }
     }

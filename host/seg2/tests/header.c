@@ -141,6 +141,43 @@ static void ask_wrongly(size_t length) {
     printf("%s\n", memcmp(before, buffer, size) == 0 ? "unchanged" : "changed");
 }
 
+static void told_quickly(const char *what, size_t length, int32_t trace, const char *key) {
+    struct seg2_value value = seg2_quick_value_of(buffer, sizeof buffer, length, trace, bytes(key), strlen(key));
+    refusal(what, value.number, value.part, value.place);
+    printf(" '%.*s' at %lu\n", (int)value.value_length, (const char *)buffer + value.value_start, (unsigned long)value.value_start);
+}
+
+/* document 02, section 5: one trace of a file that nobody has checked */
+static void quickly(size_t length) {
+    const size_t size = sizeof buffer;
+    struct seg2_keyword keyword;
+    struct seg2_value value;
+
+    seg2_quick_keyword(&keyword, buffer, size, length, 0, bytes("STACK"), 5);
+    refusal("quick keyword", keyword.number, keyword.part, keyword.place);
+    printf(" found %u\n", (unsigned)keyword.found);
+    keyword = seg2_quick_keyword_of(buffer, size, length, 0, bytes(""), 0);
+    refusal("no quick keyword", keyword.number, keyword.part, keyword.place);
+    printf(" found %u\n", (unsigned)keyword.found);
+    seg2_quick_value(&value, buffer, size, length, 0, bytes("STACK"), 5);
+    refusal("quick value", value.number, value.part, value.place);
+    printf(" '%.*s' at %lu\n", (int)value.value_length, (const char *)buffer + value.value_start, (unsigned long)value.value_start);
+    told_quickly("a quick no", length, 0, "DELAY");
+    told_quickly("quick trace 1", length, 1, "STACK");
+    told_quickly("quick trace -1", length, -1, "UNITS");
+    told_quickly("quick over the buffer", size + 1, 0, "STACK");
+
+    /* a small letter in the file's own keyword is not looked at, one in the trace's is */
+    buffer[38] = 'u';
+    told_verdict("check", seg2_check(buffer, size, length));
+    told_quickly("quick value", length, 0, "STACK");
+    buffer[38] = 'U';
+    buffer[90] = 's';
+    told_quickly("quick value", length, 0, "STACK");
+    buffer[90] = 'S';
+    printf("%s\n", memcmp(before, buffer, size) == 0 ? "unchanged" : "changed");
+}
+
 /* A number that a user typed, and its text as a sheet gets it: with its own decimals. No file is needed for either. */
 static void numbers_and_texts(void) {
     const char *const typed[] = {"0.250", "12", "2.50E-3", "-00.0", "0,25", "1E100", "", "-1.23456789012345678E-99"};
@@ -225,6 +262,7 @@ int main(void) {
     memcpy(before, buffer, size);
     ask(length);
     ask_wrongly(length);
+    quickly(length);
 
     /* refused writers change nothing */
     told_length("no slot", seg2_add_integers_of(buffer, size, length, bytes(""), 0, SEG2_FIXED_16, samples, 3));

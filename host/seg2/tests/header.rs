@@ -39,6 +39,17 @@ no such trace: 18 -1 0
 bits of code 1: 33 -1 0
 row 7 7 7 7, 7 7
 unchanged
+quick keyword: 0 -1 0 found 1
+no quick keyword: 0 -1 0 found 0
+quick value: 0 -1 0 '1' at 96
+a quick no: 0 -1 0 '' at 0
+quick trace 1: 18 -1 0 '' at 0
+quick trace -1: 18 -1 0 '' at 0
+quick over the buffer: 1 -1 0 '' at 0
+check: 16 -1 36
+quick value: 0 -1 0 '1' at 96
+quick value: 16 0 88 '' at 0
+unchanged
 no slot: 24 -1 0 length 0
 no order: 31 -1 0 length 0
 a bad second line: 25 -1 4 length 0

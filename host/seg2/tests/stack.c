@@ -65,6 +65,8 @@ static seg2_count count;
 static struct seg2_string string;
 static struct seg2_keyword keyword;
 static struct seg2_value value;
+static struct seg2_keyword quick_keyword;
+static struct seg2_value quick_value;
 static struct seg2_number number;
 static struct seg2_double twice;
 static struct seg2_location location;
@@ -88,6 +90,8 @@ static void call_double(void) { seg2_double(&twice, buffer, size, length, part, 
 static void call_location(void) { seg2_location(&location, buffer, size, length, part, key, 4); }
 static void call_integers(void) { verdict = seg2_integers(buffer, size, length, 0, integers, samples); }
 static void call_bits(void) { verdict = seg2_bits(buffer, size, length, 1, patterns, samples, classes, samples); }
+static void call_quick_keyword(void) { seg2_quick_keyword(&quick_keyword, buffer, size, length, 0, key, 4); }
+static void call_quick_value(void) { seg2_quick_value(&quick_value, buffer, size, length, 0, key, 4); }
 static void call_read_number(void) { seg2_read_number(&read_back, typed, sizeof typed - 1); }
 static void call_write_number(void) { seg2_write_number(&text_length, text, sizeof text, 1, 123456789012345678u, -116, 17); }
 static void call_start(void) { seg2_start(&written, buffer, size, order, TRACES, sheet, sheet_size); }
@@ -114,6 +118,8 @@ static struct {
     {"seg2_location", call_location, 0},
     {"seg2_integers", call_integers, 0},
     {"seg2_bits", call_bits, 0},
+    {"seg2_quick_keyword", call_quick_keyword, 0},
+    {"seg2_quick_value", call_quick_value, 0},
     {"seg2_read_number", call_read_number, 0},
     {"seg2_write_number", call_write_number, 0},
 };
@@ -167,6 +173,7 @@ static void whole(uint32_t of_integers, uint32_t of_bits, size_t traces, size_t 
         }
         must(count.count == strings + 1 && string.found == 1, "another number of strings");
         must(keyword.found == 1 && value.value_length == 3, "no NOTE");
+        must(quick_keyword.found == 1 && quick_value.value_length == 3, "no NOTE found quickly");
         must(number.coefficient == 15 && twice.value == 1.5 && location.x == 1.5, "another number");
         must(verdict.number == 0 && trace.sample_count == samples && file.trace_count == traces, "refused");
         must(read_back.coefficient == 123456789012345678u && read_back.power == -116 && read_back.decimals == 17, "another number was typed");

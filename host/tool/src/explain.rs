@@ -83,7 +83,7 @@ fn row(number: u32) -> Option<(&'static str, &'static str)> {
               "let the instrument save the shot again with usual terminators, as 00h and 0Ah"),
         7 => ("The pointers start at byte 32; all of their room has to lie in the file. The file was cut off, or bytes 4 and 5 are wrong.",
               "copy the file again from where it was recorded"),
-        8 => ("Traces follow each other: a pointer is a multiple of 4, leads behind the trace before it (the first one behind the pointer room), and 32 bytes of block lie in the file. Often the file was cut off.",
+        8 => ("Traces follow each other: a pointer is a multiple of 4, leads behind the trace before it (the first one behind the pointer room), and 32 bytes of block lie in the file. Often the file was cut off. Where `./seg2 value` reads one trace alone, its pointer may lead anywhere behind the pointer room.",
               "copy the file again; if it stays so, the program that wrote it is wrong"),
         9 => ("A trace block starts with 4422h in the file's byte order. The pointer is wrong, or the block was overwritten.",
               "copy the file again as binary, not as text"),

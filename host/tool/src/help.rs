@@ -106,6 +106,12 @@ location as x, or x, y and z with spaces between them, each so. RECEIVER_GEOMETR
 SOURCE_GEOMETRY may stand several times in a part: this is the first of them, and `seg2
 list` shows them all. A keyword that is not there: nothing is printed, the exit status is
 1, and standard error says so.
+
+The text of a trace's value is read without a check of the file: the file block and that
+trace's strings, up to the keyword, are looked at and judged, and nothing else is. So it
+does not wait for the other traces of a long file, and is told where `seg2 check` refuses
+the file for something that was not read. For F, and with --as number, double or location,
+the whole file is checked first.
 ",
         run: value::run,
     },
@@ -177,8 +183,10 @@ one directly behind the other. Where a file, a sheet or samples are read, - is s
 input. --name=value is --name value; behind -- stand no options. `seg2 COMMAND --help`
 tells more of a command, `seg2 --version` the version.
 
-Exit status: 0 done, and every file accepted; 1 a file, a sheet or a sample was refused,
-or a keyword is not there; 2 something cannot be read, written or understood.
+Exit status: 0 done, and every file that was checked is accepted; 1 a file, a sheet or a
+sample was refused, or a keyword is not there; 2 something cannot be read, written or
+understood. A file is checked whole before anything of it is told, but for the text of a
+trace's value.
 ";
 
 /// What --version prints.

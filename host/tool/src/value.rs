@@ -5,7 +5,7 @@ use crate::options::{whole, Options};
 use crate::samples::{decimal, open, trace_of};
 use crate::stop::{refused, unusable, Answer, Stop};
 use crate::words::{value_found, Asked, Told};
-use seg2::{File, Location, Number, Refusal, Trace};
+use seg2::{File, Location, Number, Quick, Refusal, Trace};
 use std::ffi::OsStr;
 use std::os::unix::ffi::OsStrExt;
 
@@ -43,13 +43,6 @@ impl<'a> Part<'a> {
             Part::Trace(trace) => trace.location(keyword),
         }
     }
-
-    fn name(&self) -> String {
-        match self {
-            Part::File(_) => "the file".into(),
-            Part::Trace(trace) => format!("trace {}", trace.index()),
-        }
-    }
 }
 
 /// As what a value is asked for, where not as text.
@@ -83,23 +76,57 @@ pub fn run(given: &Options) -> Answer {
     let kind = Kind::of(given.value("--as"))?;
     let index = index_of(part)?;
     let bytes = files::shot(name)?;
-    let file = open(name, &bytes)?;
+    let mut said = match (index, kind) {
+        (Some(index), None) => text_of_trace(name, &bytes, index, keyword)?,
+        (None, None) => text_of_file(name, &bytes, keyword)?,
+        (_, Some(kind)) => number_of(name, &bytes, index, keyword, kind)?.into_bytes(),
+    };
+    said.push(b'\n');
+    print(&said)
+}
+
+/// A trace's value as it stands there: without a check of the whole file (document 02, §5).
+fn text_of_trace(name: &OsStr, bytes: &[u8], index: usize, keyword: &OsStr) -> Answer<Vec<u8>> {
+    let quick = Quick::new(bytes);
+    let lines: Result<Vec<&[u8]>, Refusal> = match keyword.as_bytes() {
+        b"NOTE" => quick.note(index).map(Iterator::collect),
+        key => quick.value(index, key).map(Vec::from_iter),
+    };
+    let lines = lines.map_err(|refusal| Told::of_trace(name, bytes, index, &refusal).stop())?;
+    joined(&lines).ok_or_else(|| absent(name, &format!("trace {index}"), keyword))
+}
+
+/// A value of the file itself, behind the check.
+fn text_of_file(name: &OsStr, bytes: &[u8], keyword: &OsStr) -> Answer<Vec<u8>> {
+    let file = open(name, bytes)?;
+    let lines: Vec<&[u8]> = match keyword.as_bytes() {
+        b"NOTE" => file.note().collect(),
+        key => Vec::from_iter(file.value(key)),
+    };
+    joined(&lines).ok_or_else(|| absent(name, "the file", keyword))
+}
+
+/// The lines of a value on lines of their own. One that is there has a line at least, be it
+/// an empty one.
+fn joined(lines: &[&[u8]]) -> Option<Vec<u8>> {
+    (!lines.is_empty()).then(|| lines.join(&b'\n'))
+}
+
+/// A value as a number of some kind, behind the check.
+fn number_of(
+    name: &OsStr,
+    bytes: &[u8],
+    index: Option<usize>,
+    keyword: &OsStr,
+    kind: Kind,
+) -> Answer<String> {
+    let file = open(name, bytes)?;
     let part = match index {
         None => Part::File(file),
         Some(index) => Part::Trace(trace_of(name, &file, index)?),
     };
-    let mut said = match kind {
-        None => {
-            let value = part.value(keyword.as_bytes());
-            let value = value.ok_or_else(|| absent(name, &part, keyword))?;
-            text(&file, keyword.as_bytes(), value)
-        }
-        Some(kind) => number(&part, keyword.as_bytes(), kind)
-            .map_err(|refusal| told(name, &part, keyword, kind, &refusal))?
-            .into_bytes(),
-    };
-    said.push(b'\n');
-    print(&said)
+    let said = number(&part, keyword.as_bytes(), kind);
+    said.map_err(|refusal| told(name, &part, keyword, kind, &refusal))
 }
 
 /// A value as a number of some kind; a keyword that is missing has none.
@@ -129,18 +156,9 @@ fn index_of(part: &OsStr) -> Answer<Option<usize>> {
     whole(part, "part: F for the file, else a trace's number").map(Some)
 }
 
-fn absent(name: &OsStr, part: &Part, keyword: &OsStr) -> Stop {
-    let (name, part) = (told_name(name), part.name());
-    let keyword = told_name(keyword);
+fn absent(name: &OsStr, part: &str, keyword: &OsStr) -> Stop {
+    let (name, keyword) = (told_name(name), told_name(keyword));
     refused(format!("{name}: {part} has no keyword {keyword}"))
-}
-
-/// A value as it stands there, the lines of a NOTE on lines of their own.
-fn text(file: &File, keyword: &[u8], value: &[u8]) -> Vec<u8> {
-    if keyword != b"NOTE" {
-        return value.to_vec();
-    }
-    file.lines(value).collect::<Vec<_>>().join(&b'\n')
 }
 
 /// As many values as there are, each with the decimals that it was written with.

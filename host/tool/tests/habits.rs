@@ -6,10 +6,11 @@ mod common;
 use common::{ended, run, sentence, text, tool, Ended, Folder};
 use std::io::{BufRead, BufReader, Read, Write};
 use std::os::unix::ffi::OsStrExt;
+use std::path::PathBuf;
 use std::process::{Command, Stdio};
 use std::time::{Duration, Instant};
 
-use seg2::{Builder, Order};
+use seg2::{Builder, File, Order};
 use seg2_reference::generate::{Model, Rng};
 use seg2_reference::worked::{example, EXAMPLE_LISTED};
 
@@ -212,6 +213,7 @@ fn standard_input_is_read_where_that_makes_sense() {
     assert_eq!(fed(&["list", "-"], &example()).1, EXAMPLE_LISTED);
     assert_eq!(fed(&["samples", "-", "0"], &example()).1, "1\n-1\n256\n");
     assert_eq!(fed(&["value", "-", "F", "UNITS"], &example()).1, "METERS\n");
+    assert_eq!(fed(&["value", "-", "0", "STACK"], &example()).1, "1\n");
     let shot = folder.path("shot").display().to_string();
     let words = [
         "new", &shot, "--order", "low", "--slots", "1", "--sheet", "-",
@@ -314,6 +316,92 @@ fn a_value_is_printed_as_it_was_asked_for() {
     );
     let kinds = "`metres` is no kind of value: text, number, double or location";
     sentence(run!("value", shot, "F", "UNITS", "--as", "metres"), kinds);
+}
+
+/// Three traces, of which the second has a bad code; and where that stands.
+fn second_is_broken(folder: &Folder) -> (PathBuf, usize) {
+    let mut shot = Builder::start(Order::High, 3, b"UNITS\tMETERS\n").expect("a start");
+    for stack in ["1", "", "3"] {
+        let sheet = format!("DELAY\t0\nSTACK\t{stack}\nNOTE\tWET\nNOTE\t\nNOTE\t COLD\n");
+        shot.add_integers(sheet.as_bytes(), 1, &[1, 2])
+            .expect("a trace");
+    }
+    let mut bytes = shot.finish();
+    let file = File::open(&bytes).expect("a file");
+    let code = file.trace(1).expect("a trace").start() + 12;
+    bytes[code] = 9;
+    (folder.keep("broken", bytes), code)
+}
+
+/// Document 02, §5: what is wrong in another trace does not keep a trace's value from being
+/// told.
+#[test]
+fn a_traces_value_is_told_without_a_check_of_the_file() {
+    let folder = Folder::new("quick");
+    let (shot, code) = second_is_broken(&folder);
+    let refused = format!("refused (12) in trace 1 at byte {code}: ");
+    let (status, out, _) = run!("check", shot);
+    assert_eq!((status, out.contains(&refused)), (1, true), "{out}");
+    for (part, keyword, said) in [
+        ("0", "STACK", "1\n"),
+        ("2", "STACK", "3\n"),
+        ("2", "DELAY", "0\n"),
+        ("2", "NOTE", "WET\n\n COLD\n"),
+    ] {
+        let wanted = (0, said.to_string(), String::new());
+        assert_eq!(run!("value", shot, part, keyword), wanted, "{keyword}");
+        let as_text = run!("value", shot, part, keyword, "--as", "text");
+        assert_eq!(as_text, wanted, "{keyword}");
+    }
+    for keyword in ["UNITS", "stack", "A", "NOTE 1", "\u{e9}"] {
+        let said = format!(
+            "seg2: {}: trace 2 has no keyword {keyword}\n",
+            shot.display()
+        );
+        assert_eq!(run!("value", shot, "2", keyword), (1, String::new(), said));
+    }
+    for index in ["3", "4294967296"] {
+        let (status, out, error) = run!("value", shot, index, "STACK");
+        assert_eq!((status, out.as_str()), (1, ""));
+        let found = format!("trace {index} was asked for, and the file has 3 traces, 0 to 2");
+        assert!(error.contains("refused (18): "), "{error}");
+        assert!(error.contains(&found), "{error}");
+    }
+    // the broken trace itself; and the file's own values and numbers, behind the check
+    for words in [
+        &["1", "STACK"][..],
+        &["1", "NOTE"],
+        &["F", "UNITS"],
+        &["-1", "NOTE"],
+        &["0", "STACK", "--as", "number"],
+        &["0", "STACK", "--as", "double"],
+        &["0", "STACK", "--as", "location"],
+    ] {
+        let out = tool().arg("value").arg(&shot).args(words).output();
+        let (status, out, error) = ended(out.expect("the tool runs"));
+        assert_eq!((status, out.as_str()), (1, ""), "{words:?}");
+        assert!(
+            error.contains(&refused) && error.contains("[09]"),
+            "{error}"
+        );
+    }
+}
+
+#[test]
+fn a_note_that_is_missing_or_empty_is_told_apart() {
+    let folder = Folder::new("quick-note");
+    let mut shot = Builder::start(Order::Low, 2, b"").expect("a start");
+    shot.add_integers(b"NOTE\t\n", 1, &[]).expect("a trace");
+    shot.add_integers(b"", 1, &[]).expect("a trace");
+    let shot = folder.keep("shot", shot.bytes());
+    let empty = (0, "\n".to_string(), String::new());
+    assert_eq!(run!("value", shot, "0", "NOTE"), empty);
+    let (status, out, error) = run!("value", shot, "1", "NOTE");
+    assert_eq!((status, out.as_str()), (1, ""));
+    assert!(
+        error.ends_with(": trace 1 has no keyword NOTE\n"),
+        "{error}"
+    );
 }
 
 /// Document 02, §4: "A surveyor typed 0.250 and the app shows 0.25, another precision to

@@ -61,6 +61,96 @@ fn a_trace_that_is_not_there_is_told_with_those_that_are() {
     told(&run!("value", shot, "2", "DELAY").2, &shot, 18, found);
 }
 
+/// Document 02, §5: a trace's value is refused for what was read of the file, in the words of
+/// the check but for row 8, where no other trace has a say.
+#[test]
+fn a_traces_value_is_refused_for_what_was_read() {
+    let folder = Folder::new("words-quick");
+    let strings: &[&[u8]] = &[b"DELAY 0", b"STACK 4"];
+    let traces = [PlainTrace::of_strings(strings); 2];
+    let bytes = plain_file(seg2_reference::Order::Low, &[], &traces);
+    // the pointers, and the second trace's strings
+    assert_eq!((bytes[32], bytes[36], bytes.len()), (44, 100, 156));
+    assert_eq!(&bytes[134..139], b"DELAY");
+    let cases: &[(usize, &[u8], u32, &str)] = &[
+        (2, &[2], 3, "bytes 2 and 3 say revision 2"),
+        (
+            6,
+            &[1],
+            18,
+            "trace 1 was asked for, and the file has one trace, 0",
+        ),
+        (
+            36,
+            &[102],
+            8,
+            "the pointer leads to byte 102, no multiple of 4",
+        ),
+        (
+            36,
+            &[36],
+            8,
+            "the pointer leads to byte 36, and what stands before ends at byte 40",
+        ),
+        (
+            36,
+            &[128],
+            8,
+            "cut off: 156 bytes there, at least 160 needed",
+        ),
+        (
+            36,
+            &[40],
+            9,
+            "00h 00h stand there, and a trace block starts with 22h 44h",
+        ),
+        (102, &[28], 10, "the block's size is 28, under 32"),
+        (
+            104,
+            &[4],
+            11,
+            "cut off: 156 bytes there, at least 160 needed",
+        ),
+        (
+            132,
+            &[2],
+            14,
+            "the offset is 2, and the shortest string has 4 bytes",
+        ),
+        (
+            134,
+            b"d",
+            16,
+            "byte 134 is `d` (64h), a small letter, in the keyword `dELAY`",
+        ),
+        (
+            144,
+            b"A",
+            17,
+            "`ATACK` follows `DELAY`, and comes before it",
+        ),
+    ];
+    for (at, new, number, found) in cases {
+        let mut bytes = bytes.clone();
+        bytes[*at..at + new.len()].copy_from_slice(new);
+        let shot = folder.keep("shot", &bytes);
+        let (status, out, error) = run!("value", shot, "1", "STACK");
+        assert_eq!((status, out.as_str()), (1, ""), "{found}");
+        told(&error, &shot, *number, found);
+        // with the trace and the place
+        let answer = seg2::Quick::new(&bytes).value(1, b"STACK");
+        let refusal = answer.expect_err("a refusal").to_string();
+        assert!(error.contains(&refusal), "{error}");
+    }
+    // a pointer into another trace is refused by the check alone
+    let mut bytes = bytes;
+    bytes[36] = 44;
+    let shot = folder.keep("shot", &bytes);
+    let found = "the pointer leads to byte 44, and what stands before ends at byte 100";
+    told(&run!("check", shot).1, &shot, 8, found);
+    assert_eq!(run!("value", shot, "1", "STACK").1, "4\n");
+}
+
 #[test]
 fn numbers_and_locations_say_what_is_wrong_with_them() {
     let folder = Folder::new("words-20");
@@ -189,11 +279,15 @@ fn channel_numbers_of_some_traces_are_told_by_every_command() {
     told(&run!("check", shot).1, &shot, 34, found);
     told(&run!("list", shot).2, &shot, 34, found);
     told(&run!("samples", shot, "0").2, &shot, 34, found);
-    told(&run!("value", shot, "0", "STACK").2, &shot, 34, found);
+    let number = run!("value", shot, "0", "STACK", "--as", "number").2;
+    told(&number, &shot, 34, found);
     let (none, samples) = (folder.keep("none", ""), folder.keep("samples", "1\n"));
     told(&add(&shot, &none, "1", &samples).2, &shot, 34, found);
     let (status, out, _) = run!("check", shot);
     assert_eq!(status, 1);
+    // a trace's value as text is told without the check
+    assert_eq!(run!("value", shot, "0", "STACK").1, "1\n");
+    assert_eq!(run!("value", shot, "4", "CHANNEL_NUMBER").1, "5\n");
     // the trace's strings are shown, the place in brackets
     assert!(out.contains("refused (34) in trace 4 at byte "), "{out}");
     assert!(out.contains("[13]") && out.contains("CHANNEL_"), "{out}");

@@ -14,10 +14,10 @@ opened-spec =
     (tie.spec
     (λ c κs. search needs)
     (λ c. search needs)
-    (λ c. opened-bad _ _ _ (c .before .before .before .check .ensures) (c .before .v .given .1))
+    (λ c. opened-bad _ _ _ (c .before .before .before .checked .ensures) (c .before .v .given .1))
     (λ c. search needs)
-    (λ c. sym (accepted _ _ (c .before .before .before .check .ensures) (c .before .enum-told .given .1) .size))
-    (λ c κs. let a = accepted _ _ (c .before .before .before .check .ensures) (c .before .enum-told .given .1) in omega (arith, a .size, a .low))
+    (λ c. sym (accepted _ _ (c .before .before .before .checked .ensures) (c .before .enum-told .given .1) .size))
+    (λ c κs. let a = accepted _ _ (c .before .before .before .checked .ensures) (c .before .enum-told .given .1) in omega (arith, a .size, a .low))
     (λ c. search needs)
     (λ c. search needs)
     (λ c κs. search needs)
@@ -25,20 +25,20 @@ opened-spec =
     let at-if1 = c .before in
     let at-file-block = at-if1 .before .before .before in
     let at-enum-told = at-file-block .before .before in
-    let at-check = at-enum-told .before .before in
-    rw (c .of-file .ensures) (opened-full _ _ _ (at-check .check .ensures) (at-enum-told .enum-told .given .1)
+    let at-checked = at-enum-told .before .before in
+    rw (c .of-file .ensures) (opened-full _ _ _ (at-checked .checked .ensures) (at-enum-told .enum-told .given .1)
     (at-file-block .file-block .ensures .0) (at-if1 .if1 .taken)))
     (λ c κs.
     let at-file-block = c .before .before .before .before in
     let at-enum-told = at-file-block .before .before in
-    let at-check = at-enum-told .before .before in
-    let a = accepted _ _ (at-check .check .ensures) (at-enum-told .enum-told .given .1) in
+    let at-checked = at-enum-told .before .before in
+    let a = accepted _ _ (at-checked .checked .ensures) (at-enum-told .enum-told .given .1) in
     let b = at-file-block .file-block .ensures .0 in
     (a .image, rw (block-count _ b), sym (block-order _ b)))
     (λ c.
     let at-if1 = c .before .before in
     let at-file-block = at-if1 .before .before .before in
     let at-enum-told = at-file-block .before .before in
-    let at-check = at-enum-told .before .before in
+    let at-checked = at-enum-told .before .before in
     c .taken .ensures
-    ∙ opened-free _ _ _ (at-check .check .ensures) (at-enum-told .enum-told .given .1) (at-file-block .file-block .ensures .0) (at-if1 .if1 .left)))
+    ∙ opened-free _ _ _ (at-checked .checked .ensures) (at-enum-told .enum-told .given .1) (at-file-block .file-block .ensures .0) (at-if1 .if1 .left)))

@@ -18,25 +18,25 @@ add-bits-spec =
     (λ c. search needs)
     (λ c κs.
     let at-w2 = c .before .before in
-    let at-answered = at-w2 .before .before in
-    let at-bits-fit = at-answered .before .before in
+    let at-told = at-w2 .before .before in
+    let at-bits-fit = at-told .before .before in
     let at-slice-known = at-bits-fit .before .before .before in
     let start = at-slice-known .before in
     let args = start .args in
     let x = patternsTrace (args .sheet .now) (args .code) (args .row .now) in
-    begins _ _ x (at-bits-fit .bits-fit .ensures) (at-answered .answered .ensures)
+    begins _ _ x (at-bits-fit .bits-fit .ensures) (at-told .told .ensures)
     (each-bytes (args .buffer .now) (λ i. at-slice-known .slice-known .given i .fits)) (at-w2 .w2 .given .1))
     (λ c. search needs)
     (λ c.
     let at-w = c .before in
-    let at-answered = at-w .before .before in
-    let at-bits-fit = at-answered .before .before in
-    kept-left _ _ _ (at-bits-fit .bits-fit .ensures) (at-answered .answered .ensures)
+    let at-told = at-w .before .before in
+    let at-bits-fit = at-told .before .before in
+    kept-left _ _ _ (at-bits-fit .bits-fit .ensures) (at-told .told .ensures)
     (at-w .w .given .1))
     (λ c. search needs)
     (λ c.
     let at-grow-bits = c .before .before in
     let at-w2 = at-grow-bits .before .before .before in
-    let at-answered = at-w2 .before .before in
-    let at-bits-fit = at-answered .before .before in
-    grown-left _ _ _ (at-bits-fit .bits-fit .ensures) (at-answered .answered .ensures) (at-w2 .w2 .given .1) (at-grow-bits .grow-bits .ensures)))
+    let at-told = at-w2 .before .before in
+    let at-bits-fit = at-told .before .before in
+    grown-left _ _ _ (at-bits-fit .bits-fit .ensures) (at-told .told .ensures) (at-w2 .w2 .given .1) (at-grow-bits .grow-bits .ensures)))

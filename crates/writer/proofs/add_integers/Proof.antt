@@ -19,26 +19,26 @@ add-integers-spec =
     (λ c. search needs)
     (λ c κs.
     let at-w2 = c .before .before in
-    let at-answered = at-w2 .before .before in
-    let at-integers-fit = at-answered .before .before in
+    let at-told = at-w2 .before .before in
+    let at-integers-fit = at-told .before .before in
     let at-slice-known = at-integers-fit .before .before in
     let start = at-slice-known .before in
     let args = start .args in
     let x = integersTrace (args .sheet .now) (args .code) (args .row .now) in
-    begins _ _ x (at-integers-fit .integers-fit .ensures) (at-answered .answered .ensures)
+    begins _ _ x (at-integers-fit .integers-fit .ensures) (at-told .told .ensures)
     (each-bytes (args .buffer .now) (λ i. at-slice-known .slice-known .given i .fits)) (at-w2 .w2 .given .1))
     (λ c. search needs)
     (λ c.
     let at-w = c .before in
-    let at-answered = at-w .before .before in
-    let at-integers-fit = at-answered .before .before in
+    let at-told = at-w .before .before in
+    let at-integers-fit = at-told .before .before in
     kept-left _ _ _ (at-integers-fit .integers-fit .ensures)
-    (at-answered .answered .ensures) (at-w .w .given .1))
+    (at-told .told .ensures) (at-w .w .given .1))
     (λ c. search needs)
     (λ c.
     let at-grow-integers = c .before .before in
     let at-w2 = at-grow-integers .before .before .before in
-    let at-answered = at-w2 .before .before in
-    let at-integers-fit = at-answered .before .before in
-    grown-left _ _ _ (at-integers-fit .integers-fit .ensures) (at-answered .answered .ensures) (at-w2 .w2 .given .1)
+    let at-told = at-w2 .before .before in
+    let at-integers-fit = at-told .before .before in
+    grown-left _ _ _ (at-integers-fit .integers-fit .ensures) (at-told .told .ensures) (at-w2 .w2 .given .1)
     (at-grow-integers .grow-integers .ensures)))

@@ -84,7 +84,7 @@ pub fn sample_case(rng: &mut Rng) -> SampleCase {
 }
 
 /// Most often a trace that there is.
-fn some_index(rng: &mut Rng, count: usize) -> i64 {
+pub(super) fn some_index(rng: &mut Rng, count: usize) -> i64 {
     let n = count as i64;
     let outside = rng.pick(&[-1, -2, n, n + 1, 1 << 32, i64::MIN, i64::MAX]);
     let inside = rng.between(0, count - 1) as i64;

@@ -93,21 +93,33 @@ pub fn damaged_image(rng: &mut Rng) -> Damaged {
 }
 
 /// The given file or image damaged in the given way, if it has what that takes.
-fn damaged_in(rng: &mut Rng, way: &Way, mut model: Model) -> Option<Damaged> {
-    match way.how {
+fn damaged_in(rng: &mut Rng, way: &Way, model: Model) -> Option<Damaged> {
+    let (laid, expected) = damaged_laid(rng, way, model)?;
+    Some(Damaged {
+        name: way.name,
+        buffer: laid.buffer,
+        length: laid.length,
+        expected,
+    })
+}
+
+/// The same with the layout, which tells where everything would stand without the damage.
+pub(super) fn damaged_laid(rng: &mut Rng, way: &Way, mut model: Model) -> Option<(Laid, Refusal)> {
+    let (laid, part, place) = match way.how {
         How::Bytes(change) | How::Alone(change) => {
             let mut laid = model.lay();
             let change = change(rng, &laid)?;
             change.apply(&mut laid);
-            Some(way.case(laid, change.part, change.place))
+            (laid, change.part, change.place)
         }
         How::Shape(change) => {
             let spot = change(rng, &mut model)?;
             let laid = model.lay();
             let (part, place) = spot.find(&laid);
-            Some(way.case(laid, part, place))
+            (laid, part, place)
         }
-    }
+    };
+    Some((laid, Refusal::new(way.number, part, place)))
 }
 
 /// Two or three damages in one file: the one that is checked first decides.
@@ -178,15 +190,6 @@ impl Way {
 
     pub(super) const fn only(self, scope: Scope) -> Way {
         Way { scope, ..self }
-    }
-
-    fn case(&self, laid: Laid, part: i64, place: usize) -> Damaged {
-        Damaged {
-            name: self.name,
-            buffer: laid.buffer,
-            length: laid.length,
-            expected: Refusal::new(self.number, part, place),
-        }
     }
 }
 

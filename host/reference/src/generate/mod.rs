@@ -5,8 +5,9 @@
 //! document 01 allows and the writer never uses. A damage ([`damage`], [`ways`])
 //! breaks one rule of such a file in one named way and knows the refusal it must
 //! give. The inputs of rows 18 to 33 and 35 are in [`asking`], [`numbers`], [`forged`],
-//! [`sheets`] and [`writing`], the values of rows 34 and 35 in [`channels`]; [`plain`] makes
-//! a file around one text or data block. The same seed gives the same cases on every machine.
+//! [`sheets`] and [`writing`], the values of rows 34 and 35 in [`channels`], questions of one
+//! trace in [`quick`]; [`plain`] makes a file around one text or data block. The same seed
+//! gives the same cases on every machine.
 
 pub mod asking;
 pub mod channels;
@@ -17,6 +18,7 @@ pub mod lay;
 pub mod model;
 pub mod numbers;
 pub mod plain;
+pub mod quick;
 pub mod rng;
 pub mod sheets;
 pub mod ways;
@@ -30,6 +32,7 @@ pub use lay::Laid;
 pub use model::Model;
 pub use numbers::{location_case, number_case, LocationCase, NumberCase};
 pub use plain::{plain_file, PlainTrace};
+pub use quick::{quick_case, quick_key, QuickCase};
 pub use rng::Rng;
 pub use sheets::{good_sheet, sheet_case, SheetCase};
 pub use ways::WAYS;

@@ -1,7 +1,7 @@
 //! Rows 1 to 13 and 34: the blocks of a file that is refused. Nothing of such a file is sure, so
 //! what is not there is read as 0.
 
-use super::{channel, cut_off, hex, strings, Found};
+use super::{channel, cut_off, hex, no_such_trace, strings, Found};
 use crate::files::grouped;
 use seg2::Refusal;
 
@@ -93,7 +93,7 @@ pub fn found(bytes: &[u8], refusal: &Refusal) -> Found {
         5 => count_found(raw).into(),
         6 => terminator_found(raw, refusal.place).into(),
         7 => cut_off(bytes.len(), 32 + raw.pointer_room()),
-        8 => pointer_found(raw, trace),
+        8 => pointer_found(raw, trace, end_before(raw, trace)),
         9 => mark_found(raw, refusal.place).into(),
         10 => block_found(raw, trace),
         11 => data_found(raw, trace),
@@ -101,6 +101,17 @@ pub fn found(bytes: &[u8], refusal: &Refusal) -> Found {
         13 => samples_found(raw, raw.pointer(trace)).into(),
         34 => channel_found(raw, refusal.part).into(),
         _ => strings::found(raw, refusal).into(),
+    }
+}
+
+/// The same of a question that reads one trace alone (document 02, §5), where no other has a
+/// say in row 8; and row 18, as the bytes that tell how many there are have been judged.
+pub fn found_in_trace(bytes: &[u8], asked: usize, refusal: &Refusal) -> Found {
+    let raw = Raw { bytes };
+    match refusal.number {
+        8 => pointer_found(raw, asked, 32 + raw.pointer_room()),
+        18 => no_such_trace(asked, raw.trace_count()).into(),
+        _ => found(bytes, refusal),
     }
 }
 
@@ -137,12 +148,16 @@ fn terminator_found(raw: Raw, place: usize) -> String {
     }
 }
 
-fn pointer_found(raw: Raw, trace: usize) -> Found {
-    let start = raw.pointer(trace);
-    let before = match trace.checked_sub(1) {
+/// Where what stands before a trace ends.
+fn end_before(raw: Raw, trace: usize) -> usize {
+    match trace.checked_sub(1) {
         Some(previous) => raw.data_end(previous),
         None => 32 + raw.pointer_room(),
-    };
+    }
+}
+
+fn pointer_found(raw: Raw, trace: usize, before: usize) -> Found {
+    let start = raw.pointer(trace);
     let said = format!("the pointer leads to byte {}", grouped(start));
     if start % 4 != 0 {
         return format!("{said}, no multiple of 4").into();
@@ -214,7 +229,7 @@ fn samples_found(raw: Raw, block: usize) -> String {
 #[cfg(test)]
 mod tests {
     use super::*;
-    use seg2::{Builder, Order};
+    use seg2::{Builder, Order, Quick};
     use seg2_reference::generate::{damaged, mutated, plain_file, Model, PlainTrace, Rng, WAYS};
     use seg2_reference::worked::example;
 
@@ -332,6 +347,61 @@ mod tests {
         }
     }
 
+    /// What is said where a trace's STACK alone is asked for.
+    fn said_of(bytes: &[u8], trace: usize) -> String {
+        let answer = Quick::new(bytes).value(trace, b"STACK");
+        let refusal = answer.expect_err("a refusal");
+        let found = found_in_trace(bytes, trace, &refusal);
+        format!("{}: {}", refusal.number, found.text)
+    }
+
+    /// Document 02, §5: 8 means there "no multiple of 4, below 32+M, or p+32 past the end".
+    #[test]
+    fn one_traces_pointer_is_held_to_the_pointer_room() {
+        let trace = &[&b"STACK 1"[..]][..];
+        let bytes = of_traces(&[trace; 3]);
+        let pointed = |p: u8| {
+            let mut bytes = bytes.clone();
+            bytes[40..44].copy_from_slice(&[p, 0, 0, 0]);
+            bytes
+        };
+        for (p, words) in [
+            (46, "8: the pointer leads to byte 46, no multiple of 4"),
+            (
+                40,
+                "8: the pointer leads to byte 40, and what stands before ends at byte 44",
+            ),
+            (248, "8: cut off: 196 bytes there, at least 280 needed"),
+            (
+                44,
+                "9: 0Fh 00h stand there, and a trace block starts with 22h 44h",
+            ),
+        ] {
+            assert_eq!(said_of(&pointed(p), 2), words);
+        }
+        let none = "18: trace 3 was asked for, and the file has 3 traces, 0 to 2";
+        assert_eq!(said_of(&pointed(46), 3), none);
+    }
+
+    #[test]
+    fn one_trace_of_a_file_that_is_cut_anywhere_is_told_to_be_cut_off() {
+        let mut rng = Rng::new(406);
+        let mut cut = 0;
+        for _ in 0..2000 {
+            let laid = Model::random(&mut rng).lay();
+            let bytes = &laid.buffer[..rng.between(1, laid.length)];
+            for trace in 0..usize::from(laid.file.n) {
+                let Err(refusal) = Quick::new(bytes).value(trace, b"NOTE") else {
+                    continue;
+                };
+                let found = found_in_trace(bytes, trace, &refusal);
+                assert!(found.cut_off, "{refusal}: {}", found.text);
+                cut += 1;
+            }
+        }
+        assert!(cut > 1000, "{cut}");
+    }
+
     #[test]
     fn half_a_line_terminator_is_told_as_one() {
         let (mut bytes, at) = two_strings("A\t1\nNOTE\tX?Y\n", "X?Y");
@@ -427,6 +497,12 @@ mod tests {
             let bytes = buffer.get(..length).unwrap_or(&buffer);
             if let Err(refusal) = seg2::check(bytes, bytes.len()) {
                 assert!(!found(bytes, &refusal).text.is_empty());
+            }
+            for trace in 0..3 {
+                if let Err(refusal) = Quick::new(bytes).value(trace, b"STACK") {
+                    let found = found_in_trace(bytes, trace, &refusal);
+                    assert!(!found.text.is_empty());
+                }
             }
         }
     }

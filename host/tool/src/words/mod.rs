@@ -81,6 +81,14 @@ impl Told {
         }
     }
 
+    /// A refusal of a question that reads one trace of a file with these bytes, and no other.
+    pub fn of_trace(name: &OsStr, bytes: &[u8], asked: usize, refusal: &Refusal) -> Told {
+        Told {
+            shown: around(bytes, refusal),
+            ..Told::new(name, refusal, file::found_in_trace(bytes, asked, refusal))
+        }
+    }
+
     /// All lines, the last of which says where there are more words.
     pub fn text(&self) -> String {
         let Told { name, refusal, .. } = self;

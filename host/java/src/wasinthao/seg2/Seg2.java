@@ -16,7 +16,8 @@ import java.nio.charset.StandardCharsets;
  *
  * <p><b>Refusals are values.</b> Every answer has {@link Answer#refusal()}: null, or number, part, place and words. After a refusal the
  * answer's other fields are 0 and no lent memory has changed. Every question about a file checks the whole file first, so its refusal may
- * be any row from 1 to 17 of the table, or 34, before one of its own.
+ * be any row from 1 to 17 of the table, or 34, before one of its own. {@link #quickKeyword} and {@link #quickValue} do not: they read one
+ * trace, and judge what they read.
  *
  * <p><b>Misuse is an {@link IllegalArgumentException}</b>, before the library is called: null, a buffer that is not direct, a read-only
  * one where something is written, a row in another byte order than the machine's, or one that lies in the file's own memory.
@@ -577,6 +578,50 @@ public final class Seg2 {
         return new Verdict(a);
     }
 
+    // ---- one trace, quickly (document 02, section 5): without the check of the whole file
+
+    /**
+     * Whether a trace has a keyword: yes, no, or the refusal, without a check of the file. To show one value of a long file: what it costs
+     * does not grow with the number of traces.
+     *
+     * <p>Read are the file block's first 32 bytes, the trace's pointer, the first 32 bytes of its block, and its strings in order, each
+     * whole, until the keyword is found or passed: until a keyword stands there that is greater than the asked one, or NOTE. NOTE itself
+     * is sought to the end of the list. The strings behind, the other traces, the file's own strings and the samples are not looked at. So
+     * it may answer where {@link #check} refuses the file, for something that was not read. Where {@link #check} accepts the file, it
+     * answers as {@link #keyword} does, for every trace number from 0 on and every key.
+     *
+     * <p>Refusals, of what was read alone: 1 to 7, then 18 where there is no such trace ({@link #FILE} is none: the file's own strings are
+     * not asked here), 8 (a pointer that is no multiple of 4, leads into the pointer room, or leaves no room for a block; it may lead into
+     * another trace), 9 to 13, then 14 to 17 string by string, the found or passed one too. 34 is never given: it would need another trace.
+     */
+    public static Keyword quickKeyword(ByteBuffer buffer, long length, int trace, byte[] key) {
+        long[] a = new long[4];
+        nativeQuickKeyword(lent(buffer), buffer.limit(), length, trace, there(key, "keyword"), a);
+        return new Keyword(a);
+    }
+
+    /** The same, of a keyword in a String. */
+    public static Keyword quickKeyword(ByteBuffer buffer, long length, int trace, String key) {
+        return quickKeyword(buffer, length, trace, bytesOf(key, "keyword"));
+    }
+
+    /**
+     * The value of a trace's keyword as the buffer's own bytes, without a check of the file: what is read and what is refused is as said at
+     * {@link #quickKeyword}. Where {@link #check} accepts the file, it answers as {@link #value} does. A no is start 0 and length 0 without
+     * a refusal. {@link #readNumber} takes {@link Value#text()} as a number. The lines of a NOTE are parted by the line terminator, whose
+     * length stands in byte 11 of the file and whose characters in byte 12 on; where there is an answer, both have been judged.
+     */
+    public static Value quickValue(ByteBuffer buffer, long length, int trace, byte[] key) {
+        long[] a = new long[5];
+        nativeQuickValue(lent(buffer), buffer.limit(), length, trace, there(key, "keyword"), a);
+        return new Value(a, buffer);
+    }
+
+    /** The same, of a keyword in a String. */
+    public static Value quickValue(ByteBuffer buffer, long length, int trace, String key) {
+        return quickValue(buffer, length, trace, bytesOf(key, "keyword"));
+    }
+
     // ---- a number and its text: no file is lent, so no row of its check comes first
 
     /**
@@ -752,6 +797,10 @@ public final class Seg2 {
     private static native void nativeDouble(ByteBuffer buffer, int size, long length, int part, byte[] key, long[] answer);
 
     private static native void nativeLocation(ByteBuffer buffer, int size, long length, int part, byte[] key, long[] answer);
+
+    private static native void nativeQuickKeyword(ByteBuffer buffer, int size, long length, int trace, byte[] key, long[] answer);
+
+    private static native void nativeQuickValue(ByteBuffer buffer, int size, long length, int trace, byte[] key, long[] answer);
 
     private static native void nativeReadNumber(byte[] text, long[] answer);
 

@@ -240,6 +240,8 @@ public final class Seg2Test {
             refused(18, -1, 0, Seg2.number(good, 108, part, "UNITS"));
             refused(18, -1, 0, Seg2.doubleValue(good, 108, part, "UNITS"));
             refused(18, -1, 0, Seg2.location(good, 108, part, "UNITS"));
+            refused(18, -1, 0, Seg2.quickKeyword(good, 108, part, "UNITS"));
+            refused(18, -1, 0, Seg2.quickValue(good, 108, part, "UNITS"));
             refused(18, -1, 0, Seg2.integers(good, 108, part, new int[3]));
             refused(18, -1, 0, Seg2.bits(good, 108, part, new long[3], new byte[3]));
         }
@@ -394,6 +396,93 @@ public final class Seg2Test {
                 refused(34, 1, strings, Seg2.value(b, second.length, 0, "CHANNEL_NUMBER"));
             }
         }
+    }
+
+    /** A file of three traces, each with a CHANNEL_NUMBER of its own, a STACK and a NOTE of two lines. */
+    private static ByteBuffer threeTraces() {
+        ByteBuffer b = painted(2000);
+        int length = Seg2.start(b, Seg2.LOW_FIRST, 3, "UNITS\tMETERS\n").length;
+        for (int trace = 0; trace < 3; trace++) {
+            String sheet = "CHANNEL_NUMBER\t" + (trace + 1) + "\nSTACK\t" + 4 * trace + "\nUNITS\t\nNOTE\tone\nNOTE\ttwo\n";
+            Seg2.Length added = Seg2.addIntegers(b, length, sheet, Seg2.FIXED_16, new int[] {1, 2});
+            accepted(added);
+            length = added.length;
+        }
+        b.limit(length);
+        return b;
+    }
+
+    /** On an accepted file the quick answers are the full ones, and the values the buffer's own bytes. */
+    private static void oneTraceQuickly() {
+        ByteBuffer b = threeTraces();
+        int n = b.limit();
+        b.position(17);
+        for (int trace = 0; trace < 4; trace++) {
+            for (String key : new String[] {"", "A", "CHANNEL_NUMBER", "CHANNEL_NUMBERS", "NOTE", "STACK", "UNITS", "Z", "stack", "\u00c4", "A B"}) {
+                Seg2.Keyword full = Seg2.keyword(b, n, trace, key);
+                Seg2.Keyword quick = Seg2.quickKeyword(b, n, trace, key);
+                same(full.refusal(), quick.refusal());
+                same(full.found, quick.found);
+                Seg2.Value whole = Seg2.value(b, n, trace, key);
+                Seg2.Value value = Seg2.quickValue(b, n, trace, key);
+                same(whole.refusal(), value.refusal());
+                same(new int[] {whole.start, whole.length}, new int[] {value.start, value.length});
+            }
+        }
+        same(17, b.position());
+        Seg2.Value stack = Seg2.quickValue(b, n, 2, "STACK");
+        accepted(stack);
+        same("8", stack.text());
+        same("8", Seg2.quickValue(b, n, 2, "STACK".getBytes(StandardCharsets.US_ASCII)).text());
+        same(8L, Seg2.readNumber(stack.text()).coefficient);
+        b.put(stack.start, (byte) '9');
+        same((byte) '9', stack.bytes().get(0));
+        same("one\ntwo", Seg2.quickValue(b, n, 0, "NOTE").text());
+        // a no: the empty part at the start; a keyword without a value is another thing
+        Seg2.Value no = Seg2.quickValue(b, n, 0, "DELAY");
+        accepted(no);
+        same(0, no.start + no.length + no.bytes().remaining());
+        same(true, Seg2.quickKeyword(b, n, 0, "UNITS").found);
+        same("", Seg2.quickValue(b, n, 0, "UNITS").text());
+        // the file's own strings are not asked here
+        refused(18, -1, 0, Seg2.quickKeyword(b, n, Seg2.FILE, "UNITS"));
+        refused(18, -1, 0, Seg2.quickValue(b, n, Seg2.FILE, "UNITS"));
+        same("4", Seg2.quickValue(b.asReadOnlyBuffer(), n, 1, "STACK").text());
+    }
+
+    /** On a file that the check refuses, it answers unless what is wrong was read. */
+    private static void quicklyOfARefusedFile() {
+        ByteBuffer b = threeTraces();
+        int n = b.limit();
+        int first = Seg2.traceBlock(b, n, 0).start;
+        int third = Seg2.traceBlock(b, n, 2).start;
+        b.put(first, (byte) 0);
+        refused(9, 0, first, Seg2.check(b, n));
+        refused(9, 0, first, Seg2.quickValue(b, n, 0, "STACK"));
+        refused(9, 0, first, Seg2.quickKeyword(b, n, 0, "STACK"));
+        same("4", Seg2.quickValue(b, n, 1, "STACK").text());
+        // the CHANNEL_NUMBER is no number any more: 34 is not given, and the value is told as it stands
+        int channel = Seg2.quickValue(b, n, 1, "CHANNEL_NUMBER").start;
+        b.put(channel, (byte) 'X');
+        same("X", Seg2.quickValue(b, n, 1, "CHANNEL_NUMBER").text());
+        // a small letter in STACK: what comes before it is found, STACK itself and what comes behind is refused
+        int stack = Seg2.quickValue(b, n, 1, "STACK").start - "STACK ".length();
+        b.put(stack, (byte) 's');
+        same("X", Seg2.quickValue(b, n, 1, "CHANNEL_NUMBER").text());
+        for (String key : new String[] {"D", "STACK", "NOTE", "UNITS"}) {
+            Seg2.Value refusal = Seg2.quickValue(b, n, 1, key);
+            refused(16, 1, stack - 2, refusal);
+            same(0, refusal.start + refusal.length);
+            refused(16, 1, stack - 2, Seg2.quickKeyword(b, n, 1, key));
+        }
+        same(true, Seg2.quickValue(b, n, 1, "STACK").refusal().toString().startsWith("refused (16) in trace 1 at byte " + (stack - 2) + ": "));
+        // the length is told beside the buffer, and 18 comes before the pointer
+        refused(1, -1, 0, Seg2.quickValue(b, n + 1, 2, "STACK"));
+        refused(10, 2, third + 2, Seg2.quickValue(b, third + 32, 2, "STACK"));
+        refused(8, 2, 40, Seg2.quickValue(b, third + 31, 2, "STACK"));
+        b.put(36, (byte) 1);
+        refused(8, 1, 36, Seg2.quickValue(b, n, 1, "STACK"));
+        refused(18, -1, 0, Seg2.quickValue(b, n, 3, "STACK"));
     }
 
     private static void numbersAndLocations() {
@@ -616,6 +705,8 @@ public final class Seg2Test {
             misused(words, () -> Seg2.number(bad, 108, 0, key));
             misused(words, () -> Seg2.doubleValue(bad, 108, 0, key));
             misused(words, () -> Seg2.location(bad, 108, 0, key));
+            misused(words, () -> Seg2.quickKeyword(bad, 108, 0, key));
+            misused(words, () -> Seg2.quickValue(bad, 108, 0, key));
             misused(words, () -> Seg2.integers(bad, 108, 0, new int[3]));
             misused(words, () -> Seg2.integers(bad, 108, 0, direct(0, 0, 0)));
             misused(words, () -> Seg2.bits(bad, 108, 0, new long[3], new byte[3]));
@@ -639,6 +730,10 @@ public final class Seg2Test {
         misused("keyword is null", () -> Seg2.number(good, 108, 0, none));
         misused("keyword is null", () -> Seg2.doubleValue(good, 108, 0, noText));
         misused("keyword is null", () -> Seg2.location(good, 108, 0, none));
+        misused("keyword is null", () -> Seg2.quickKeyword(good, 108, 0, none));
+        misused("keyword is null", () -> Seg2.quickKeyword(good, 108, 0, noText));
+        misused("keyword is null", () -> Seg2.quickValue(good, 108, 0, none));
+        misused("keyword is null", () -> Seg2.quickValue(good, 108, 0, noText));
         misused("sheet is null", () -> Seg2.start(good, 0, 1, none));
         misused("sheet is null", () -> Seg2.addIntegers(good, 108, noText, 1, new int[1]));
         misused("sheet is null", () -> Seg2.addBits(good, 108, none, 4, new long[1]));
@@ -713,6 +808,8 @@ public final class Seg2Test {
             same(trace + 1, block.formatCode);
             same(trace + 0.5, Seg2.location(b, length, trace, "RECEIVER_LOCATION").x);
             same(trace + 0.5, Seg2.doubleValue(b, length, trace, "RECEIVER_LOCATION").value);
+            same(trace + ".5", Seg2.quickValue(b, length, trace, "RECEIVER_LOCATION").text());
+            same(true, Seg2.quickKeyword(b, length, trace, "RECEIVER_LOCATION").found);
             Seg2.Decimal number = Seg2.number(b, length, trace, "RECEIVER_LOCATION");
             same(trace * 10L + 5, number.coefficient);
             same(trace + ".5", number.text());
@@ -763,6 +860,8 @@ public final class Seg2Test {
         test("bit patterns and classes", Seg2Test::bitsAndClasses);
         test("several receivers in one group", Seg2Test::severalReceivers);
         test("channel numbers in all traces or none", Seg2Test::channelNumbers);
+        test("one trace, quickly", Seg2Test::oneTraceQuickly);
+        test("one trace of a file that is refused", Seg2Test::quicklyOfARefusedFile);
         test("numbers, doubles and locations", Seg2Test::numbersAndLocations);
         test("numbers as they were typed", Seg2Test::numbersAsTheyWereTyped);
         test("numbers that no text gives", Seg2Test::forgedNumbers);
