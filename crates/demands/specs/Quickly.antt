@@ -45,7 +45,8 @@ use Rattle.until.specs.declared.Sought.{Sought}
 use Rattle.until.specs.declared.Sought.the-variants as sought
 use Rattle.until.specs.Until.{passed, compared, soughtFrom, soughtOf}
 use Rattle.one_trace.specs.Alone.{aloneOf}
-use Rattle.quick.specs.Quick.{soughtIn, toldBy, quickFind, quickKeyword, quickValue, quickSpan, readIn, bytesRead, Agree}
+use Rattle.quick.specs.Quick.{soughtIn, toldBy, quickFind, quickKeyword, quickValue, quickSpan}
+use Rattle.shortcut.specs.Read.{readIn, bytesRead, Agree}
 use Rattle.shortcut.specs.Full.{find-full, keyword-full, value-full}
 use Rattle.shortcut.specs.Same.{find-same, keyword-same, value-same, span-same, AllNamed, read-named, found-is-last}
 use Rattle.face_values.specs.FaceValues.{asKeyword, asValue}
@@ -64,7 +65,7 @@ quick-equals-full xs n ok k key =
     (ap asKeyword (keyword-full xs n ok k key), ap asValue (find-full xs n ok k key), v .0, v .1)
 
 -- ---- "Two inputs of equal image and buffer length that agree on these bytes get the same answer, refusals and places
--- included": the bytes are those that one of the two names (quick/Quick `bytesRead`). Rules out a look at any other byte.
+-- included": the bytes are those that one of the two names (shortcut/Read `bytesRead`). Rules out a look at any other byte.
 pub same-bytes-same-answer : (xs ys : List ℕ) (n : ℕ) (z : ℤ) (key : List ℕ) → length xs ≡ length ys
     → Agree (take n xs) (take n ys) (bytesRead xs n z key)
     → (asKeyword (quickKeyword xs n z key) ≡ asKeyword (quickKeyword ys n z key))

@@ -49,7 +49,8 @@ module _ (high : Bool) (f : List ℕ) (m k p : ℕ) (e : p ≡ pointerOf high f 
   pub own-bad : {r : Refusal} → pointerRow (length f) k (32 + m) p ≡ Refused r → trace.Refused r ≡ ownOf high f m k
   own-bad h = sym (own-chain ∙ rw h)
 
-  pub own-rows : {a : TraceAnswer} → pointerRow (length f) k (32 + m) p ≡ Accepted → a ≡ blockAnswer high (headAt f p) (length f) k p → a ≡ ownOf high f m k
+  pub own-rows : {a : TraceAnswer} → pointerRow (length f) k (32 + m) p ≡ Accepted → a ≡ blockAnswer high (headAt f p) (length f) k p
+      → a ≡ ownOf high f m k
   own-rows h q = q ∙ sym (own-chain ∙ rw h)
 
 -- ---- the whole
@@ -81,7 +82,8 @@ module _ (xs : List ℕ) (n : ℕ) (z : ℤ) where
     unfolding headAnswer
     alone-head {r} e = sym (chain ∙ rw (file-told (headOf Read (take 32 f) (length f)) (fileBlockOf (take 32 f)) r e))
 
-    pub alone-named : {x : FileBlock} {a : TraceAnswer} → headAnswer Read (take 32 f) (length f) ≡ file.Is x → a ≡ namedOf f x z → a ≡ blockAlone xs n z
+    pub alone-named : {x : FileBlock} {a : TraceAnswer} → headAnswer Read (take 32 f) (length f) ≡ file.Is x → a ≡ namedOf f x z
+        → a ≡ blockAlone xs n z
     unfolding namedOf
     alone-named {x} {a} e q =
         q

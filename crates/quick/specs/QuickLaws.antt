@@ -111,7 +111,8 @@ quick-lent xs n z key = go (aloneOf xs n z) refl (quick-within xs n z key)
     go Accepted e h = wider (length xs) (toldBy (soughtIn (take n xs) (traceNumber z) key)) (alone-passed xs n z e .fits) h
 
 -- the value that is found is the answer, and stands where the answer stands
-pub value-told : (xs : List ℕ) (n : ℕ) (z : ℤ) (key : List ℕ) (s : StringAnswer) → s ≡ quickFind xs n z key → valueThere xs s ≡ quickValue xs n z key
+pub value-told : (xs : List ℕ) (n : ℕ) (z : ℤ) (key : List ℕ) (s : StringAnswer) → s ≡ quickFind xs n z key
+    → valueThere xs s ≡ quickValue xs n z key
 unfolding quickValue
 value-told xs n z key s e = ap (λ (r : StringAnswer). valueThere xs r) e ∙ value-within xs n (quickFind xs n z key) (quick-within xs n z key)
 

@@ -1,3 +1,4 @@
+pub mod Read
 pub mod Strings
 pub mod Full
 pub mod Same

@@ -1,6 +1,6 @@
 -- "Two inputs of equal image and buffer length that agree on these bytes get the same answer, refusals and places
 -- included" (document 02 §5). xs and ys are the lent buffers, n the length given beside each, f and g the images: their
--- first n bytes. The bytes are named from xs (quick/Quick `bytesRead`).
+-- first n bytes. The bytes are named from xs (Read `bytesRead`).
 -- Assumes nothing.
 use mathlib.Core.Path.{_≡_, refl, sym, ap, _∙_}
 use mathlib.Core.Bool.{Bool, true, false, not}
@@ -32,15 +32,15 @@ use Rattle.image.specs.Keeps.{traceAt}
 use Rattle.ignored.specs.Images.{part-long}
 use Rattle.until.specs.declared.Sought.{Sought}
 use Rattle.until.specs.declared.Sought.the-variants as sought
-use Rattle.until.specs.Until.{soughtOf, readOf}
 use Rattle.reader.specs.declared.StringAnswer.{StringAnswer}
 use Rattle.reader.specs.declared.StringAnswer.the-variants as string
 use Rattle.reader.specs.Questions.{isTrace, traceNumber, valueThere}
 use Rattle.one_trace.specs.Alone.{aloneOf}
-use Rattle.quick.specs.Quick.{soughtBetween, soughtIn, toldBy, quickFind, quickKeyword, quickValue, quickSpan, readIn, behind, bytesRead, Agree}
+use Rattle.quick.specs.Quick.{soughtBetween, soughtIn, toldBy, quickFind, quickKeyword, quickValue, quickSpan}
+use Rattle.shortcut.specs.Read.{readOf, readIn, behind, bytesRead, Agree}
 use Rattle.shortcut.specs.Strings.{sought-alike, read-within, read-ends}
 
--- the checks before each span (quick/Quick `bytesRead`)
+-- the checks before each span (Read `bytesRead`)
 abbrev firstRow : List ℕ → ℕ → Verdict
 firstRow xs n = row (badLength (length xs) n) Length File 0
 

@@ -1,5 +1,5 @@
 -- The strings of a trace as the quick question reads them: two areas of one length that are alike on the bytes read (the
--- first so many, until/Until `readOf`) get the same answer; these bytes are the area's own, and where a string is found
+-- first so many, Read `readOf`) get the same answer; these bytes are the area's own, and where a string is found
 -- they end with it.
 -- Assumes nothing.
 use mathlib.Core.Path.{_≡_, refl, sym, ap, _∙_}
@@ -29,7 +29,8 @@ use Rattle.strings.specs.Walks.{in-frame, next-fits, next-bounds, place-fits}
 use Rattle.ignored.specs.Areas.{offset-same, part-same, front-same, rest-same, drop-long}
 use Rattle.until.specs.declared.Sought.{Sought}
 use Rattle.until.specs.declared.Sought.the-variants as sought
-use Rattle.until.specs.Until.{passed, compared, onStep, soughtFrom, soughtOf, reaches, stringRead, readFrom, readOf}
+use Rattle.until.specs.Until.{passed, compared, onStep, soughtFrom, soughtOf}
+use Rattle.shortcut.specs.Read.{reaches, stringRead, readFrom, readOf}
 
 module _ (high : Bool) (t : List ℕ) where
   -- ---- one string

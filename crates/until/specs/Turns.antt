@@ -83,7 +83,8 @@ module _ (high : Bool) (t u : List ℕ) (p : Part) (key f : List ℕ) (e : ℕ) 
   unfolding soughtOf
   sought-none a h = rw (part-none a e f h)
 
-  pub sought-over : (prev : List ℕ) (at m : ℕ) → e ≤ at → sought.Refused (refusal StringOffset p at) ≡ soughtFrom m high t u p key prev (part at e f) at
+  pub sought-over : (prev : List ℕ) (at m : ℕ) → e ≤ at
+      → sought.Refused (refusal StringOffset p at) ≡ soughtFrom m high t u p key prev (part at e f) at
   unfolding soughtFrom stepOf onFrame
   sought-over prev at zero h = refl
   sought-over prev at (suc m) h = rw (part-none at e f h, ← frame-short Strict high t [] refl)
@@ -118,7 +119,8 @@ module _ (high : Bool) (t u : List ℕ) (p : Part) (key : List ℕ) (e : ℕ) (s
           (λ o n.
           compared key (take n (drop 2 l)) (sought.Is (placeOf t o l at)) sought.Nothing
           (soughtFrom m high t u p key (take n (drop 2 l)) (drop o l) (at + o))) ≡ sought.Is s
-          → ((o n : ℕ) → at + o + length (drop o l) ≤ e → soughtFrom m high t u p key (take n (drop 2 l)) (drop o l) (at + o) ≡ sought.Is s → PlaceIn e s)
+          → ((o n : ℕ) → at + o + length (drop o l) ≤ e
+          → soughtFrom m high t u p key (take n (drop 2 l)) (drop o l) (at + o) ≡ sought.Is s → PlaceIn e s)
           → PlaceIn e s
       go (Next o n) b k again = at-string o n b (same (take n (drop 2 l)) key) (passed key (take n (drop 2 l))) k (again o n)
       go Done b k again = let z : _≡_ {A = ℕ} 0 1 = cc in absurd (omega arith)

@@ -4,11 +4,11 @@
 -- the area; `at` is their place in the file. key is the asked keyword, of any bytes; prev the keyword before, the empty
 -- one before the first; t is the string terminator, u the line terminator, `high` the byte order.
 -- Assumes nothing.
-use mathlib.Core.Bool.{Bool, not, _&&_}
+use mathlib.Core.Bool.{Bool}
 use mathlib.Core.List.{List, []}
 use Prim.Native.Nat.{ℕ, zero, suc, _+_}
 use lib.ListN.{length, take, drop}
-use lib.Dec.{ltb, leb, eqb}
+use lib.Dec.{eqb}
 use Rattle.refusal.specs.declared.Refusal.{Refusal}
 use Rattle.refusal.specs.declared.Rule.the-variants.{StringOffset}
 use Rattle.refusal.specs.declared.Part.{Part}
@@ -19,7 +19,7 @@ use Rattle.text.specs.declared.Manner.the-variants.{Strict}
 use Rattle.text.specs.Order.{before}
 use Rattle.strings.specs.declared.Step.{Step}
 use Rattle.strings.specs.declared.Step.the-variants.{Next, Done, Bad}
-use Rattle.strings.specs.Strings.{offset, stepOf, placeOf}
+use Rattle.strings.specs.Strings.{stepOf, placeOf}
 use Rattle.until.specs.declared.Sought.{Sought}
 use Rattle.until.specs.declared.Sought.the-variants as sought
 
@@ -54,24 +54,3 @@ soughtFrom (suc m) high t u p key prev l at =
 -- "An empty area is an empty list"
 unfoldable pub soughtOf : Bool → List ℕ → List ℕ → Part → List ℕ → List ℕ → ℕ → Sought
 soughtOf high t u p key l at = pick (eqb (length l) 0) sought.Nothing (soughtFrom (length l) high t u p key [] l at)
-
--- ---- the bytes that it reads: as many of the area's first
-
--- of a string "its offset (none where fewer than 2 bytes are left), and where rows of 14 on the offset pass, the string to
--- its end"; an offset of 0 ends the list
-abbrev pub reaches : Bool → List ℕ → List ℕ → Bool
-reaches high t l = leb (3 + length t) (offset high l) && leb (offset high l) (length l)
-
-unfoldable pub stringRead : Bool → List ℕ → List ℕ → ℕ
-stringRead high t l = pick (ltb (length l) 2) 0 (pick (reaches high t l) (offset high l) 2)
-
--- string by string, and none behind that which ends the search
-unfoldable pub readFrom : ℕ → Bool → List ℕ → List ℕ → Part → List ℕ → List ℕ → List ℕ → ℕ → ℕ
-readFrom zero high t u p key prev l at = 0
-readFrom (suc m) high t u p key prev l at =
-    stringRead high t l
-    + onStep (stepOf Strict high t u p prev l at) (λ r. 0) 0
-    (λ o n. compared key (take n (drop 2 l)) 0 0 (readFrom m high t u p key (take n (drop 2 l)) (drop o l) (at + o)))
-
-unfoldable pub readOf : Bool → List ℕ → List ℕ → Part → List ℕ → List ℕ → ℕ → ℕ
-readOf high t u p key l at = readFrom (length l) high t u p key [] l at

@@ -1,22 +1,18 @@
 // The strings of an area in order, until a keyword is found or passed (document 02, §5). Each string that is come to is
 // read whole and judged by rows 14 to 17, that which ends the search too; what stands behind it is not looked at. Until
-// has the definitions, Turns a law for each turn of the loop. Stands on `strings`, `text`. An area is the bytes of a file
+// has the definitions, Turns a law for each turn of the loop. Stands on `one_string`, `strings`, `text`. An area is the bytes of a file
 // from place a to place e; t is the string terminator, u the line terminator, `high` the byte order.
 // The rules in words: docs/FORMAT.md, "One trace, quickly".
 use chars::Kind;
 use refusal::Part;
 use refusal::Refusal;
 use refusal::Rule;
-use strings::Frame;
-use strings::Judged;
 use strings::Place;
 use strings::Step;
-use text::Manner;
 ghost use mathlib.Core.Path.{_≡_};
 ghost use Prim.Native.Nat.{_≤_, _<_};
 ghost use lib.ListN.{length};
 ghost use Rattle.word.specs.Part.{part};
-ghost use Rattle.strings.specs.Strings.{judgedOf, stepOf};
 ghost use Rattle.strings.specs.Passed.{seenPlace, Lies};
 ghost use Rattle.until.specs.Until.{soughtOf};
 
@@ -25,63 +21,6 @@ pub enum Sought {
     Is(Place),
     Nothing,
     Refused(Refusal),
-}
-
-// ---- one string: rows 14 to 17, by the definitions of `strings` and once more in code. A function with one caller becomes
-// part of it; `strings::step_at`, called from here too, would be a call of its own in the check of every area, and each
-// call on a file would need more stack (docs/DECISIONS.md, "One trace, quickly")
-
-// Rows 16 and 17 of what stands between the offset and the terminator; prev is the keyword before.
-fn judge(b: &[u8], u: &[u8], prev: &[u8]) -> Judged
-    requires { ⌜ 0 < length (now u) ⌝ }
-    ensures { λ r. ⌜ r ≡ judgedOf Manner.Strict (now (u .entry)) (now (prev .entry)) (now (b .entry)) ⌝ }
-{
-    let n = text::key_run(b, Manner::Strict);
-    if n == 0 {
-        return Judged::Wrong(Rule::Character);
-    }
-    let r = &b[n..];
-    let g = chars::run(Kind::Blank, r);
-    if (g == 0) & (0 < r.len()) {
-        return Judged::Wrong(Rule::Character);
-    }
-    let k = &b[..n];
-    if !note::value_ok(u, k, &r[g..], Manner::Strict) {
-        return Judged::Wrong(Rule::Character);
-    }
-    if !text::following(prev, k, Manner::Strict) {
-        return Judged::Wrong(Rule::KeywordOrder);
-    }
-    Judged::Keyword(n)
-}
-
-// Rows 14 to 17 of the string that l starts with, which stands at place `at` of the file.
-fn step(l: &[u8], high: bool, t: &[u8], u: &[u8], whose: Part, prev: &[u8], at: usize) -> Step
-    requires { ⌜ 0 < length (now u) ⌝ }
-    ensures { λ r. ⌜ r ≡ stepOf Manner.Strict high (now (t .entry)) (now (u .entry)) whose (now (prev .entry))
-        (now (l .entry)) at ⌝ }
-{
-    let s = strings::framed(l, high, t, Manner::Strict);
-    match s {
-        Frame::End => Step::Done,
-        Frame::Broken(rule) => Step::Bad(Refusal {
-            rule,
-            part: whose,
-            place: at,
-        }),
-        Frame::Text(o) => {
-            let end = o - t.len();
-            let j = judge(&l[2..end], u, prev);
-            match j {
-                Judged::Keyword(n) => Step::Next(o, n),
-                Judged::Wrong(rule) => Step::Bad(Refusal {
-                    rule,
-                    part: whose,
-                    place: at,
-                }),
-            }
-        }
-    }
 }
 
 // Where the string of `size` bytes at `at` stands, its keyword up to `gap`.
@@ -121,7 +60,7 @@ pub fn find(
     let mut k = a;
     let mut g = a;
     while at < e {
-        let s = step(&f[at..e], high, t, u, whose, &f[k..g], at);
+        let s = one_string::step(&f[at..e], high, t, u, whose, &f[k..g], at);
         match s {
             Step::Bad(r) => {
                 return Sought::Refused(r);

@@ -13,4 +13,5 @@ keyword-spec =
     (tie.spec
     (λ c κs. search needs)
     (λ c κs. search needs)
-    (λ c. c .keyword-told .ensures ∙ ap asKeyword (rw (toZ-ofZ {w = w32} (c .before .before .before .before .fits .trace)) at (c .before .keyword .ensures))))
+    (λ c. c .keyword-told .ensures ∙ ap asKeyword (rw (toZ-ofZ {w = w32} (c .before .before .before .before .fits .trace)) at
+    (c .before .keyword .ensures))))

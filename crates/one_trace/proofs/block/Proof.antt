@@ -13,69 +13,55 @@ use Rattle.one_trace.specs.AloneLaws.{alone-length, alone-head, alone-na
 use borrow.Author.Needs.{needs}
 use Rattle.one_trace.proofs.block.Statement.{statement}
 use Rattle.one_trace.proofs.block.Tie as tie
-use Rattle.one_trace.proofs.block.Reads as reads
-use Rattle.one_trace.proofs.block.Lts as lts
-use Rattle.head.proofs.head.Reads as head-reads
-use Rattle.image.proofs.is_bad_length.Reads as is-bad-length-reads
-use Rattle.one_trace.proofs.named.Reads as named-reads
-use Rattle.refusal.proofs.of_file.Reads as of-file-reads
-
--- src/lib.rt:51:8
-is-bad-length-requires : tie.Need-is-bad-length-requires
-is-bad-length-requires c κs = search needs
-
--- src/lib.rt:52:37
-of-file-requires : tie.Need-of-file-requires
-of-file-requires c κs = search needs
-
--- src/lib.rt:52:9
-returns : tie.Need-returns
-returns c = ap trace.Refused (c .of-file .ensures) ∙ alone-length (c .before .before .before .before .args .buffer .now) (c .before .before .before .before .args .n) (c .before .before .before .before .args .trace) (sym (c .before .before .is-bad-length .ensures) ∙ c .before .if1 .taken)
-
--- src/lib.rt:54:9
-slice-aggregate-f : tie.Need-slice-aggregate-f
-slice-aggregate-f c = let l = long-enough (length (c .before .before .before .before .args .buffer .now)) (c .before .before .before .before .args .n) (sym (c .before .before .is-bad-length .ensures) ∙ c .before .if1 .left) in sym (length-take-le _ _ (l .2))
-
--- src/lib.rt:55:26
-slice-aggregate-head : tie.Need-slice-aggregate-head
-slice-aggregate-head c = let l = long-enough (length (c .before .before .before .before .before .args .buffer .now)) (c .before .before .before .before .before .args .n) (sym (c .before .before .before .is-bad-length .ensures) ∙ c .before .before .if1 .left) in sym (length-take-le 32 (take (c .before .before .before .before .before .args .n) (c .before .before .before .before .before .args .buffer .now)) (rw (length-take-le (c .before .before .before .before .before .args .n) (c .before .before .before .before .before .args .buffer .now) (l .2)) (l .0)))
-
--- src/lib.rt:55:9
-head-requires : tie.Need-head-requires
-head-requires c κs = let l = long-enough (length (c .before .before .before .before .before .args .buffer .now)) (c .before .before .before .before .before .args .n) (sym (c .before .before .before .is-bad-length .ensures) ∙ c .before .before .if1 .left) in let q = length-take-le 32 (take (c .before .before .before .before .before .args .n) (c .before .before .before .before .before .args .buffer .now)) (rw (length-take-le (c .before .before .before .before .before .args .n) (c .before .before .before .before .before .args .buffer .now) (l .2)) (l .0)) in omega (arith, q)
-
--- src/lib.rt:57:29
-enum-known-top : tie.Need-enum-known-top
-enum-known-top c = search needs
-
--- src/lib.rt:58:24
-enum-known-top-2 : tie.Need-enum-known-top-2
-enum-known-top-2 c = search needs
-
--- src/lib.rt:58:30
-named-requires : tie.Need-named-requires
-named-requires c κs = let h = head-shown _ (take (c .before .before .before .before .before .before .before .before .before .args .n) (c .before .before .before .before .before .before .before .before .before .args .buffer .now)) _ (sym (c .before .before .before .head .ensures .0) ∙ c .before .top2 .given .1) in let m = head-room _ (take (c .before .before .before .before .before .before .before .before .before .args .n) (c .before .before .before .before .before .before .before .before .before .args .buffer .now)) _ (sym (c .before .before .before .head .ensures .0) ∙ c .before .top2 .given .1) in let n = head-count _ (take (c .before .before .before .before .before .before .before .before .before .args .n) (c .before .before .before .before .before .before .before .before .before .args .buffer .now)) _ (sym (c .before .before .before .head .ensures .0) ∙ c .before .top2 .given .1) in let w = in-words _ _ (c .before .top2 .given .1) (c .before .before .before .head .ensures .1) in (omega (arith, h .count, m, n), omega (arith, h .fits, m), w .1)
-
--- src/lib.rt:48:1
-returns-2 : tie.Need-returns-2
-returns-2 c = alone-head (c .before .before .before .before .before .before .before .before .before .args .buffer .now) (c .before .before .before .before .before .before .before .before .before .args .n) (c .before .before .before .before .before .before .before .before .before .args .trace) (sym (c .before .before .before .before .before .before .before .is-bad-length .ensures) ∙ c .before .before .before .before .before .before .if1 .left) (sym (c .before .before .before .head .ensures .0) ∙ c .before .top .given .1)
-
--- src/lib.rt:48:1
-returns-3 : tie.Need-returns-3
-returns-3 c = alone-named (c .before .before .before .before .before .before .before .before .before .before .args .buffer .now) (c .before .before .before .before .before .before .before .before .before .before .args .n) (c .before .before .before .before .before .before .before .before .before .before .args .trace) (sym (c .before .before .before .before .before .before .before .before .is-bad-length .ensures) ∙ c .before .before .before .before .before .before .before .if1 .left) (sym (c .before .before .before .before .head .ensures .0) ∙ c .before .before .top2 .given .1) (handed w32 (λ (z : ℤ). namedOf (take (c .before .before .before .before .before .before .before .before .before .before .args .n) (c .before .before .before .before .before .before .before .before .before .before .args .buffer .now)) (c .before .before .top2 .given .0 .0) z) (c .before .before .before .before .before .before .before .before .before .before .args .trace) (c .before .before .before .before .before .before .before .before .before .before .fits .trace .sfits) (c .named .ensures))
 
 pub block-spec : {M : Type 1} → statement M
 block-spec =
     tie.close
     (tie.spec
-    is-bad-length-requires
-    of-file-requires
-    returns
-    slice-aggregate-f
-    slice-aggregate-head
-    head-requires
-    enum-known-top
-    enum-known-top-2
-    named-requires
-    returns-2
-    returns-3)
+    (λ c κs. search needs)
+    (λ c κs. search needs)
+    (λ c.
+    let c4 = c .before .before .before .before in
+    ap trace.Refused (c .of-file .ensures) ∙ alone-length (c4 .args .buffer .now) (c4 .args .n) (c4 .args .trace) (sym (c .before .before
+    .is-bad-length .ensures) ∙ c .before .if1 .taken))
+    (λ c.
+    let c4 = c .before .before .before .before in
+    let l = long-enough (length (c4 .args .buffer .now)) (c4 .args .n) (sym (c .before .before .is-bad-length .ensures) ∙ c .before .if1 .left) in
+    sym (length-take-le _ _ (l .2)))
+    (λ c.
+    let c3 = c .before .before .before in
+    let c5 = c3 .before .before in
+    let l = long-enough (length (c5 .args .buffer .now)) (c5 .args .n) (sym (c3 .is-bad-length .ensures) ∙ c .before .before .if1 .left) in
+    sym (length-take-le 32 (take (c5 .args .n) (c5 .args .buffer .now)) (rw (length-take-le (c5 .args .n) (c5 .args .buffer .now) (l .2)) (l .0))))
+    (λ c κs.
+    let c3 = c .before .before .before in
+    let c5 = c3 .before .before in
+    let l = long-enough (length (c5 .args .buffer .now)) (c5 .args .n) (sym (c3 .is-bad-length .ensures) ∙ c .before .before .if1 .left) in
+    let q = length-take-le 32 (take (c5 .args .n) (c5 .args .buffer .now)) (rw (length-take-le (c5 .args .n) (c5 .args .buffer .now) (l .2)) (l .0))
+    in
+    omega (arith, q))
+    (λ c. search needs)
+    (λ c. search needs)
+    (λ c κs.
+    let c3 = c .before .before .before in
+    let c9 = c3 .before .before .before .before .before .before in
+    let h = head-shown _ (take (c9 .args .n) (c9 .args .buffer .now)) _ (sym (c3 .head .ensures .0) ∙ c .before .top2 .given .1) in
+    let m = head-room _ (take (c9 .args .n) (c9 .args .buffer .now)) _ (sym (c3 .head .ensures .0) ∙ c .before .top2 .given .1) in
+    let n = head-count _ (take (c9 .args .n) (c9 .args .buffer .now)) _ (sym (c3 .head .ensures .0) ∙ c .before .top2 .given .1) in
+    let w = in-words _ _ (c .before .top2 .given .1) (c3 .head .ensures .1) in
+    (omega (arith, h .count, m, n), omega (arith, h .fits, m), w .1))
+    (λ c.
+    let c3 = c .before .before .before in
+    let c6 = c3 .before .before .before in
+    let c7 = c6 .before in
+    let c9 = c7 .before .before in
+    alone-head (c9 .args .buffer .now) (c9 .args .n) (c9 .args .trace) (sym (c7 .is-bad-length .ensures) ∙ c6 .if1 .left) (sym (c3 .head .ensures
+    .0) ∙ c .before .top .given .1))
+    (λ c.
+    let c4 = c .before .before .before .before in
+    let c7 = c4 .before .before .before in
+    let c8 = c7 .before in
+    let c10 = c8 .before .before in
+    alone-named (c10 .args .buffer .now) (c10 .args .n) (c10 .args .trace) (sym (c8 .is-bad-length .ensures) ∙ c7 .if1 .left) (sym (c4 .head
+    .ensures .0) ∙ c .before .before .top2 .given .1) (handed w32 (λ (z : ℤ). namedOf (take (c10 .args .n) (c10 .args .buffer .now)) (c .before
+    .before .top2 .given .0 .0) z) (c10 .args .trace) (c10 .fits .trace .sfits) (c .named .ensures))))

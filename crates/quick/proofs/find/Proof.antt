@@ -1,76 +1,79 @@
 -- `quick::find` meets its contract. The strings of a trace that passed its rows stand in the image. Assumes nothing.
-use mathlib.Core.Path.{sym, _∙_}
+use mathlib.Core.Path.{_≡_, sym, _∙_}
+use Prim.Native.Nat.{_+_, _≤_}
 use native.Mathlib.Omega.{arith}
 use lib.IntN.{ℤ}
+use lib.ListN.{length, take}
 use mir.Syntax.{w32}
 use Rattle.word.specs.Bytes.{each-bytes}
 use Rattle.word.specs.Signed.{handed}
+use Rattle.block.specs.declared.TraceAnswer.the-variants as trace
 use Rattle.one_trace.specs.Alone.{blockAlone}
+use Rattle.one_trace.specs.AloneLaws.{Alone}
 use Rattle.quick.specs.QuickLaws.{quick-bad, shown, area-lies, quick-told, number-plain, number-casts}
 use borrow.Author.Needs.{needs}
 use Rattle.quick.proofs.find.Statement.{statement}
 use Rattle.quick.proofs.find.Tie as tie
-use Rattle.quick.proofs.find.Reads as reads
-use Rattle.quick.proofs.find.Lts as lts
-use Rattle.one_trace.proofs.block.Reads as block-reads
-use Rattle.quick.proofs.sought.Reads as sought-reads
 
--- src/lib.rt:53:9
-block-requires : tie.Need-block-requires
-block-requires c κs = search needs
+-- the block that was answered
+read : (c : tie.After-b2)
+    → let args = c .before .before .before .before .before .args in
+    blockAlone (args .buffer .now) (args .n) (args .trace) ≡ trace.Is (c .b2 .given .0 .0)
+read c =
+    let start = c .before .before .before .before .before in
+    let args = start .args in
+    sym (handed w32 (λ (z : ℤ). blockAlone (args .buffer .now) (args .n) z) (args .trace) (start .fits .trace .sfits) (c .before .before .block .ensures))
+    ∙ c .b2 .given .1
 
--- src/lib.rt:55:30
-enum-known-b : tie.Need-enum-known-b
-enum-known-b c = search needs
+-- what its rows have shown, and where its strings lie
+alone : (c : tie.After-b2)
+    → let args = c .before .before .before .before .before .args in
+    Alone (args .buffer .now) (args .n) (args .trace)
+alone c = shown _ _ _ _ (read c)
 
--- src/lib.rt:56:25
-enum-known-b-2 : tie.Need-enum-known-b-2
-enum-known-b-2 c = search needs
-
--- src/lib.rt:57:22
-cast-k : tie.Need-cast-k
-cast-k c = let q = number-casts (shown (c .before .before .before .before .before .before .args .buffer .now) (c .before .before .before .before .before .before .args .n) (c .before .before .before .before .before .before .args .trace) (c .before .b2 .given .0 .0) (sym (handed w32 (λ (z : ℤ). blockAlone (c .before .before .before .before .before .before .args .buffer .now) (c .before .before .before .before .before .before .args .n) z) (c .before .before .before .before .before .before .args .trace) (c .before .before .before .before .before .before .fits .trace .sfits) (c .before .before .before .block .ensures)) ∙ c .before .b2 .given .1)) (c .before .before .before .before .before .before .fits .trace .sfits) (each-bytes (c .before .before .before .before .before .before .args .buffer .now) (λ i. c .before .before .before .before .before .shared-slice-known .given i .fits)) in (q .0, q .1)
-
--- src/lib.rt:57:21
-cast-k-2 : tie.Need-cast-k-2
-cast-k-2 c = record { fits = number-casts (shown (c .before .before .before .before .before .before .args .buffer .now) (c .before .before .before .before .before .before .args .n) (c .before .before .before .before .before .before .args .trace) (c .before .b2 .given .0 .0) (sym (handed w32 (λ (z : ℤ). blockAlone (c .before .before .before .before .before .before .args .buffer .now) (c .before .before .before .before .before .before .args .n) z) (c .before .before .before .before .before .before .args .trace) (c .before .before .before .before .before .before .fits .trace .sfits) (c .before .before .before .block .ensures)) ∙ c .before .b2 .given .1)) (c .before .before .before .before .before .before .fits .trace .sfits) (each-bytes (c .before .before .before .before .before .before .args .buffer .now) (λ i. c .before .before .before .before .before .shared-slice-known .given i .fits)) .2 }
-
--- src/lib.rt:58:20
-slice-aggregate-sought : tie.Need-slice-aggregate-sought
-slice-aggregate-sought c = sym ((shown (c .before .before .before .before .before .before .before .args .buffer .now) (c .before .before .before .before .before .before .before .args .n) (c .before .before .before .before .before .before .before .args .trace) (c .before .before .b2 .given .0 .0) (sym (handed w32 (λ (z : ℤ). blockAlone (c .before .before .before .before .before .before .before .args .buffer .now) (c .before .before .before .before .before .before .before .args .n) z) (c .before .before .before .before .before .before .before .args .trace) (c .before .before .before .before .before .before .before .fits .trace .sfits) (c .before .before .before .before .block .ensures)) ∙ c .before .before .b2 .given .1)) .size)
-
--- src/lib.rt:58:34
-add-sought : tie.Need-add-sought
-add-sought c = omega (arith, (area-lies (c .before .before .before .before .before .before .before .before .args .buffer .now) (c .before .before .before .before .before .before .before .before .args .n) (c .before .before .before .before .before .before .before .before .args .trace) (c .before .before .before .b2 .given .0 .0) (sym (handed w32 (λ (z : ℤ). blockAlone (c .before .before .before .before .before .before .before .before .args .buffer .now) (c .before .before .before .before .before .before .before .before .args .n) z) (c .before .before .before .before .before .before .before .before .args .trace) (c .before .before .before .before .before .before .before .before .fits .trace .sfits) (c .before .before .before .before .before .block .ensures)) ∙ c .before .before .before .b2 .given .1)) .0, (area-lies (c .before .before .before .before .before .before .before .before .args .buffer .now) (c .before .before .before .before .before .before .before .before .args .n) (c .before .before .before .before .before .before .before .before .args .trace) (c .before .before .before .b2 .given .0 .0) (sym (handed w32 (λ (z : ℤ). blockAlone (c .before .before .before .before .before .before .before .before .args .buffer .now) (c .before .before .before .before .before .before .before .before .args .n) z) (c .before .before .before .before .before .before .before .before .args .trace) (c .before .before .before .before .before .before .before .before .fits .trace .sfits) (c .before .before .before .before .before .block .ensures)) ∙ c .before .before .before .b2 .given .1)) .1, (shown (c .before .before .before .before .before .before .before .before .args .buffer .now) (c .before .before .before .before .before .before .before .before .args .n) (c .before .before .before .before .before .before .before .before .args .trace) (c .before .before .before .b2 .given .0 .0) (sym (handed w32 (λ (z : ℤ). blockAlone (c .before .before .before .before .before .before .before .before .args .buffer .now) (c .before .before .before .before .before .before .before .before .args .n) z) (c .before .before .before .before .before .before .before .before .args .trace) (c .before .before .before .before .before .before .before .before .fits .trace .sfits) (c .before .before .before .before .before .block .ensures)) ∙ c .before .before .before .b2 .given .1)) .size)
-
--- src/lib.rt:58:44
-add-sought-2 : tie.Need-add-sought-2
-add-sought-2 c = omega (arith, (area-lies (c .before .before .before .before .before .before .before .before .before .args .buffer .now) (c .before .before .before .before .before .before .before .before .before .args .n) (c .before .before .before .before .before .before .before .before .before .args .trace) (c .before .before .before .before .b2 .given .0 .0) (sym (handed w32 (λ (z : ℤ). blockAlone (c .before .before .before .before .before .before .before .before .before .args .buffer .now) (c .before .before .before .before .before .before .before .before .before .args .n) z) (c .before .before .before .before .before .before .before .before .before .args .trace) (c .before .before .before .before .before .before .before .before .before .fits .trace .sfits) (c .before .before .before .before .before .before .block .ensures)) ∙ c .before .before .before .before .b2 .given .1)) .0, (area-lies (c .before .before .before .before .before .before .before .before .before .args .buffer .now) (c .before .before .before .before .before .before .before .before .before .args .n) (c .before .before .before .before .before .before .before .before .before .args .trace) (c .before .before .before .before .b2 .given .0 .0) (sym (handed w32 (λ (z : ℤ). blockAlone (c .before .before .before .before .before .before .before .before .before .args .buffer .now) (c .before .before .before .before .before .before .before .before .before .args .n) z) (c .before .before .before .before .before .before .before .before .before .args .trace) (c .before .before .before .before .before .before .before .before .before .fits .trace .sfits) (c .before .before .before .before .before .before .block .ensures)) ∙ c .before .before .before .before .b2 .given .1)) .1, (shown (c .before .before .before .before .before .before .before .before .before .args .buffer .now) (c .before .before .before .before .before .before .before .before .before .args .n) (c .before .before .before .before .before .before .before .before .before .args .trace) (c .before .before .before .before .b2 .given .0 .0) (sym (handed w32 (λ (z : ℤ). blockAlone (c .before .before .before .before .before .before .before .before .before .args .buffer .now) (c .before .before .before .before .before .before .before .before .before .args .n) z) (c .before .before .before .before .before .before .before .before .before .args .trace) (c .before .before .before .before .before .before .before .before .before .fits .trace .sfits) (c .before .before .before .before .before .before .block .ensures)) ∙ c .before .before .before .before .b2 .given .1)) .size)
-
--- src/lib.rt:58:13
-sought-requires : tie.Need-sought-requires
-sought-requires c κs = let s = shown (c .before .before .before .before .before .before .before .before .before .args .buffer .now) (c .before .before .before .before .before .before .before .before .before .args .n) (c .before .before .before .before .before .before .before .before .before .args .trace) (c .before .before .before .before .b2 .given .0 .0) (sym (handed w32 (λ (z : ℤ). blockAlone (c .before .before .before .before .before .before .before .before .before .args .buffer .now) (c .before .before .before .before .before .before .before .before .before .args .n) z) (c .before .before .before .before .before .before .before .before .before .args .trace) (c .before .before .before .before .before .before .before .before .before .fits .trace .sfits) (c .before .before .before .before .before .before .block .ensures)) ∙ c .before .before .before .before .b2 .given .1) in let l = area-lies (c .before .before .before .before .before .before .before .before .before .args .buffer .now) (c .before .before .before .before .before .before .before .before .before .args .n) (c .before .before .before .before .before .before .before .before .before .args .trace) (c .before .before .before .before .b2 .given .0 .0) (sym (handed w32 (λ (z : ℤ). blockAlone (c .before .before .before .before .before .before .before .before .before .args .buffer .now) (c .before .before .before .before .before .before .before .before .before .args .n) z) (c .before .before .before .before .before .before .before .before .before .args .trace) (c .before .before .before .before .before .before .before .before .before .fits .trace .sfits) (c .before .before .before .before .before .before .block .ensures)) ∙ c .before .before .before .before .b2 .given .1) in (l .0, l .1, omega (arith, s .size, s .least), s .head .strings, s .head .lines)
-
--- src/lib.rt:50:1
-returns : tie.Need-returns
-returns c = quick-bad (c .before .before .before .before .before .before .args .buffer .now) (c .before .before .before .before .before .before .args .n) (c .before .before .before .before .before .before .args .trace) (c .before .before .before .before .before .before .args .key .now) (sym (handed w32 (λ (z : ℤ). blockAlone (c .before .before .before .before .before .before .args .buffer .now) (c .before .before .before .before .before .before .args .n) z) (c .before .before .before .before .before .before .args .trace) (c .before .before .before .before .before .before .fits .trace .sfits) (c .before .before .before .block .ensures)) ∙ c .before .b .given .1)
-
--- src/lib.rt:50:1
-returns-2 : tie.Need-returns-2
-returns-2 c = quick-told (c .before .before .before .before .before .before .before .before .before .before .args .buffer .now) (c .before .before .before .before .before .before .before .before .before .before .args .n) (c .before .before .before .before .before .before .before .before .before .before .args .trace) (c .before .before .before .before .before .b2 .given .0 .0) (sym (handed w32 (λ (z : ℤ). blockAlone (c .before .before .before .before .before .before .before .before .before .before .args .buffer .now) (c .before .before .before .before .before .before .before .before .before .before .args .n) z) (c .before .before .before .before .before .before .before .before .before .before .args .trace) (c .before .before .before .before .before .before .before .before .before .before .fits .trace .sfits) (c .before .before .before .before .before .before .before .block .ensures)) ∙ c .before .before .before .before .before .b2 .given .1) _ (c .before .before .before .before .before .before .before .before .before .before .args .key .now) (number-plain (shown (c .before .before .before .before .before .before .before .before .before .before .args .buffer .now) (c .before .before .before .before .before .before .before .before .before .before .args .n) (c .before .before .before .before .before .before .before .before .before .before .args .trace) (c .before .before .before .before .before .b2 .given .0 .0) (sym (handed w32 (λ (z : ℤ). blockAlone (c .before .before .before .before .before .before .before .before .before .before .args .buffer .now) (c .before .before .before .before .before .before .before .before .before .before .args .n) z) (c .before .before .before .before .before .before .before .before .before .before .args .trace) (c .before .before .before .before .before .before .before .before .before .before .fits .trace .sfits) (c .before .before .before .before .before .before .before .block .ensures)) ∙ c .before .before .before .before .before .b2 .given .1)) (c .before .before .before .before .before .before .before .before .before .before .fits .trace .sfits)) (c .sought .ensures)
+lies : (c : tie.After-b2)
+    → let args = c .before .before .before .before .before .args in
+    let x = c .b2 .given .0 .0 in
+    (x .p + 32 ≤ x .p + x .b) × (x .p + x .b ≤ length (take (args .n) (args .buffer .now)))
+lies c = area-lies _ _ _ _ (read c)
 
 pub find-spec : {M : Type 1} → statement M
 find-spec =
     tie.close
     (tie.spec
-    block-requires
-    enum-known-b
-    enum-known-b-2
-    cast-k
-    cast-k-2
-    slice-aggregate-sought
-    add-sought
-    add-sought-2
-    sought-requires
-    returns
-    returns-2)
+    (λ c κs. search needs)
+    (λ c. search needs)
+    (λ c. search needs)
+    (λ c.
+    let known = c .before .before .before .before .before in
+    let start = known .before in
+    let by = each-bytes (start .args .buffer .now) (λ i. known .shared-slice-known .given i .fits) in
+    let q = number-casts (alone (c .before)) (start .fits .trace .sfits) by in
+    (q .0, q .1))
+    (λ c.
+    let known = c .before .before .before .before .before in
+    let start = known .before in
+    let by = each-bytes (start .args .buffer .now) (λ i. known .shared-slice-known .given i .fits) in
+    record { fits = number-casts (alone (c .before)) (start .fits .trace .sfits) by .2 })
+    (λ c. sym (alone (c .before .before) .size))
+    (λ c.
+    let b = c .before .before .before in
+    omega (arith, lies b .0, lies b .1, alone b .size))
+    (λ c.
+    let b = c .before .before .before .before in
+    omega (arith, lies b .0, lies b .1, alone b .size))
+    (λ c κs.
+    let b = c .before .before .before .before in
+    let s = alone b in
+    (lies b .0, lies b .1, omega (arith, s .size, s .least), s .head .strings, s .head .lines))
+    (λ c.
+    let at-block = c .before .before .before in
+    let start = at-block .before .before .before in
+    let args = start .args in
+    quick-bad _ _ _ _
+    (sym (handed w32 (λ (z : ℤ). blockAlone (args .buffer .now) (args .n) z) (args .trace) (start .fits .trace .sfits) (at-block .block .ensures))
+    ∙ c .before .b .given .1))
+    (λ c.
+    let b = c .before .before .before .before .before in
+    let start = b .before .before .before .before .before in
+    quick-told _ _ _ _ (read b) _ _ (number-plain (alone b) (start .fits .trace .sfits)) (c .sought .ensures)))

@@ -1,11 +1,11 @@
--- `until::step` meets its contract. Each answer follows from what the frame and its text are. Assumes nothing.
+-- `one_string::step` meets its contract. Each answer follows from what the frame and its text are. Assumes nothing.
 use mathlib.Core.Path.{sym, _∙_}
 use Rattle.strings.specs.Strings.{body, onFrame, stepOf}
 use Rattle.strings.specs.Walks.{in-frame}
 use borrow.Author.Needs.{needs}
 use native.Mathlib.Omega.{arith}
-use Rattle.until.proofs.step.Statement.{statement}
-use Rattle.until.proofs.step.Tie as tie
+use Rattle.one_string.proofs.step.Statement.{statement}
+use Rattle.one_string.proofs.step.Tie as tie
 
 pub step-spec : {M : Type 1} → statement M
 unfolding body onFrame stepOf

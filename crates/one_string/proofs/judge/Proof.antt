@@ -1,4 +1,4 @@
--- `until::judge` meets its contract. Each answer has its law. Assumes nothing.
+-- `one_string::judge` meets its contract. Each answer has its law. Assumes nothing.
 use mathlib.Core.Path.{sym, _∙_}
 use lib.Seq.{length-take-le}
 use borrow.Author.Tests.{not-true, not-false}
@@ -6,8 +6,8 @@ use Rattle.word.specs.Part.{part-rest}
 use Rattle.strings.specs.Texts.{judged-none, judged-char, judged-value, judged-order, judged-good}
 use borrow.Author.Needs.{needs}
 use native.Mathlib.Omega.{arith}
-use Rattle.until.proofs.judge.Statement.{statement}
-use Rattle.until.proofs.judge.Tie as tie
+use Rattle.one_string.proofs.judge.Statement.{statement}
+use Rattle.one_string.proofs.judge.Tie as tie
 
 pub judge-spec : {M : Type 1} → statement M
 judge-spec =

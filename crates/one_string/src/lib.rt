@@ -1,0 +1,71 @@
+// One string of an area, for a search that ends before the area does (document 02, §5): rows 14 to 17, by the definitions of
+// `strings`, once more in code. A function with one caller becomes part of it; `strings::step_at`, called by the search too,
+// would be a call of its own in the check of every area, and each call on a file would need more stack (docs/DECISIONS.md,
+// "One trace, quickly"). Stands on `strings`, `note`, `text`. t is the string terminator, u the line terminator, `high` the
+// byte order.
+// The rules in words: docs/FORMAT.md, "Strings".
+use chars::Kind;
+use refusal::Part;
+use refusal::Refusal;
+use refusal::Rule;
+use strings::Frame;
+use strings::Judged;
+use strings::Step;
+use text::Manner;
+ghost use mathlib.Core.Path.{_≡_};
+ghost use Prim.Native.Nat.{_<_};
+ghost use lib.ListN.{length};
+ghost use Rattle.strings.specs.Strings.{judgedOf, stepOf};
+
+// Rows 16 and 17 of what stands between the offset and the terminator; prev is the keyword before.
+fn judge(b: &[u8], u: &[u8], prev: &[u8]) -> Judged
+    requires { ⌜ 0 < length (now u) ⌝ }
+    ensures { λ r. ⌜ r ≡ judgedOf Manner.Strict (now (u .entry)) (now (prev .entry)) (now (b .entry)) ⌝ }
+{
+    let n = text::key_run(b, Manner::Strict);
+    if n == 0 {
+        return Judged::Wrong(Rule::Character);
+    }
+    let r = &b[n..];
+    let g = chars::run(Kind::Blank, r);
+    if (g == 0) & (0 < r.len()) {
+        return Judged::Wrong(Rule::Character);
+    }
+    let k = &b[..n];
+    if !note::value_ok(u, k, &r[g..], Manner::Strict) {
+        return Judged::Wrong(Rule::Character);
+    }
+    if !text::following(prev, k, Manner::Strict) {
+        return Judged::Wrong(Rule::KeywordOrder);
+    }
+    Judged::Keyword(n)
+}
+
+// Rows 14 to 17 of the string that l starts with, which stands at place `at` of the file.
+pub fn step(l: &[u8], high: bool, t: &[u8], u: &[u8], whose: Part, prev: &[u8], at: usize) -> Step
+    requires { ⌜ 0 < length (now u) ⌝ }
+    ensures { λ r. ⌜ r ≡ stepOf Manner.Strict high (now (t .entry)) (now (u .entry)) whose (now (prev .entry))
+        (now (l .entry)) at ⌝ }
+{
+    let s = strings::framed(l, high, t, Manner::Strict);
+    match s {
+        Frame::End => Step::Done,
+        Frame::Broken(rule) => Step::Bad(Refusal {
+            rule,
+            part: whose,
+            place: at,
+        }),
+        Frame::Text(o) => {
+            let end = o - t.len();
+            let j = judge(&l[2..end], u, prev);
+            match j {
+                Judged::Keyword(n) => Step::Next(o, n),
+                Judged::Wrong(rule) => Step::Bad(Refusal {
+                    rule,
+                    part: whose,
+                    place: at,
+                }),
+            }
+        }
+    }
+}
