@@ -60,7 +60,7 @@ fn all_value_pairs(a: u8, b: u8, s: &[u8]) -> bool
 
 // `all_lines` for every terminator. One is passed over whole. A file's terminator starts with no value character, so
 // one is asked for only where a character is none.
-fn walk_lines(u: &[u8], s: &[u8]) -> bool
+pub fn walk_lines(u: &[u8], s: &[u8]) -> bool
     requires { ⌜ 0 < length (now u) ⌝ }
     ensures { λ r. ⌜ r ≡ lines (now (u .entry)) 0 (now (s .entry)) ⌝ }
 {

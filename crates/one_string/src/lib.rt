@@ -1,7 +1,7 @@
 // One string of an area, for a search that ends before the area does (document 02, §5): rows 14 to 17, by the definitions of
-// `strings`, once more in code. A function with one caller becomes part of it; `strings::step_at`, called by the search too,
-// would be a call of its own in the check of every area, and each call on a file would need more stack (docs/DECISIONS.md,
-// "One trace, quickly"). Stands on `strings`, `note`, `text`. t is the string terminator, u the line terminator, `high` the
+// `strings`, once more in code. A function with one caller becomes part of it; `strings::step_at` and what it calls, called by
+// the search too, would be calls of their own in the check of every area, which would be slower and need more stack
+// (docs/DECISIONS.md, "Document 02, §5"). Stands on `strings`, `note`, `text`. t is the string terminator, u the line terminator, `high` the
 // byte order.
 // The rules in words: docs/FORMAT.md, "Strings".
 use chars::Kind;
@@ -15,7 +15,19 @@ use text::Manner;
 ghost use mathlib.Core.Path.{_≡_};
 ghost use Prim.Native.Nat.{_<_};
 ghost use lib.ListN.{length};
+ghost use Rattle.note.specs.Note.{valueOk};
 ghost use Rattle.strings.specs.Strings.{judgedOf, stepOf};
+
+// Whether v may be the value of the keyword k.
+fn is_value(u: &[u8], k: &[u8], v: &[u8]) -> bool
+    requires { ⌜ 0 < length (now u) ⌝ }
+    ensures { λ r. ⌜ r ≡ valueOk (now (u .entry)) (now (k .entry)) (now (v .entry)) ⌝ }
+{
+    if text::is_note(k) {
+        return note::walk_lines(u, v);
+    }
+    chars::all(Kind::Value, v)
+}
 
 // Rows 16 and 17 of what stands between the offset and the terminator; prev is the keyword before.
 fn judge(b: &[u8], u: &[u8], prev: &[u8]) -> Judged
@@ -32,10 +44,10 @@ fn judge(b: &[u8], u: &[u8], prev: &[u8]) -> Judged
         return Judged::Wrong(Rule::Character);
     }
     let k = &b[..n];
-    if !note::value_ok(u, k, &r[g..], Manner::Strict) {
+    if !is_value(u, k, &r[g..]) {
         return Judged::Wrong(Rule::Character);
     }
-    if !text::following(prev, k, Manner::Strict) {
+    if !text::rising(prev, k) {
         return Judged::Wrong(Rule::KeywordOrder);
     }
     Judged::Keyword(n)

@@ -40,7 +40,7 @@
 //! # Threads and stack
 //!
 //! The library has no state: any number of threads may use it. 32 KiB of stack are
-//! enough for every call; a call of the proved library needs less than 1 KiB of them.
+//! enough for every call; a call of the proved library needs at most 1 KiB of them.
 #![deny(missing_docs)]
 #![deny(unsafe_code)]
 

@@ -29,30 +29,30 @@ judge-spec =
     (λ c. search needs)
     (λ c κs. search needs)
     (λ c.
-    let at-value-ok = c .before in
-    let at-if2 = at-value-ok .before .before .before in
+    let at-is-value = c .before in
+    let at-if2 = at-is-value .before .before .before in
     let at-run = at-if2 .before in
     let at-key-run = at-run .before .before .before in
     judged-value _ _ _ _ _ (at-key-run .key-run .ensures .0) _ (rw part-rest at (at-run .run .ensures .0)) (omega arith) (rw part-rest at
-    (at-if2 .if2 .left)) ((rw (part-rest, part-rest) at (sym (at-value-ok .value-ok .ensures))) ∙ not-true _ (c .if3 .taken)))
+    (at-if2 .if2 .left)) ((rw (part-rest, part-rest) at (sym (at-is-value .is-value .ensures))) ∙ not-true _ (c .if3 .taken)))
     (λ c κs. search needs)
     (λ c.
-    let at-following = c .before in
-    let at-if3 = at-following .before in
-    let at-value-ok = at-if3 .before in
-    let at-if2 = at-value-ok .before .before .before in
+    let at-rising = c .before in
+    let at-if3 = at-rising .before in
+    let at-is-value = at-if3 .before in
+    let at-if2 = at-is-value .before .before .before in
     let at-run = at-if2 .before in
     let at-key-run = at-run .before .before .before in
     judged-order _ _ _ _ _ (at-key-run .key-run .ensures .0) _ (rw part-rest at (at-run .run .ensures .0)) (omega arith) (rw part-rest at
-    (at-if2 .if2 .left)) ((rw (part-rest, part-rest) at (sym (at-value-ok .value-ok .ensures))) ∙ not-false _ (at-if3 .if3 .left)) (sym
-    (at-following .following .ensures) ∙ not-true _ (c .if4 .taken)))
+    (at-if2 .if2 .left)) ((rw (part-rest, part-rest) at (sym (at-is-value .is-value .ensures))) ∙ not-false _ (at-if3 .if3 .left)) (sym
+    (at-rising .rising .ensures) ∙ not-true _ (c .if4 .taken)))
     (λ c.
-    let at-following = c .before in
-    let at-if3 = at-following .before in
-    let at-value-ok = at-if3 .before in
-    let at-if2 = at-value-ok .before .before .before in
+    let at-rising = c .before in
+    let at-if3 = at-rising .before in
+    let at-is-value = at-if3 .before in
+    let at-if2 = at-is-value .before .before .before in
     let at-run = at-if2 .before in
     let at-key-run = at-run .before .before .before in
     judged-good _ _ _ _ _ (at-key-run .key-run .ensures .0) _ (rw part-rest at (at-run .run .ensures .0)) (omega arith) (rw part-rest at
-    (at-if2 .if2 .left)) ((rw (part-rest, part-rest) at (sym (at-value-ok .value-ok .ensures))) ∙ not-false _ (at-if3 .if3 .left)) (sym
-    (at-following .following .ensures) ∙ not-false _ (c .if4 .left))))
+    (at-if2 .if2 .left)) ((rw (part-rest, part-rest) at (sym (at-is-value .is-value .ensures))) ∙ not-false _ (at-if3 .if3 .left)) (sym
+    (at-rising .rising .ensures) ∙ not-false _ (c .if4 .left))))
