@@ -1,7 +1,7 @@
 -- Document 02 §5, one trace, quickly: "On every file that the full check accepts, the answer equals the full one. It is
 -- asked of traces only. Two inputs of equal image and buffer length that agree on these bytes get the same answer,
--- refusals and places included. .. Refusals: those of 01 for the bytes read, in 01's order, with 18 between 7 and 8; 8 here
--- means no multiple of 4, below 32+M, or p+32 past the end." xs is the lent buffer, n the length given beside it.
+-- refusals and places included. .. Refusals: those of 01 for the bytes read, in 01's order, with 18 between 7 and 8; 8
+-- here means no multiple of 4, below 32+M, or p+32 past the end." xs is the lent buffer, n the length given beside it.
 -- Assumes nothing.
 use mathlib.Core.Path.{_≡_, refl, sym, ap, ap₂, _∙_}
 use mathlib.Core.Bool.{Bool, true, false, not}
@@ -65,7 +65,8 @@ quick-equals-full xs n ok k key =
     (ap asKeyword (keyword-full xs n ok k key), ap asValue (find-full xs n ok k key), v .0, v .1)
 
 -- ---- "Two inputs of equal image and buffer length that agree on these bytes get the same answer, refusals and places
--- included": the bytes are those that one of the two names (shortcut/Read `bytesRead`). Rules out a look at any other byte.
+-- included": the bytes are those that one of the two names (shortcut/Read `bytesRead`). Rules out a look at any other
+-- byte.
 pub same-bytes-same-answer : (xs ys : List ℕ) (n : ℕ) (z : ℤ) (key : List ℕ) → length xs ≡ length ys
     → Agree (take n xs) (take n ys) (bytesRead xs n z key)
     → (asKeyword (quickKeyword xs n z key) ≡ asKeyword (quickKeyword ys n z key))
@@ -75,9 +76,9 @@ pub same-bytes-same-answer : (xs ys : List ℕ) (n : ℕ) (z : ℤ) (key : List 
 same-bytes-same-answer xs ys n z key long a =
     (ap asKeyword (keyword-same xs ys n z key long a), ap asValue (find-same xs ys n z key long a), value-same xs ys n z key long a, span-same xs ys n z key long a)
 
--- the bytes read are those that document 02 names and no others: "the file block's first 32 bytes, pointer k, the first 32
--- bytes of that trace's block", and bytes of its own strings, from the first on. Rules out a definition of the bytes read
--- that has the whole file.
+-- the bytes read are those that document 02 names and no others: "the file block's first 32 bytes, pointer k, the first
+-- 32 bytes of that trace's block", and bytes of its own strings, from the first on. Rules out a definition of the bytes
+-- read that has the whole file.
 pub reads-no-more : (xs : List ℕ) (n : ℕ) (z : ℤ) (key : List ℕ) → AllNamed (take n xs) (traceNumber z) (bytesRead xs n z key)
 reads-no-more = read-named
 
@@ -212,8 +213,8 @@ rows-first xs n z key =
     ∙ sym (first-more heads (gone ∷ eight ∷ (blocks ++ strings))))
     ∙ sym (first-next one (heads ++ (gone ∷ eight ∷ (blocks ++ strings))))
 
--- the answer refuses by the first row that is met, and else not at all. Rules out 18 before 7 or behind 8, a pointer that is
--- compared with the trace before, a string that is not judged, and 34.
+-- the answer refuses by the first row that is met, and else not at all. Rules out 18 before 7 or behind 8, a pointer
+-- that is compared with the trace before, a string that is not judged, and 34.
 pub quick-answers-first : (xs : List ℕ) (n : ℕ) (z : ℤ) (key : List ℕ) → refusalOf (quickFind xs n z key) ≡ firstOf (quickRows xs n z key)
 unfolding quickFind andThen
 quick-answers-first xs n z key = outside (aloneOf xs n z) (soughtIn (take n xs) (traceNumber z) key) ∙ rows-first xs n z key
@@ -228,8 +229,8 @@ pub quick-refuses-by-the-first : (xs : List ℕ) (n : ℕ) (z : ℤ) (key : List
     → (refusalOf (quickFind xs n z key) ≡ Refused r) ↔ Met (quickRows xs n z key) r
 quick-refuses-by-the-first xs n z key r = rw (quick-answers-first xs n z key) (refused-by-the-first (quickRows xs n z key) r)
 
--- "It is asked of traces only": -1, the file, and every other number below 0 is 18, behind 1 to 7. Rules out the file's own
--- value for -1.
+-- "It is asked of traces only": -1, the file, and every other number below 0 is 18, behind 1 to 7. Rules out the file's
+-- own value for -1.
 pub traces-only : (xs : List ℕ) (n j : ℕ) (key : List ℕ) → badLength (length xs) n ≡ false → headOf Read (take 32 (take n xs)) (length (take n xs)) ≡ Accepted
     → quickFind xs n (negsuc j) key ≡ string.Refused noTrace
 unfolding quickFind aloneOf firstOf

@@ -1,8 +1,8 @@
 // The check of a whole file (document 01, rows 1 to 17, in the order of its table; document 02, row 34). Image has the
-// rows in their order, Walk how the code goes through them, Keeps the rules in no order; Accepted proves that an image is
-// accepted exactly where it keeps the rules. Stands on `head`, `trace`, `block`, `seek`. f is the image, the first
-// `n` bytes of the lent buffer; t and u are its terminators, `how` is the manner of reading. Each part of the check hands
-// on what it read, and each string is read once.
+// rows in their order, Walk how the code goes through them, Keeps the rules in no order; Accepted proves that an image
+// is accepted exactly where it keeps the rules. Stands on `head`, `trace`, `block`, `seek`. f is the image, the first
+// `n` bytes of the lent buffer; t and u are its terminators, `how` is the manner of reading. Each part of the check
+// hands on what it read, and each string is read once.
 // The rules in words: docs/FORMAT.md, "Refusal numbers, in order of checking".
 use head::FileAnswer;
 use head::FileBlock;

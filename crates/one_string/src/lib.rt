@@ -1,8 +1,8 @@
-// One string of an area, for a search that ends before the area does (document 02, §5): rows 14 to 17, by the definitions of
-// `strings`, once more in code. A function with one caller becomes part of it; `strings::step_at` and what it calls, called by
-// the search too, would be calls of their own in the check of every area, which would be slower and need more stack
-// (docs/DECISIONS.md, "Document 02, §5"). Stands on `strings`, `note`, `text`. t is the string terminator, u the line terminator, `high` the
-// byte order.
+// One string of an area, for a search that ends before the area does (document 02, §5): rows 14 to 17, by the
+// definitions of `strings`, once more in code. A function with one caller becomes part of it; `strings::step_at` and
+// what it calls, called by the search too, would be calls of their own in the check of every area, which would be
+// slower and need more stack (docs/DECISIONS.md, "Document 02, §5"). Stands on `strings`, `note`, `text`. t is the
+// string terminator, u the line terminator, `high` the byte order.
 // The rules in words: docs/FORMAT.md, "Strings".
 use chars::Kind;
 use refusal::Part;

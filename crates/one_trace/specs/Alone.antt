@@ -1,6 +1,6 @@
--- One trace by itself (document 02 §5): "Refusals: those of 01 for the bytes read, in 01's order, with 18 between 7 and 8;
--- 8 here means no multiple of 4, below 32+M, or p+32 past the end". xs is the lent buffer, n the length given beside it,
--- f the image: the first n bytes.
+-- One trace by itself (document 02 §5): "Refusals: those of 01 for the bytes read, in 01's order, with 18 between 7 and
+-- 8; 8 here means no multiple of 4, below 32+M, or p+32 past the end". xs is the lent buffer, n the length given beside
+-- it, f the image: the first n bytes.
 -- Assumes nothing.
 use mathlib.Core.Bool.{Bool, not}
 use mathlib.Core.List.{List, [], _∷_}

@@ -74,8 +74,8 @@ fn taken(f: &[u8], first: bool, high: bool, sheet: &[u8]) -> Measured
     }
 }
 
-// Rows 1 to 17 and 34 of a file that is to grow. A function, so that the memory that the answer comes back in is given back
-// before the sheet.
+// Rows 1 to 17 and 34 of a file that is to grow. A function, so that the memory that the answer comes back in is given
+// back before the sheet.
 fn checked(buffer: &[u8], n: usize) -> Verdict
     ensures { λ r. ⌜ r ≡ checkOf Manner.Strict Purpose.Grow (now (buffer .entry)) n ⌝ }
 {

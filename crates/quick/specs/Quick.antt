@@ -1,6 +1,6 @@
--- The keyword of one trace, quickly (document 02 §5): "a question that reads the file block's first 32 bytes, pointer k,
--- the first 32 bytes of that trace's block, and its strings in order only until the keyword is found or passed". xs is the
--- lent buffer, n the length given beside it, f the image: the first n bytes. The rows before the strings are
+-- The keyword of one trace, quickly (document 02 §5): "a question that reads the file block's first 32 bytes, pointer
+-- k, the first 32 bytes of that trace's block, and its strings in order only until the keyword is found or passed". xs
+-- is the lent buffer, n the length given beside it, f the image: the first n bytes. The rows before the strings are
 -- one_trace/Alone, the search is until/Until; which bytes are read is shortcut/Read.
 -- Assumes nothing.
 use mathlib.Core.List.{List}

@@ -1,8 +1,8 @@
 // The keyword of one trace, quickly (document 02, §5): a question that does not check the whole file. It reads the file
-// block's first 32 bytes, the trace's pointer, the first 32 bytes of its block, and its strings until the keyword is found
-// or passed; its time does not grow with the number of traces. It may answer on a file that the check refuses; on every
-// file that the check accepts it answers as the full question (`shortcut`). Quick has the definitions. Stands
-// on `one_trace`, `until`, `values`.
+// block's first 32 bytes, the trace's pointer, the first 32 bytes of its block, and its strings until the keyword is
+// found or passed; its time does not grow with the number of traces. It may answer on a file that the check refuses; on
+// every file that the check accepts it answers as the full question (`shortcut`). Quick has the definitions. Stands on
+// `one_trace`, `until`, `values`.
 // The rules in words: docs/FORMAT.md, "One trace, quickly".
 use block::TraceAnswer;
 use reader::KeywordAnswer;

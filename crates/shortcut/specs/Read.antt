@@ -1,6 +1,6 @@
--- The bytes that the quick question reads (document 02 §5): "the file block's first 32 bytes, pointer k, the first 32 bytes
--- of that trace's block, and its strings in order only until the keyword is found or passed (that string is read whole and
--- checked)". xs is the lent buffer, n the length given beside it, f the image: the first n bytes.
+-- The bytes that the quick question reads (document 02 §5): "the file block's first 32 bytes, pointer k, the first 32
+-- bytes of that trace's block, and its strings in order only until the keyword is found or passed (that string is read
+-- whole and checked)". xs is the lent buffer, n the length given beside it, f the image: the first n bytes.
 -- Assumes nothing.
 use mathlib.Core.Path.{_≡_}
 use mathlib.Core.Bool.{Bool, not, _&&_}
@@ -31,8 +31,8 @@ use Rattle.reader.specs.Questions.{isTrace, traceNumber}
 
 -- ---- of the strings: as many bytes of their area, the first (the arguments are until/Until's)
 
--- of a string "its offset (none where fewer than 2 bytes are left), and where rows of 14 on the offset pass, the string to
--- its end"; an offset of 0 ends the list
+-- of a string "its offset (none where fewer than 2 bytes are left), and where rows of 14 on the offset pass, the string
+-- to its end"; an offset of 0 ends the list
 abbrev pub reaches : Bool → List ℕ → List ℕ → Bool
 reaches high t l = leb (3 + length t) (offset high l) && leb (offset high l) (length l)
 
@@ -63,8 +63,8 @@ abbrev pub behind : Verdict → ℕ × ℕ → List (ℕ × ℕ) → List (ℕ �
 behind Accepted s rest = s ∷ rest
 behind (Refused r) s rest = []
 
--- behind row 1 the file block's first 32 bytes; behind 2 to 7 and 18 pointer k; behind 8 the block's first 32; behind 9 to
--- 13 the strings
+-- behind row 1 the file block's first 32 bytes; behind 2 to 7 and 18 pointer k; behind 8 the block's first 32; behind 9
+-- to 13 the strings
 unfoldable pub bytesRead : List ℕ → ℕ → ℤ → List ℕ → List (ℕ × ℕ)
 bytesRead xs n z key =
     let f = take n xs in

@@ -62,8 +62,8 @@ fn numbered(
     Traced::Through(end, all)
 }
 
-// Rows 9 to 13 of the trace k, whose block begins at p, and the block. A function, so that the memory that the answer comes
-// back in is given back before the strings.
+// Rows 9 to 13 of the trace k, whose block begins at p, and the block. A function, so that the memory that the answer
+// comes back in is given back before the strings.
 fn block_of(f: &[u8], high: bool, k: u16, p: usize) -> TraceAnswer
     requires { ⌜ (p < 4294967296) × (p + 32 ≤ length (now f)) ⌝ }
     ensures { λ r. ⌜ r ≡ blockAnswer high (headAt (now (f .entry)) p) (length (now (f .entry))) k p ⌝ }

@@ -1,8 +1,8 @@
 -- The strings of an area in order, until a keyword is found or passed: "its strings in order only until the keyword is
--- found or passed (that string is read whole and checked); NOTE is sought to the end" (document 02 §5). The step is that
--- of the check (strings/Strings `stepOf`: rows 14 to 17), with a stop. Every definition is on the bytes l that are left of
--- the area; `at` is their place in the file. key is the asked keyword, of any bytes; prev the keyword before, the empty
--- one before the first; t is the string terminator, u the line terminator, `high` the byte order.
+-- found or passed (that string is read whole and checked); NOTE is sought to the end" (document 02 §5). The step is
+-- that of the check (strings/Strings `stepOf`: rows 14 to 17), with a stop. Every definition is on the bytes l that are
+-- left of the area; `at` is their place in the file. key is the asked keyword, of any bytes; prev the keyword before,
+-- the empty one before the first; t is the string terminator, u the line terminator, `high` the byte order.
 -- Assumes nothing.
 use mathlib.Core.Bool.{Bool}
 use mathlib.Core.List.{List, []}

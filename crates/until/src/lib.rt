@@ -1,7 +1,7 @@
 // The strings of an area in order, until a keyword is found or passed (document 02, §5). Each string that is come to is
 // read whole and judged by rows 14 to 17, that which ends the search too; what stands behind it is not looked at. Until
-// has the definitions, Turns a law for each turn of the loop. Stands on `one_string`, `strings`, `text`. An area is the bytes of a file
-// from place a to place e; t is the string terminator, u the line terminator, `high` the byte order.
+// has the definitions, Turns a law for each turn of the loop. Stands on `one_string`, `strings`, `text`. An area is the
+// bytes of a file from place a to place e; t is the string terminator, u the line terminator, `high` the byte order.
 // The rules in words: docs/FORMAT.md, "One trace, quickly".
 use chars::Kind;
 use refusal::Part;
@@ -37,8 +37,8 @@ fn place(f: &[u8], e: usize, t: &[u8], at: usize, gap: usize, size: usize) -> Pl
     }
 }
 
-// The search for a keyword in the area from a to e of f. The keyword before is the file's own bytes from k to g. Any bytes
-// may be asked for.
+// The search for a keyword in the area from a to e of f. The keyword before is the file's own bytes from k to g. Any
+// bytes may be asked for.
 pub fn find(
     f: &[u8],
     a: usize,
