@@ -1,18 +1,20 @@
--- `until::find` meets its contract. The invariant: the search from here answers as the search of the whole area. Assumes
--- nothing.
+-- `until::find` meets its contract. The invariant: the search from here answers as the search of the whole area.
+-- Assumes nothing.
 use mathlib.Core.Path.{_≡_, sym, ap, _∙_}
 use Prim.Native.Nat.{ℕ, _≤_, _-_, _+_, _<_}
 use native.Mathlib.Nat.{le-of-eq}
+use native.Mathlib.Omega.{arith}
 use lib.ListN.{length}
 use Rattle.word.specs.Part.{part, length-part}
 use Rattle.text.specs.declared.Manner.the-variants.{Strict}
+use Rattle.strings.specs.declared.Step.the-variants.{Next}
+use Rattle.strings.specs.Strings.{stepOf}
 use Rattle.strings.specs.Walks.{turn-fits}
 use Rattle.strings.specs.Passed.{seen-lies}
 use Rattle.until.specs.declared.Sought.the-variants as sought
 use Rattle.until.specs.Until.{soughtFrom, soughtOf}
 use Rattle.until.specs.Turns.{sought-start, sought-none, sought-over, sought-bad, sought-done, sought-found, sought-passed, sought-next}
 use borrow.Author.Needs.{needs}
-use native.Mathlib.Omega.{arith}
 use Rattle.until.proofs.find.Statement.{statement}
 use Rattle.until.proofs.find.Tie as tie
 
@@ -24,6 +26,29 @@ Inv-loop f a e high t u whose key at₀ k₀ g₀ at k g =
 abbrev μ-loop : tie.MeasureT-loop
 μ-loop f a e high t u whose key at₀ k₀ g₀ at k g = e - at
 
+-- the step past a string, as it was answered
+passing : (c : tie.After-s2 Inv-loop μ-loop)
+    → let at-loop = c .before .before .before .before .before .before in
+    let args = at-loop .before .before .before .before .before .before .args in
+    let l = at-loop .loop in
+    let string = c .s2 .given .0 in
+    stepOf Strict (args .high) (args .t .now) (args .u .now) (args .whose) (part (l .k) (l .g) (args .f .now)) (part (l .at) (args .e) (args .f .now)) (l .at)
+    ≡ Next (string .0) (string .1 .0)
+passing c = sym (c .before .before .step .ensures) ∙ c .s2 .given .1
+
+-- the string has bytes, and it and its keyword end in the area
+fits : (c : tie.After-s2 Inv-loop μ-loop)
+    → let at-loop = c .before .before .before .before .before .before in
+    let e = at-loop .before .before .before .before .before .before .args .e in
+    let string = c .s2 .given .0 in
+    (0 < string .0) × (at-loop .loop .at + string .0 ≤ e) × (at-loop .loop .at + 2 + string .1 .0 ≤ e)
+fits c =
+    let at-loop-test = c .before .before .before .before .before in
+    let l = at-loop-test .before .loop in
+    let start = at-loop-test .before .before .before .before .before .before .before in
+    turn-fits _ _ _ _ _ (start .args .f .now) (start .args .e) (l .at) (l .k) (l .g) (l .inv .4 .0) (at-loop-test .loop-test .taken) (start .pre .1)
+    (l .inv .4 .1) _ _ (passing c)
+
 pub find-spec : {M : Type 1} → statement M
 find-spec =
     tie.close
@@ -31,20 +56,19 @@ find-spec =
     Inv-loop
     μ-loop
     (λ c.
-    let c5 = c .before .before .before .before .before in
-    sought-none _ _ _ _ _ (c5 .args .f .now) (c5 .args .e) (c5 .args .a) (c .if1 .taken))
+    let args = c .before .before .before .before .before .args in
+    sought-none _ _ _ _ _ (args .f .now) (args .e) (args .a) (c .if1 .taken))
     (λ c.
-    let c5 = c .before .before .before .before .before in (
+    let start = c .before .before .before .before .before in
+    let s = start .args in (
       search needs,
       search needs,
       search needs,
       search needs,
       (
-        length (part (c5 .args .a) (c5 .args .e) (c5 .args .f .now)),
-        le-of-eq (sym (length-part
-            (c5 .args .a) (c5 .args .e) (c5 .args .f .now) (c5 .pre .1))),
-        sought-start _ _ _ _ _ (c5 .args .f .now) (c5 .args .e) (c5 .args .a) (c .if1
-            .left) (c5 .pre .1),
+        length (part (s .a) (s .e) (s .f .now)),
+        le-of-eq (sym (length-part (s .a) (s .e) (s .f .now) (start .pre .1))),
+        sought-start _ _ _ _ _ (s .f .now) (s .e) (s .a) (c .if1 .left) (start .pre .1),
       ),
     ))
     (λ c. search needs)
@@ -56,160 +80,79 @@ find-spec =
     (λ c κs. search needs)
     (λ c. search needs)
     (λ c.
-    let c3 = c .before .before .before in
-    let c6 = c3 .before .before .before in
-    let c7 = c6 .before in
-    let c13 = c7 .before .before .before .before .before .before in
-    sought-bad _ _ _ _ _ (c13 .args .f .now) (c13 .args .e) (c7 .loop .at) (c7 .loop .k) (c7 .loop .g) (c7 .loop .inv .4 .0) (c6 .loop-test .taken)
-    (c13 .pre .1) (c7 .loop .inv .4 .1) (sym (c3 .step .ensures) ∙ c .before .s .given .1) ∙ c7 .loop .inv .4 .2)
+    let at-step = c .before .before .before in
+    let at-loop-test = at-step .before .before .before in
+    let l = at-loop-test .before .loop in
+    let start = at-loop-test .before .before .before .before .before .before .before in
+    sought-bad _ _ _ _ _ (start .args .f .now) (start .args .e) (l .at) (l .k) (l .g) (l .inv .4 .0) (at-loop-test .loop-test .taken) (start .pre .1)
+    (l .inv .4 .1) (sym (at-step .step .ensures) ∙ c .before .s .given .1)
+    ∙ l .inv .4 .2)
     (λ c. search needs)
     (λ c.
-    let c5 = c .before .before .before .before .before in
-    let c6 = c5 .before in
-    let c12 = c6 .before .before .before .before .before .before in
-    sought-done _ _ _ _ _ (c12 .args .f .now) (c12 .args .e) (c6 .loop .at) (c6 .loop .k) (c6 .loop .g) (c6 .loop .inv .4 .0) (c5 .loop-test .taken)
-    (c12 .pre .1) (c6 .loop .inv .4 .1) (sym (c .before .before .step .ensures) ∙ c .enum-told .given .1) ∙ c6 .loop .inv .4 .2)
+    let at-step = c .before .before in
+    let at-loop-test = at-step .before .before .before in
+    let l = at-loop-test .before .loop in
+    let start = at-loop-test .before .before .before .before .before .before .before in
+    sought-done _ _ _ _ _ (start .args .f .now) (start .args .e) (l .at) (l .k) (l .g) (l .inv .4 .0) (at-loop-test .loop-test .taken) (start .pre .1)
+    (l .inv .4 .1) (sym (at-step .step .ensures) ∙ c .enum-told .given .1)
+    ∙ l .inv .4 .2)
     (λ c. search needs)
-    (λ c.
-    let c3 = c .before .before .before in
-    let c6 = c3 .before .before .before in
-    let c7 = c6 .before in
-    let c13 = c7 .before .before .before .before .before .before in
-    let b = turn-fits Strict _ _ _ _ (c13 .args .f .now) (c13 .args .e) (c7 .loop .at) (c7 .loop .k) (c7 .loop .g) (c7 .loop .inv .4 .0) (c6
-    .loop-test .taken) (c13 .pre .1) (c7 .loop .inv .4 .1) _ _ (sym (c3 .step .ensures) ∙ c .before .s2 .given .1) in
-    omega (arith, b .0, b .1, b .2))
-    (λ c.
-    let c3 = c .before .before .before in
-    let c6 = c3 .before .before .before in
-    let c7 = c6 .before in
-    let c13 = c7 .before .before .before .before .before .before in
-    let b = turn-fits Strict _ _ _ _ (c13 .args .f .now) (c13 .args .e) (c7 .loop .at) (c7 .loop .k) (c7 .loop .g) (c7 .loop .inv .4 .0) (c6
-    .loop-test .taken) (c13 .pre .1) (c7 .loop .inv .4 .1) _ _ (sym (c3 .step .ensures) ∙ c .before .s2 .given .1) in
-    omega (arith, b .0, b .1, b .2))
-    (λ c.
-    let c3 = c .before .before .before in
-    let c6 = c3 .before .before .before in
-    let c7 = c6 .before in
-    let c13 = c7 .before .before .before .before .before .before in
-    let b = turn-fits Strict _ _ _ _ (c13 .args .f .now) (c13 .args .e) (c7 .loop .at) (c7 .loop .k) (c7 .loop .g) (c7 .loop .inv .4 .0) (c6
-    .loop-test .taken) (c13 .pre .1) (c7 .loop .inv .4 .1) _ _ (sym (c3 .step .ensures) ∙ c .before .s2 .given .1) in
-    omega (arith, b .0, b .1, b .2))
-    (λ c.
-    let c3 = c .before .before .before in
-    let c6 = c3 .before .before .before in
-    let c7 = c6 .before in
-    let c13 = c7 .before .before .before .before .before .before in
-    let b = turn-fits Strict _ _ _ _ (c13 .args .f .now) (c13 .args .e) (c7 .loop .at) (c7 .loop .k) (c7 .loop .g) (c7 .loop .inv .4 .0) (c6
-    .loop-test .taken) (c13 .pre .1) (c7 .loop .inv .4 .1) _ _ (sym (c3 .step .ensures) ∙ c .before .s2 .given .1) in
-    omega (arith, b .0, b .1, b .2))
-    (λ c.
-    let c3 = c .before .before .before in
-    let c6 = c3 .before .before .before in
-    let c7 = c6 .before in
-    let c13 = c7 .before .before .before .before .before .before in
-    let b = turn-fits Strict _ _ _ _ (c13 .args .f .now) (c13 .args .e) (c7 .loop .at) (c7 .loop .k) (c7 .loop .g) (c7 .loop .inv .4 .0) (c6
-    .loop-test .taken) (c13 .pre .1) (c7 .loop .inv .4 .1) _ _ (sym (c3 .step .ensures) ∙ c .before .s2 .given .1) in
-    omega (arith, b .0, b .1, b .2))
+    (λ c. let b = fits (c .before) in omega (arith, b .0, b .1, b .2))
+    (λ c. let b = fits (c .before) in omega (arith, b .0, b .1, b .2))
+    (λ c. let b = fits (c .before) in omega (arith, b .0, b .1, b .2))
+    (λ c. let b = fits (c .before) in omega (arith, b .0, b .1, b .2))
+    (λ c. let b = fits (c .before) in omega (arith, b .0, b .1, b .2))
     (λ c κs. search needs)
     (λ c κs.
-    let c4 = c .before .before .before .before in
-    let c6 = c4 .before .before in
-    let c10 = c6 .before .before .before .before in
-    let c16 = c10 .before .before .before .before .before .before in (
-      c16 .pre .1,
-      seen-lies Strict _ _ _ _ _ (c16 .args .f .now) (c16 .args .e) (c10 .loop .at) _ _ (c16 .pre .1) (sym (c6 .step .ensures) ∙ c4 .s2
-          .given .1),
-    ))
+    let at-s2 = c .before .before .before .before in
+    let at-loop = at-s2 .before .before .before .before .before .before in
+    let start = at-loop .before .before .before .before .before .before in
+    (start .pre .1, seen-lies _ _ _ _ _ _ (start .args .f .now) (start .args .e) (at-loop .loop .at) _ _ (start .pre .1) (passing at-s2)))
     (λ c.
-    let c5 = c .before .before .before .before .before in
-    let c7 = c5 .before .before in
-    let c10 = c7 .before .before .before in
-    let c11 = c10 .before in
-    let c17 = c11 .before .before .before .before .before .before in
-    ap sought.Is (c .place .ensures) ∙ sought-found _ _ _ _ _ (c17 .args .f .now) (c17 .args .e) (c11 .loop .at) (c11 .loop .k) (c11 .loop .g) (c11
-    .loop .inv .4 .0) (c10 .loop-test .taken) (c17 .pre .1) (c11 .loop .inv .4 .1) _ _ (sym (c7 .step .ensures) ∙ c5 .s2 .given .1) (sym (c .before
-    .before .is-same .ensures) ∙ c .before .if2 .taken) ∙ c11 .loop .inv .4 .2)
-    (λ c.
-    let c4 = c .before .before .before .before in
-    let c6 = c4 .before .before in
-    let c9 = c6 .before .before .before in
-    let c10 = c9 .before in
-    let c16 = c10 .before .before .before .before .before .before in
-    let b = turn-fits Strict _ _ _ _ (c16 .args .f .now) (c16 .args .e) (c10 .loop .at) (c10 .loop .k) (c10 .loop .g) (c10 .loop .inv .4 .0) (c9
-    .loop-test .taken) (c16 .pre .1) (c10 .loop .inv .4 .1) _ _ (sym (c6 .step .ensures) ∙ c4 .s2 .given .1) in
-    omega (arith, b .0, b .1, b .2))
-    (λ c.
-    let c4 = c .before .before .before .before in
-    let c6 = c4 .before .before in
-    let c9 = c6 .before .before .before in
-    let c10 = c9 .before in
-    let c16 = c10 .before .before .before .before .before .before in
-    let b = turn-fits Strict _ _ _ _ (c16 .args .f .now) (c16 .args .e) (c10 .loop .at) (c10 .loop .k) (c10 .loop .g) (c10 .loop .inv .4 .0) (c9
-    .loop-test .taken) (c16 .pre .1) (c10 .loop .inv .4 .1) _ _ (sym (c6 .step .ensures) ∙ c4 .s2 .given .1) in
-    omega (arith, b .0, b .1, b .2))
-    (λ c.
-    let c4 = c .before .before .before .before in
-    let c6 = c4 .before .before in
-    let c9 = c6 .before .before .before in
-    let c10 = c9 .before in
-    let c16 = c10 .before .before .before .before .before .before in
-    let b = turn-fits Strict _ _ _ _ (c16 .args .f .now) (c16 .args .e) (c10 .loop .at) (c10 .loop .k) (c10 .loop .g) (c10 .loop .inv .4 .0) (c9
-    .loop-test .taken) (c16 .pre .1) (c10 .loop .inv .4 .1) _ _ (sym (c6 .step .ensures) ∙ c4 .s2 .given .1) in
-    omega (arith, b .0, b .1, b .2))
+    let at-if2 = c .before in
+    let at-s2 = at-if2 .before .before .before .before in
+    let at-loop-test = at-s2 .before .before .before .before .before in
+    let l = at-loop-test .before .loop in
+    let start = at-loop-test .before .before .before .before .before .before .before in
+    ap sought.Is (c .place .ensures)
+    ∙ sought-found _ _ _ _ _ (start .args .f .now) (start .args .e) (l .at) (l .k) (l .g) (l .inv .4 .0) (at-loop-test .loop-test .taken) (start .pre .1)
+    (l .inv .4 .1) _ _ (passing at-s2) (sym (at-if2 .before .is-same .ensures) ∙ at-if2 .if2 .taken)
+    ∙ l .inv .4 .2)
+    (λ c. let b = fits (c .before .before .before .before) in omega (arith, b .0, b .1, b .2))
+    (λ c. let b = fits (c .before .before .before .before) in omega (arith, b .0, b .1, b .2))
+    (λ c. let b = fits (c .before .before .before .before) in omega (arith, b .0, b .1, b .2))
     (λ c κs. search needs)
     (λ c.
-    let c3 = c .before .before .before in
-    let c4 = c3 .before in
-    let c7 = c4 .before .before .before in
-    let c9 = c7 .before .before in
-    let c12 = c9 .before .before .before in
-    let c13 = c12 .before in
-    let c19 = c13 .before .before .before .before .before .before in
-    sought-passed _ _ _ _ _ (c19 .args .f .now) (c19 .args .e) (c13 .loop .at) (c13 .loop .k) (c13 .loop .g) (c13 .loop .inv .4 .0) (c12 .loop-test
-    .taken) (c19 .pre .1) (c13 .loop .inv .4 .1) _ _ (sym (c9 .step .ensures) ∙ c7 .s2 .given .1) (sym (c4 .is-same .ensures) ∙ c3 .if2 .left)
-    (sym (c .before .is-before .ensures) ∙ c .if3 .taken) ∙ c13 .loop .inv .4 .2)
+    let at-if2 = c .before .before .before in
+    let at-s2 = at-if2 .before .before .before .before in
+    let at-loop-test = at-s2 .before .before .before .before .before in
+    let l = at-loop-test .before .loop in
+    let start = at-loop-test .before .before .before .before .before .before .before in
+    sought-passed _ _ _ _ _ (start .args .f .now) (start .args .e) (l .at) (l .k) (l .g) (l .inv .4 .0) (at-loop-test .loop-test .taken) (start .pre .1)
+    (l .inv .4 .1) _ _ (passing at-s2) (sym (at-if2 .before .is-same .ensures) ∙ at-if2 .if2 .left) (sym (c .before .is-before .ensures) ∙ c .if3 .taken)
+    ∙ l .inv .4 .2)
+    (λ c. let b = fits (c .before .before .before .before .before .before .before) in omega (arith, b .0, b .1, b .2))
+    (λ c. let b = fits (c .before .before .before .before .before .before .before) in omega (arith, b .0, b .1, b .2))
     (λ c.
-    let c7 = c .before .before .before .before .before .before .before in
-    let c9 = c7 .before .before in
-    let c12 = c9 .before .before .before in
-    let c13 = c12 .before in
-    let c19 = c13 .before .before .before .before .before .before in
-    let b = turn-fits Strict _ _ _ _ (c19 .args .f .now) (c19 .args .e) (c13 .loop .at) (c13 .loop .k) (c13 .loop .g) (c13 .loop .inv .4 .0) (c12
-    .loop-test .taken) (c19 .pre .1) (c13 .loop .inv .4 .1) _ _ (sym (c9 .step .ensures) ∙ c7 .s2 .given .1) in
-    omega (arith, b .0, b .1, b .2))
-    (λ c.
-    let c7 = c .before .before .before .before .before .before .before in
-    let c9 = c7 .before .before in
-    let c12 = c9 .before .before .before in
-    let c13 = c12 .before in
-    let c19 = c13 .before .before .before .before .before .before in
-    let b = turn-fits Strict _ _ _ _ (c19 .args .f .now) (c19 .args .e) (c13 .loop .at) (c13 .loop .k) (c13 .loop .g) (c13 .loop .inv .4 .0) (c12
-    .loop-test .taken) (c19 .pre .1) (c13 .loop .inv .4 .1) _ _ (sym (c9 .step .ensures) ∙ c7 .s2 .given .1) in
-    omega (arith, b .0, b .1, b .2))
-    (λ c.
-    let c3 = c .before .before .before in
-    let c4 = c3 .before in
-    let c7 = c4 .before .before .before in
-    let c9 = c7 .before .before in
-    let c12 = c9 .before .before .before in
-    let c13 = c12 .before in
-    let c19 = c13 .before .before .before .before .before .before in
-    let b = turn-fits Strict _ _ _ _ (c19 .args .f .now) (c19 .args .e) (c13 .loop .at) (c13 .loop .k) (c13 .loop .g) (c13 .loop .inv .4 .0) (c12
-    .loop-test .taken) (c19 .pre .1) (c13 .loop .inv .4 .1) _ _ (sym (c9 .step .ensures) ∙ c7 .s2 .given .1) in (
+    let at-if2 = c .before .before .before in
+    let at-s2 = at-if2 .before .before .before .before in
+    let at-loop-test = at-s2 .before .before .before .before .before in
+    let l = at-loop-test .before .loop in
+    let start = at-loop-test .before .before .before .before .before .before .before in
+    let b = fits at-s2 in (
       omega (arith, b .1),
       b .1,
       omega arith,
       b .2,
       (
-        c13 .loop .inv .4 .0 - 1,
+        l .inv .4 .0 - 1,
         omega (arith, b .0),
-        sought-next _ _ _ _ _ (c19 .args .f .now) (c19
-            .args .e) (c13 .loop .at) (c13 .loop .k) (c13 .loop .g) (c13 .loop .inv .4 .0) (c12 .loop-test .taken) (c19 .pre .1) (c13 .loop .inv .4 .1) _ _
-            (sym (c9 .step .ensures) ∙ c7 .s2 .given .1) (sym (c4 .is-same .ensures) ∙ c3 .if2 .left) (sym (c .before .is-before .ensures) ∙ c .if3
-            .left) ∙ c13 .loop .inv .4 .2,
+        sought-next _ _ _ _ _ (start .args .f .now) (start .args .e) (l .at) (l .k) (l .g) (l .inv .4 .0) (at-loop-test .loop-test .taken) (start .pre .1)
+            (l .inv .4 .1) _ _ (passing at-s2) (sym (at-if2 .before .is-same .ensures) ∙ at-if2 .if2 .left) (sym (c .before .is-before .ensures) ∙ c .if3 .left)
+            ∙ l .inv .4 .2,
       ),
     ))
     (λ c.
-    let c7 = c .before .before .before .before .before .before .before in
-    sought-over _ _ _ _ _ (c7 .args .f .now) (c7 .args .e) _ (c .before .loop .at) (c .before .loop .inv .4 .0) (c .loop-test .left) ∙ c .before
-    .loop .inv .4 .2))
+    let l = c .before .loop in
+    let start = c .before .before .before .before .before .before .before in
+    sought-over _ _ _ _ _ (start .args .f .now) (start .args .e) _ (l .at) (l .inv .4 .0) (c .loop-test .left) ∙ l .inv .4 .2))
