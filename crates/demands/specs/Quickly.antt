@@ -7,12 +7,12 @@ use mathlib.Core.Path.{_≡_, refl, sym, ap, ap₂, _∙_}
 use mathlib.Core.Bool.{Bool, true, false, not}
 use mathlib.Core.List.{List, [], _∷_, _++_}
 use mathlib.Core.Logic.{_↔_}
-use Prim.Native.Nat.{ℕ, zero, suc, _+_}
+use Prim.Native.Nat.{ℕ, zero, suc, _+_, _<_}
 use native.Mathlib.Omega.{arith}
 use lib.IntN.{ℤ, pos, negsuc}
 use lib.ListN.{length, take, drop}
 use lib.Dec.{eqb}
-use Rattle.word.specs.Part.{part}
+use Rattle.word.specs.Part.{part, length-part}
 use Rattle.refusal.specs.declared.Rule.the-variants.{Length, StringOffset, NoTrace}
 use Rattle.refusal.specs.declared.Part.{Part}
 use Rattle.refusal.specs.declared.Part.the-variants.{File, Trace}
@@ -31,22 +31,29 @@ use Rattle.strings.specs.declared.Step.{Step}
 use Rattle.strings.specs.declared.Step.the-variants.{Next, Done, Bad}
 use Rattle.strings.specs.declared.Place.{Place}
 use Rattle.strings.specs.Strings.{offset, body, keyLen, frameRows, endOrText, frameOf, textRows, onFrame, stepOf, onStep, placeOf}
+use Rattle.note.specs.Note.{LineEnd}
+use Rattle.strings.specs.Spelled.{Str, Spells}
 use Rattle.head.specs.declared.Purpose.the-variants.{Read}
 use Rattle.head.specs.Head.{highFirst, roomOf, countOf, headRows, headOf}
 use Rattle.terminators.specs.Terminators.{stringEnd, lineEnd}
-use Rattle.block.specs.Block.{dataAt, blockRows, blockOf, pointerRow}
+use Rattle.terminators.specs.TerminatorLaws.{good-ends}
+use Rattle.block.specs.Block.{blockSize, dataAt, blockRows, blockOf, pointerRow}
 use Rattle.block.specs.BlockLaws.{headAt}
 use Rattle.image.specs.Image.{badLength, checkOf}
 use Rattle.image.specs.Keeps.{traceAt}
+use Rattle.image.specs.Accepted.{image-headed}
 use Rattle.reader.specs.declared.StringAnswer.{StringAnswer}
 use Rattle.reader.specs.declared.StringAnswer.the-variants as string
 use Rattle.reader.specs.Questions.{noTrace, isTrace, traceNumber, findAnswer, keywordAnswer, valueAnswer, spanAnswer}
+use Rattle.reader.specs.Reach.{checked, trace-blocked}
+use Rattle.reader.specs.Listed.{Lists, trace-area}
 use Rattle.until.specs.declared.Sought.{Sought}
 use Rattle.until.specs.declared.Sought.the-variants as sought
 use Rattle.until.specs.Until.{passed, compared, soughtFrom, soughtOf}
 use Rattle.one_trace.specs.Alone.{aloneOf}
 use Rattle.quick.specs.Quick.{soughtIn, toldBy, quickFind, quickKeyword, quickValue, quickSpan}
 use Rattle.shortcut.specs.Read.{readIn, bytesRead, Agree}
+use Rattle.shortcut.specs.Spelled.{listRead, read-listed}
 use Rattle.shortcut.specs.Full.{find-full, keyword-full, value-full}
 use Rattle.shortcut.specs.Same.{find-same, keyword-same, value-same, span-same, AllNamed, read-named, found-is-last}
 use Rattle.face_values.specs.FaceValues.{asKeyword, asValue}
@@ -82,7 +89,29 @@ same-bytes-same-answer xs ys n z key long a =
 pub reads-no-more : (xs : List ℕ) (n : ℕ) (z : ℤ) (key : List ℕ) → AllNamed (take n xs) (traceNumber z) (bytesRead xs n z key)
 reads-no-more = read-named
 
--- "only until the keyword is found": they end with the found string's terminator
+-- "and its strings in order only until the keyword is found or passed (that string is read whole and checked); NOTE is
+-- sought to the end": of an accepted trace that has a byte of strings they are, of the list that it spells, each string's
+-- bytes up to the first that is found or passed, and where none is all of them and the end mark (shortcut/Spelled
+-- `listRead`). Rules out a string more, or one less.
+pub reads-until-found-or-passed : (xs : List ℕ) (n k : ℕ) (key : List ℕ) (ss : List Str) → checkOf Strict Read xs n ≡ Accepted → k < countOf (take n xs)
+    → Lists Strict (take n xs) (pos k) ss → 32 < blockSize (highFirst (take n xs)) (take n xs) (traceAt (take n xs) k)
+    → readIn (take n xs) k key ≡ listRead (stringEnd (take n xs)) key ss
+unfolding readIn
+reads-until-found-or-passed xs n k key ss ok low l more =
+    let f : List ℕ = take n xs in
+    let p : ℕ = traceAt f k in
+    let e : ℕ = dataAt (highFirst f) f p in
+    let c = checked Strict xs n ok in
+    let b = trace-blocked Strict f (c .image) k low in
+    let h = image-headed Strict Read f (c .image) in
+    let ends : LineEnd (lineEnd f) = good-ends f 11 (omega (arith, c .size, c .least)) (h .lines) in
+    let q = sym (l .area) ∙ trace-area f k low in
+    let from : l .a ≡ p + 32 = cc in
+    let to : l .e ≡ e = cc in
+    let spells : Spells Strict (highFirst f) (stringEnd f) (lineEnd f) ss (part (p + 32) e f) = rw (from, to) at (l .spells) in
+    read-listed (highFirst f) (stringEnd f) (lineEnd f) (Trace k) key ends (p + 32) spells (omega (arith, length-part (p + 32) e f (b .fits)))
+
+-- "only until the keyword is found": on any file they end with the found string's terminator
 pub found-is-the-last-read : (f : List ℕ) (k : ℕ) (key : List ℕ) (s : Place) → soughtIn f k key ≡ sought.Is s
     → s .end + length (stringEnd f) ≡ traceAt f k + 32 + readIn f k key
 found-is-the-last-read = found-is-last

@@ -1,4 +1,5 @@
 pub mod Read
 pub mod Strings
+pub mod Spelled
 pub mod Full
 pub mod Same

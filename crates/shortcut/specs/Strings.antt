@@ -40,7 +40,7 @@ module _ (high : Bool) (t : List ℕ) where
   unfolding stringRead
   few-read l h = rw (lt-ltb (length l) 2 h)
 
-  offset-read : (l : List ℕ) → 2 ≤ length l → reaches high t l ≡ false → stringRead high t l ≡ 2
+  pub offset-read : (l : List ℕ) → 2 ≤ length l → reaches high t l ≡ false → stringRead high t l ≡ 2
   unfolding stringRead
   offset-read l h w = rw (le-ltb (length l) 2 h, w)
 
@@ -155,7 +155,7 @@ module _ (high : Bool) (t : List ℕ) where
     abbrev More : ℕ → List ℕ → List ℕ → ℕ → ℕ → ℕ → ℕ
     More m prev l at o k = compared key (take k (drop 2 l)) 0 0 (readFrom m high t u p key (take k (drop 2 l)) (drop o l) (at + o))
 
-    read-next : (m : ℕ) (prev l : List ℕ) (at o k : ℕ) → stepOf Strict high t u p prev l at ≡ Next o k
+    pub read-next : (m : ℕ) (prev l : List ℕ) (at o k : ℕ) → stepOf Strict high t u p prev l at ≡ Next o k
         → readFrom (suc m) high t u p key prev l at ≡ o + More m prev l at o k
     unfolding readFrom
     read-next m prev l at o k h = rw (h, next-read prev l at o k h)

@@ -93,17 +93,17 @@ module _ {how : Manner} {t u : List ℕ} {s : Str} (good : GoodString how t u s)
       )
       ∙ ap Keyword text-key
 
-  frame-of : (high : Bool) (r : List ℕ) → Framed how high t (textOf s) r (sizeOf t s) (bytesOf 2 high (sizeOf t s) ++ (textOf s ++ (t ++ r)))
+  pub frame-of : (high : Bool) (r : List ℕ) → Framed how high t (textOf s) r (sizeOf t s) (bytesOf 2 high (sizeOf t s) ++ (textOf s ++ (t ++ r)))
   frame-of high r = framed how high t (textOf s) r (sizeOf t s) refl (good .small) text-some
 
-  steps : (high : Bool) (r prev : List ℕ) (p : Part) (at : ℕ) → LineEnd u → follows how prev (s .key) ≡ true
+  pub steps : (high : Bool) (r prev : List ℕ) (p : Part) (at : ℕ) → LineEnd u → follows how prev (s .key) ≡ true
       → stepOf how high t u p prev (bytesOf 2 high (sizeOf t s) ++ (textOf s ++ (t ++ r))) at ≡ Next (sizeOf t s) (length (s .key))
   unfolding stepOf onFrame
   steps high r prev p at ends rise = let f = frame-of high r in rw (f .text, f .mid, judged prev ends rise)
 
 -- ---- the end
 
-end-frame : (how : Manner) (high : Bool) (t end : List ℕ) → Ends how high end → frameOf how high t end ≡ End
+pub end-frame : (how : Manner) (high : Bool) (t end : List ℕ) → Ends how high end → frameOf how high t end ≡ End
 unfolding frameOf
 end-frame how high t end (mark rest) =
     let two : length (bytesOf 2 high 0) ≡ 2 = length-bytesOf 2 high 0 in
