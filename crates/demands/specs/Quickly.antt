@@ -81,7 +81,9 @@ pub same-bytes-same-answer : (xs ys : List ℕ) (n : ℕ) (z : ℤ) (key : List 
     × (quickValue xs n z key ≡ quickValue ys n z key)
     × (quickSpan xs n z key ≡ quickSpan ys n z key)
 same-bytes-same-answer xs ys n z key long a =
-    (ap asKeyword (keyword-same xs ys n z key long a), ap asValue (find-same xs ys n z key long a), value-same xs ys n z key long a, span-same xs ys n z key long a)
+    let k = keyword-same xs ys n z key long a in
+    let f = find-same xs ys n z key long a in
+    (ap asKeyword k, ap asValue f, value-same xs ys n z key long a, span-same xs ys n z key long a)
 
 -- the bytes read are those that document 02 names and no others: "the file block's first 32 bytes, pointer k, the first
 -- 32 bytes of that trace's block", and bytes of its own strings, from the first on. Rules out a definition of the bytes

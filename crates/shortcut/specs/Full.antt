@@ -238,7 +238,8 @@ module _ (xs : List ℕ) (n : ℕ) (ok : checkOf Strict Read xs n ≡ Accepted) 
       let b = trace-blocked Strict g image k l in
       let s = traced-strings Strict g k (image-traced Strict Read g image k l) in
       ap toldBy (area-full (highFirst g) (stringEnd g) (lineEnd g) (Trace k) key g (traceAt g k + 32) (dataAt (highFirst g) g (traceAt g k)) (b .fits) s)
-      ∙ same-told (findOf Strict g (placesOf Strict (highFirst g) (stringEnd g) (part (traceAt g k + 32) (dataAt (highFirst g) g (traceAt g k)) g) (traceAt g k + 32)) key)
+      ∙ same-told
+      (findOf Strict g (placesOf Strict (highFirst g) (stringEnd g) (part (traceAt g k + 32) (dataAt (highFirst g) g (traceAt g k)) g) (traceAt g k + 32)) key)
     where
       same-told : (x : Found) → toldBy (soughtBy x) ≡ there x
       same-told Nothing = refl

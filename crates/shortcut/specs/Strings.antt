@@ -256,7 +256,8 @@ module _ (high : Bool) (t : List ℕ) where
           here r e o x h = let k = rw e at h in (k .0, k .1, omega (arith, k .2))
 
           at-string : (o k : ℕ) → frameOf Strict high t l ≡ Text o → (v w : Bool)
-              → pick v (sought.Is (placeOf t o l at)) (pick w sought.Nothing (soughtFrom m high t u p key (take k (drop 2 l)) (drop o l) (at + o))) ≡ sought.Is s
+              → pick v (sought.Is (placeOf t o l at)) (pick w sought.Nothing (soughtFrom m high t u p key (take k (drop 2 l)) (drop o l) (at + o)))
+              ≡ sought.Is s
               → (soughtFrom m high t u p key (take k (drop 2 l)) (drop o l) (at + o) ≡ sought.Is s
               → EndsWith (at + o) (readFrom m high t u p key (take k (drop 2 l)) (drop o l) (at + o)))
               → EndsWith at (o + pick v 0 (pick w 0 (readFrom m high t u p key (take k (drop 2 l)) (drop o l) (at + o))))
