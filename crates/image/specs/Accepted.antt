@@ -70,7 +70,7 @@ abbrev pub withOf : Manner → List ℕ → Bool
 withOf how f = withChannel how (highFirst f) (stringEnd f) f
 
 -- a row that is not met
-unmet : (w : Bool) (r : Refusal) → pick w (Refused r) Accepted ≡ Accepted → w ≡ false
+pub unmet : (w : Bool) (r : Refusal) → pick w (Refused r) Accepted ≡ Accepted → w ≡ false
 unmet true r e = absurd (refused-not r e)
 unmet false r e = refl
 

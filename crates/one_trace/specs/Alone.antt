@@ -24,15 +24,11 @@ use Rattle.reader.specs.Questions.{noTrace, whoseOf, onTrace, isTrace, traceNum
 
 -- ---- the checks in their order
 
--- 1, then 2 to 7
-abbrev pub topChecks : List ℕ → ℕ → List Verdict
-topChecks xs n = row (badLength (length xs) n) Length File 0 ∷ headOf Read (take 32 (take n xs)) (length (take n xs)) ∷ []
-
 -- 8 of the trace k, whose pointer is p, behind a pointer room of m bytes and behind no other trace; then 9 to 13
 abbrev pub ownChecks : Bool → List ℕ → ℕ → ℕ → ℕ → List Verdict
 ownChecks high f m k p = pointerRow (length f) k (32 + m) p ∷ blockOf high (headAt f p) (length f) k p ∷ []
 
--- "18 between 7 and 8"
+-- 1, then 2 to 7, "18 between 7 and 8", and those
 abbrev pub aloneChecks : List ℕ → ℕ → ℤ → List Verdict
 aloneChecks xs n z =
     let f = take n xs in

@@ -2,16 +2,15 @@
 -- Assumes nothing.
 use mathlib.Core.Path.{_≡_, refl, sym, ap, _∙_}
 use mathlib.Core.Bool.{Bool, true, false, not}
-use mathlib.Core.List.{List, [], _∷_}
+use mathlib.Core.List.{List, _∷_}
 use Prim.Native.Nat.{ℕ, _+_, _≤_, _<_}
-use native.Mathlib.Omega.{arith}
 use lib.IntN.{ℤ, pos, negsuc}
 use lib.ListN.{length, take}
 use lib.Seq.{length-take-le}
 use borrow.Author.Tests.{ltb-true, not-false}
 use Rattle.word.specs.Tests.{never}
 use Rattle.refusal.specs.Rows.{pick}
-use Rattle.refusal.specs.Verdicts.{asked, andThen, refused-not}
+use Rattle.refusal.specs.Verdicts.{asked}
 use Rattle.refusal.specs.FirstRow.{row, firstOf, first-next, first-two, passed-met-none, asked-row, then-asked}
 use Rattle.refusal.specs.Table.{refusal}
 use Rattle.refusal.specs.declared.Part.the-variants.{File}
@@ -27,12 +26,14 @@ use Rattle.head.specs.HeadLaws.{Headed, headed}
 use Rattle.block.specs.declared.TraceBlock.{TraceBlock}
 use Rattle.block.specs.declared.TraceAnswer.{TraceAnswer}
 use Rattle.block.specs.declared.TraceAnswer.the-variants as trace
-use Rattle.block.specs.Block.{pointerOf, pointerRow, blockOf, blockIn, blockAnswer, traceBlockOf}
+use Rattle.block.specs.Block.{pointerOf, pointerRow, blockOf, blockAnswer, traceBlockOf}
 use Rattle.block.specs.BlockLaws.{headAt, own-block, Pointed, Blocked}
+use Rattle.trace.specs.TraceLaws.{block-told, block-read}
 use Rattle.image.specs.Image.{badLength}
+use Rattle.image.specs.Accepted.{unmet}
 use Rattle.image.specs.Keeps.{traceAt}
 use Rattle.image.specs.ImageLaws.{long-enough, file-told, head-passed, head-order, head-room, head-count}
-use Rattle.reader.specs.Questions.{noTrace, whoseOf, onTrace, isTrace, traceNumber, blockAt}
+use Rattle.reader.specs.Questions.{noTrace, isTrace, traceNumber, blockAt}
 use Rattle.reader.specs.Leaves.{on-trace}
 use Rattle.one_trace.specs.Alone.{ownChecks, aloneChecks, aloneOf, blockAlone, ownOf, namedOf}
 
@@ -102,10 +103,6 @@ pub record Alone (xs : List ℕ) (n : ℕ) (z : ℤ) : Type 0 where
   pub pointed : Pointed (length (take n xs)) (32 + roomOf (take n xs)) (traceAt (take n xs) (traceNumber z))
   pub blocked : Blocked (highFirst (take n xs)) (take n xs) (traceAt (take n xs) (traceNumber z))
 
-unmet : (w : Bool) (r : Refusal) → pick w (Refused r) Accepted ≡ Accepted → w ≡ false
-unmet true r e = absurd (refused-not r e)
-unmet false r e = refl
-
 named-trace : (z : ℤ) (n : ℕ) → isTrace z n ≡ true → (z ≡ pos (traceNumber z)) × (traceNumber z < n)
 named-trace (pos k) n h = (refl, ltb-true k n h)
 named-trace (negsuc k) n h = never h
@@ -130,19 +127,11 @@ alone-passed xs n z e =
     }
 
 -- ---- what an answer tells of them
-trace-read : (v : Verdict) (y x : TraceBlock) → asked trace.Refused v (trace.Is y) ≡ trace.Is x → (v ≡ Accepted) × (x ≡ y)
-trace-read Accepted y x e = (refl, cc)
-trace-read (Refused q) y x e = let w : _≡_ {A = ℕ} 0 1 = cc in absurd (omega arith)
-
 pub alone-read : (xs : List ℕ) (n : ℕ) (z : ℤ) (x : TraceBlock) → blockAlone xs n z ≡ trace.Is x
     → (aloneOf xs n z ≡ Accepted) × (x ≡ blockAt (take n xs) (traceNumber z))
 unfolding blockAlone
-alone-read xs n z x e = trace-read (aloneOf xs n z) (blockAt (take n xs) (traceNumber z)) x e
+alone-read xs n z x e = block-read (aloneOf xs n z) (blockAt (take n xs) (traceNumber z)) x e
 
 pub alone-refused : (xs : List ℕ) (n : ℕ) (z : ℤ) (r : Refusal) → blockAlone xs n z ≡ trace.Refused r → aloneOf xs n z ≡ Refused r
 unfolding blockAlone
-alone-refused xs n z r e = go (aloneOf xs n z) e
-  where
-    go : (v : Verdict) → asked trace.Refused v (trace.Is (blockAt (take n xs) (traceNumber z))) ≡ trace.Refused r → v ≡ Refused r
-    go Accepted h = let w : _≡_ {A = ℕ} 0 1 = cc in absurd (omega arith)
-    go (Refused q) h = let s : q ≡ r = cc in ap Refused s
+alone-refused xs n z r e = block-told (aloneOf xs n z) (blockAt (take n xs) (traceNumber z)) r e

@@ -31,11 +31,11 @@ use Rattle.trace.specs.Trace.{areaVerdict, channelAt, channelRow, channe
 -- ---- a trace's block: the rows of its first 32 bytes, then its strings
 
 -- an answer of the rows is their verdict
-block-told : (v : Verdict) (y : TraceBlock) (r : Refusal) → asked trace.Refused v (trace.Is y) ≡ trace.Refused r → v ≡ Refused r
+pub block-told : (v : Verdict) (y : TraceBlock) (r : Refusal) → asked trace.Refused v (trace.Is y) ≡ trace.Refused r → v ≡ Refused r
 block-told Accepted y r e = let z : _≡_ {A = ℕ} 0 1 = cc in absurd (omega arith)
 block-told (Refused q) y r e = let s : q ≡ r = cc in ap Refused s
 
-block-read : (v : Verdict) (y x : TraceBlock) → asked trace.Refused v (trace.Is y) ≡ trace.Is x → (v ≡ Accepted) × (x ≡ y)
+pub block-read : (v : Verdict) (y x : TraceBlock) → asked trace.Refused v (trace.Is y) ≡ trace.Is x → (v ≡ Accepted) × (x ≡ y)
 block-read Accepted y x e = (refl, cc)
 block-read (Refused q) y x e = let z : _≡_ {A = ℕ} 0 1 = cc in absurd (omega arith)
 

@@ -148,8 +148,8 @@ find-spec =
         l .inv .4 .0 - 1,
         omega (arith, b .0),
         sought-next _ _ _ _ _ (start .args .f .now) (start .args .e) (l .at) (l .k) (l .g) (l .inv .4 .0) (at-loop-test .loop-test .taken) (start .pre .1)
-            (l .inv .4 .1) _ _ (passing at-s2) (sym (at-if2 .before .is-same .ensures) ∙ at-if2 .if2 .left) (sym (c .before .is-before .ensures) ∙ c .if3 .left)
-            ∙ l .inv .4 .2,
+            (l .inv .4 .1) _ _ (passing at-s2) (sym (at-if2 .before .is-same .ensures) ∙ at-if2 .if2 .left)
+            (sym (c .before .is-before .ensures) ∙ c .if3 .left) ∙ l .inv .4 .2,
       ),
     ))
     (λ c.
