@@ -15,7 +15,7 @@ ghost use Rattle.word.specs.Part.{part};
 ghost use Rattle.strings.specs.Strings.{entryOf, placesOf, nthOf, findOf};
 
 // The string that l starts with, at place `at` of the file, for a question.
-fn entry_at(l: &[u8], high: bool, t: &[u8], at: usize, how: Manner) -> Entry
+pub fn entry_at(l: &[u8], high: bool, t: &[u8], at: usize, how: Manner) -> Entry
     requires { ⌜ at + length (now l) < 18446744073709551616 ⌝ }
     ensures { λ r. ⌜ r ≡ entryOf how high (now (t .entry)) (now (l .entry)) at ⌝ }
 {

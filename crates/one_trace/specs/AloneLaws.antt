@@ -21,7 +21,7 @@ use Rattle.refusal.specs.declared.Verdict.the-variants.{Accepted, Refused}
 use Rattle.head.specs.declared.Purpose.the-variants.{Read}
 use Rattle.head.specs.declared.FileBlock.{FileBlock}
 use Rattle.head.specs.declared.FileAnswer.the-variants as file
-use Rattle.head.specs.Head.{highFirst, roomOf, countOf, headOf, fileBlockOf, headAnswer}
+use Rattle.head.specs.Head.{maximum, highFirst, roomOf, countOf, headOf, fileBlockOf, headAnswer}
 use Rattle.head.specs.HeadLaws.{Headed, headed}
 use Rattle.block.specs.declared.TraceBlock.{TraceBlock}
 use Rattle.block.specs.declared.TraceAnswer.{TraceAnswer}
@@ -95,6 +95,7 @@ module _ (xs : List ℕ) (n : ℕ) (z : ℤ) where
 -- ---- what these rows have shown of a trace that they let through
 pub record Alone (xs : List ℕ) (n : ℕ) (z : ℤ) : Type 0 where
   pub least : 32 ≤ n
+  pub most : n ≤ maximum
   pub fits : n ≤ length xs
   pub size : length (take n xs) ≡ n
   pub head : Headed Read (take n xs)
@@ -117,6 +118,7 @@ alone-passed xs n z e =
     let t = named-trace z (countOf f) (not-false (isTrace z (countOf f)) (unmet (not (isTrace z (countOf f))) noTrace (m .1 .1 .0))) in
     record {
       least = l .0;
+      most = l .1;
       fits = l .2;
       size = length-take-le n xs (l .2);
       head = headed Read f (m .1 .0);

@@ -1,4 +1,4 @@
--- The keyword of one trace: a law for each answer, and that what is found lies in the lent buffer.
+-- One trace, quickly: a law for each answer of the family, and that what is found lies in the lent buffer.
 -- Assumes nothing.
 use mathlib.Core.Path.{_≡_, refl, sym, ap, _∙_}
 use mathlib.Core.List.{List}
@@ -28,39 +28,49 @@ use Rattle.block.specs.declared.TraceBlock.{TraceBlock}
 use Rattle.block.specs.declared.TraceAnswer.the-variants as trace
 use Rattle.block.specs.Block.{dataAt, traceBlockOf}
 use Rattle.image.specs.Keeps.{traceAt}
-use Rattle.until.specs.declared.Sought.{Sought}
-use Rattle.until.specs.declared.Sought.the-variants as sought
-use Rattle.until.specs.Turns.{found-in}
+use Rattle.until.specs.declared.Turn.{Turn}
+use Rattle.until.specs.declared.Walked.{Walked}
+use Rattle.until.specs.declared.Walked.the-variants as walked
+use Rattle.until.specs.Until.{byKey}
+use Rattle.until.specs.Turns.{EndsIn, walk-in}
+use Rattle.reader.specs.declared.Area.the-variants.{From}
+use Rattle.reader.specs.declared.Whose.the-variants.{One}
 use Rattle.reader.specs.declared.StringAnswer.{StringAnswer}
 use Rattle.reader.specs.declared.StringAnswer.the-variants as string
-use Rattle.reader.specs.Questions.{traceNumber, valueThere, spanThere}
+use Rattle.reader.specs.Questions.{traceNumber, areaNamed, blockAt, valueThere, spanThere, onString}
 use Rattle.reader.specs.Leaves.{Within}
 use Rattle.reader.specs.Reach.{value-within}
 use Rattle.one_trace.specs.Alone.{aloneOf, blockAlone}
 use Rattle.one_trace.specs.AloneLaws.{Alone, alone-passed, alone-read, alone-refused}
-use Rattle.quick.specs.Quick.{soughtBetween, soughtIn, toldBy, quickFind, quickValue, quickSpan}
+use Rattle.quick.specs.Quick.{quickly, walkBetween, walkIn, quickWalk, toldBy, quickFind, quickValue, quickRead, quickSpan}
 
 module _ (xs : List ℕ) (n : ℕ) (z : ℤ) where
   abbrev f : List ℕ
   f = take n xs
 
-  -- a row was met before the strings
-  pub quick-bad : (key : List ℕ) {r : Refusal} → blockAlone xs n z ≡ trace.Refused r → string.Refused r ≡ quickFind xs n z key
-  unfolding quickFind
-  quick-bad key {r} e = rw (alone-refused xs n z r e)
+  -- a row was met before the question's own
+  pub quick-bad : {A : Type 0} (bad : Refusal → A) (own : List ℕ → ℕ → A) {r : Refusal} → blockAlone xs n z ≡ trace.Refused r → bad r ≡ quickly bad own xs n z
+  quick-bad bad own {r} e = rw (alone-refused xs n z r e)
 
-  -- none was: where the strings stand, and what was sought there
+  pub walk-refused : (look : ℕ → List ℕ → Turn) {r : Refusal} → blockAlone xs n z ≡ trace.Refused r → walked.Bad r ≡ quickWalk look xs n z
+  unfolding quickWalk
+  walk-refused look e = quick-bad walked.Bad (walkIn look) e
+
+  -- none was: what was shown, and where the strings stand
   module _ (x : TraceBlock) (e : blockAlone xs n z ≡ trace.Is x) where
     pub shown : Alone xs n z
     shown = alone-passed xs n z (alone-read xs n z x e .0)
 
+    pub own-block : x ≡ blockAt f (traceNumber z)
+    own-block = alone-read xs n z x e .1
+
     starts : traceAt f (traceNumber z) ≡ x .p
     unfolding traceBlockOf
-    starts = sym (ap (λ (y : TraceBlock). y .p) (alone-read xs n z x e .1))
+    starts = sym (ap (λ (y : TraceBlock). y .p) own-block)
 
     ends : dataAt (highFirst f) f (traceAt f (traceNumber z)) ≡ x .p + x .b
     unfolding traceBlockOf
-    ends = sym (ap (λ (y : TraceBlock). y .p + y .b) (alone-read xs n z x e .1))
+    ends = sym (ap (λ (y : TraceBlock). y .p + y .b) own-block)
 
     pub area-lies : (x .p + 32 ≤ x .p + x .b) × (x .p + x .b ≤ length f)
     area-lies =
@@ -69,52 +79,75 @@ module _ (xs : List ℕ) (n : ℕ) (z : ℤ) where
         let d = ends in
         (omega (arith, b .least, s, d), omega (arith, b .fits, d))
 
-    pub quick-told : (k : ℕ) (key : List ℕ) {a : StringAnswer} → k ≡ traceNumber z → a ≡ toldBy (soughtBetween f k key (x .p + 32) (x .p + x .b))
-        → a ≡ quickFind xs n z key
-    unfolding quickFind soughtIn
-    quick-told k key q h = h ∙ sym (rw (alone-read xs n z x e .0, ends, starts, q))
+    pub own-area : areaNamed f (One (traceNumber z)) ≡ From (x .p + 32) (x .p + x .b)
+    unfolding areaNamed
+    own-area = rw (ends, starts)
+
+    pub quick-told : {A : Type 0} (bad : Refusal → A) (own : List ℕ → ℕ → A) {a : A} → a ≡ own f (traceNumber z) → a ≡ quickly bad own xs n z
+    quick-told bad own h = h ∙ sym (rw (alone-read xs n z x e .0))
+
+    -- of the strings of the trace k
+    pub walk-told : (look : ℕ → List ℕ → Turn) (k : ℕ) {w : Walked} → k ≡ traceNumber z → w ≡ walkBetween look f k (x .p + 32) (x .p + x .b)
+        → w ≡ quickWalk look xs n z
+    unfolding quickWalk walkIn
+    walk-told look k q h = h ∙ sym (rw (alone-read xs n z x e .0, ends, starts, q))
 
 -- ---- what is found lies in the image
-told-in : (n e : ℕ) (s : Sought) → e ≤ n → ((p : Place) → s ≡ sought.Is p → PlaceIn e p) → Within n (toldBy s)
-told-in n e (sought.Is p) l h = let i = h p refl in (i .0, i .1, i .2, omega (arith, i .3))
-told-in n e sought.Nothing l h = tt
-told-in n e (sought.Refused r) l h = tt
+told-in : (n e : ℕ) (w : Walked) → e ≤ n → EndsIn e w → Within n (toldBy w)
+told-in n e (walked.At p) l i = (i .0, i .1, i .2, omega (arith, i .3))
+told-in n e (walked.Over j) l i = tt
+told-in n e (walked.Bad r) l i = tt
 
-pub quick-within : (xs : List ℕ) (n : ℕ) (z : ℤ) (key : List ℕ) → Within n (quickFind xs n z key)
-unfolding quickFind soughtIn
-quick-within xs n z key = go (aloneOf xs n z) refl
-  where
-    go : (v : Verdict) → aloneOf xs n z ≡ v → Within n (asked string.Refused v (toldBy (soughtIn (take n xs) (traceNumber z) key)))
-    go (Refused r) e = tt
-    go Accepted e =
-        let f : List ℕ = take n xs in
-        let a = alone-passed xs n z e in
-        let p : ℕ = traceAt f (traceNumber z) in
-        let d : ℕ = dataAt (highFirst f) f p in
-        let b = a .blocked in
-        told-in n d (soughtIn f (traceNumber z) key) (omega (arith, b .fits, a .size))
-        (λ s q. found-in (highFirst f) (stringEnd f) (lineEnd f) (Trace (traceNumber z)) key d s f (p + 32) (omega (arith, b .least)) (b .fits) q)
+module _ (look : ℕ → List ℕ → Turn) (xs : List ℕ) (n : ℕ) (z : ℤ) where
+  pub walk-within : Within n (toldBy (quickWalk look xs n z))
+  unfolding quickWalk walkIn
+  walk-within = go (aloneOf xs n z) refl
+    where
+      go : (v : Verdict) → aloneOf xs n z ≡ v → Within n (toldBy (asked walked.Bad v (walkIn look (take n xs) (traceNumber z))))
+      go (Refused r) e = tt
+      go Accepted e =
+          let f : List ℕ = take n xs in
+          let a = alone-passed xs n z e in
+          let p : ℕ = traceAt f (traceNumber z) in
+          let d : ℕ = dataAt (highFirst f) f p in
+          let b = a .blocked in
+          told-in n d (walkIn look f (traceNumber z)) (omega (arith, b .fits, a .size))
+          (walk-in look (highFirst f) (stringEnd f) (lineEnd f) (Trace (traceNumber z)) d f (p + 32) (omega (arith, b .least)) (b .fits))
 
--- and so in the buffer
-pub quick-lent : (xs : List ℕ) (n : ℕ) (z : ℤ) (key : List ℕ) → Within (length xs) (quickFind xs n z key)
+  -- and so in the buffer
+  pub walk-lent : Within (length xs) (toldBy (quickWalk look xs n z))
+  unfolding quickWalk
+  walk-lent = go (aloneOf xs n z) refl walk-within
+    where
+      wider : (m : ℕ) (s : StringAnswer) → n ≤ m → Within n s → Within m s
+      wider m (string.There p) l h = (h .0, h .1, h .2, omega (arith, h .3))
+      wider m string.Absent l h = tt
+      wider m (string.Refused r) l h = tt
+
+      go : (v : Verdict) → aloneOf xs n z ≡ v → Within n (toldBy (asked walked.Bad v (walkIn look (take n xs) (traceNumber z))))
+          → Within (length xs) (toldBy (asked walked.Bad v (walkIn look (take n xs) (traceNumber z))))
+      go (Refused r) e h = tt
+      go Accepted e h = wider (length xs) (toldBy (walkIn look (take n xs) (traceNumber z))) (alone-passed xs n z e .fits) h
+
+find-within : (xs : List ℕ) (n : ℕ) (z : ℤ) (key : List ℕ) → Within n (quickFind xs n z key)
 unfolding quickFind
-quick-lent xs n z key = go (aloneOf xs n z) refl (quick-within xs n z key)
-  where
-    wider : (m : ℕ) (s : StringAnswer) → n ≤ m → Within n s → Within m s
-    wider m (string.There p) l h = (h .0, h .1, h .2, omega (arith, h .3))
-    wider m string.Absent l h = tt
-    wider m (string.Refused r) l h = tt
+find-within xs n z key = walk-within (byKey key) xs n z
 
-    go : (v : Verdict) → aloneOf xs n z ≡ v → Within n (asked string.Refused v (toldBy (soughtIn (take n xs) (traceNumber z) key)))
-        → Within (length xs) (asked string.Refused v (toldBy (soughtIn (take n xs) (traceNumber z) key)))
-    go (Refused r) e h = tt
-    go Accepted e h = wider (length xs) (toldBy (soughtIn (take n xs) (traceNumber z) key)) (alone-passed xs n z e .fits) h
+pub find-lent : (xs : List ℕ) (n : ℕ) (z : ℤ) (key : List ℕ) → Within (length xs) (quickFind xs n z key)
+unfolding quickFind
+find-lent xs n z key = walk-lent (byKey key) xs n z
 
 -- the value that is found is the answer, and stands where the answer stands
 pub value-told : (xs : List ℕ) (n : ℕ) (z : ℤ) (key : List ℕ) (s : StringAnswer) → s ≡ quickFind xs n z key
     → valueThere xs s ≡ quickValue xs n z key
 unfolding quickValue
-value-told xs n z key s e = ap (λ (r : StringAnswer). valueThere xs r) e ∙ value-within xs n (quickFind xs n z key) (quick-within xs n z key)
+value-told xs n z key s e = ap (λ (r : StringAnswer). valueThere xs r) e ∙ value-within xs n (quickFind xs n z key) (find-within xs n z key)
+
+-- and what is made of it is the answer, unless a row was met
+pub read-told : {A : Type 0} (bad : Refusal → A) (g : List ℕ → A) (xs : List ℕ) (n : ℕ) (z : ℤ) (key : List ℕ) (s : StringAnswer) → s ≡ quickFind xs n z key
+    → onString bad s (g (valueThere xs s)) ≡ quickRead bad g xs n z key
+read-told bad g xs n z key s e =
+    ap (λ (v : List ℕ). onString bad s (g v)) (value-told xs n z key s e) ∙ ap (λ (r : StringAnswer). onString bad r (g (quickValue xs n z key))) e
 
 pub span-told : {b r : RefT (List ℕ)} (xs : List ℕ) (n : ℕ) (z : ℤ) (key : List ℕ) (s : StringAnswer) → s ≡ quickFind xs n z key
     → PartOf b (spanThere s) r

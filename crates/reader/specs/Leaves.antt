@@ -86,7 +86,7 @@ module _ (how : Manner) (xs : List ℕ) (n : ℕ) (z : ℤ) where
   find-opened key = opened-asked (checkOf how Read xs n) (areaAsked (take n xs) z) _ _
 
 -- a law for each answer, with what the code has in hand
-placed : (how : Manner) (f : List ℕ) (a e : ℕ) (h : Bool) (t : List ℕ) → h ≡ highFirst f → t ≡ stringEnd f
+pub placed : (how : Manner) (f : List ℕ) (a e : ℕ) (h : Bool) (t : List ℕ) → h ≡ highFirst f → t ≡ stringEnd f
     → placesOf how h t (part a e f) a ≡ placesIn how f a e
 unfolding placesIn
 placed how f a e h t p q = rw (p, q)

@@ -5,7 +5,7 @@
 -- Assumes nothing.
 use mathlib.Core.Bool.{Bool, true, false, not}
 use mathlib.Core.List.{List, [], _∷_}
-use Prim.Native.Nat.{ℕ, zero, suc, _+_}
+use Prim.Native.Nat.{ℕ, zero, suc, _+_, _*_}
 use lib.IntN.{ℤ, pos, negsuc}
 use lib.ListN.{length, take}
 use lib.Dec.{ltb, eqb}
@@ -19,11 +19,13 @@ use Rattle.refusal.specs.declared.Verdict.the-variants.{Accepted, Refused}
 use Rattle.refusal.specs.Table.{refusal}
 use Rattle.refusal.specs.Rows.{Rows, pick, ruled}
 use Rattle.refusal.specs.Verdicts.{asked}
+use Rattle.refusal.specs.FirstRow.{row}
 use Rattle.text.specs.declared.Manner.{Manner}
 use Rattle.strings.specs.declared.Place.{Place}
 use Rattle.strings.specs.declared.Found.{Found}
 use Rattle.strings.specs.declared.Found.the-variants.{Nothing, Is}
 use Rattle.strings.specs.Strings.{placesOf, nthOf, findOf, valueIn}
+use Rattle.places.specs.Numbers.{numbersOf}
 use Rattle.decode.specs.Sample.{sampleOf, patternOf, classOf}
 use Rattle.sample.specs.Needed.{byCode}
 use Rattle.sample.specs.Run.{valuesFrom}
@@ -163,6 +165,18 @@ spanThere (string.Refused r) = (0, 0)
 unfoldable pub spanAnswer : Manner → List ℕ → ℕ → ℤ → List ℕ → ℕ × ℕ
 spanAnswer how xs n z key = spanThere (findAnswer how xs n z key)
 
+-- all at once, into a lent row: "four numbers a string; refusal 32 where the row's length is not four times the count", of
+-- which there are s, behind the count's own
+abbrev pub stringsVerdict : CountAnswer → ℕ → Verdict
+stringsVerdict (count.Is c) s = row (not (eqb s (4 * c))) RowLength File 0
+stringsVerdict (count.Refused r) s = Refused r
+
+unfoldable pub stringsAnswer : Manner → List ℕ → ℕ → ℤ → ℕ → Verdict
+stringsAnswer how xs n z s = stringsVerdict (countAnswer how xs n z) s
+
+unfoldable pub numbersIn : Manner → List ℕ → Area → List ℕ
+numbersIn how f w = onArea w [] (λ a e. numbersOf (placesIn how f a e))
+
 -- ---- numbers in values: of the value, which is the empty text where the keyword is absent
 
 abbrev pub onString : {A : Type 0} → (Refusal → A) → StringAnswer → A → A
@@ -253,6 +267,9 @@ classesOf f k = classesIn f (blockAt f k)
 abbrev pub kept : {A : Type 0} → Verdict → A → A → A
 kept Accepted new old = new
 kept (Refused r) new old = old
+
+unfoldable pub stringsLeft : Manner → List ℕ → ℕ → ℤ → List ℕ → List ℕ
+stringsLeft how xs n z row = kept (stringsAnswer how xs n z (length row)) (numbersIn how (take n xs) (areaAsked (take n xs) z)) row
 
 unfoldable pub integersLeft : Manner → List ℕ → ℕ → ℤ → List ℤ → List ℤ
 integersLeft how xs n z row = kept (integersAnswer how xs n z (length row)) (samplesOf (take n xs) (traceNumber z)) row

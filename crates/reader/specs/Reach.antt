@@ -218,12 +218,10 @@ unfolding spanAnswer
 span-told how xs n z key s e h = rw e at h
 
 -- and what is made of it is the answer, unless the string was refused
-pub value-made : (how : Manner) {A : Type 0} (bad : Refusal → A) (g : List ℕ → A) (xs : List ℕ) (n : ℕ) (z : ℤ) (key : List ℕ) (s : StringAnswer) (v : List ℕ)
-    → s ≡ findAnswer how xs n z key → v ≡ valueThere xs s → ((a : A) → onString bad s a ≡ a)
-    → g v ≡ onString bad (findAnswer how xs n z key) (g (valueAnswer how xs n z key))
-value-made how bad g xs n z key s v e w k =
-    ap g (w ∙ value-told how xs n z key s e) ∙ sym (k (g (valueAnswer how xs n z key)))
-    ∙ ap (λ (r : StringAnswer). onString bad r (g (valueAnswer how xs n z key))) e
+pub value-made : (how : Manner) {A : Type 0} (bad : Refusal → A) (g : List ℕ → A) (xs : List ℕ) (n : ℕ) (z : ℤ) (key : List ℕ) (s : StringAnswer)
+    → s ≡ findAnswer how xs n z key → onString bad s (g (valueThere xs s)) ≡ onString bad (findAnswer how xs n z key) (g (valueAnswer how xs n z key))
+value-made how bad g xs n z key s e =
+    ap (λ (v : List ℕ). onString bad s (g v)) (value-told how xs n z key s e) ∙ ap (λ (r : StringAnswer). onString bad r (g (valueAnswer how xs n z key))) e
 
 pub held : (n : ℕ) (s : StringAnswer) (p : Place) → s ≡ string.There p → Within n s → PlaceIn n p
 held n s p e h = rw e at h

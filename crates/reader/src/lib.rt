@@ -107,12 +107,12 @@ fn area_of(f: &[u8], part: i32, how: Manner) -> Area
 }
 
 // The check, then where the strings of a part stand; or the refusal of either.
-enum Opened {
+pub enum Opened {
     From(usize, usize),
     Bad(Refusal),
 }
 
-fn open_area(buffer: &[u8], n: usize, part: i32, how: Manner) -> Opened
+pub fn open_area(buffer: &[u8], n: usize, part: i32, how: Manner) -> Opened
     ensures { λ r. ⌜ r ≡ openedOf how (now (buffer .entry)) n part ⌝ }
 {
     let v = image::check(buffer, n, Purpose::Read, how);

@@ -23,7 +23,11 @@ ghost use Rattle.image.specs.Image.{checkOf};
 ghost use Rattle.reader.specs.Questions.{fileAnswer, traceAnswer, countAnswer, nthAnswer, findAnswer, keywordAnswer};
 ghost use Rattle.reader.specs.Questions.{numberAnswer, doubleAnswer, locationAnswer, integersAnswer, integersLeft};
 ghost use Rattle.reader.specs.Questions.{bitsAnswer, patternsLeft, classesLeft};
-ghost use Rattle.quick.specs.Quick.{quickFind, quickKeyword};
+ghost use Rattle.reader.specs.Questions.{stringsAnswer, stringsLeft};
+ghost use Rattle.one_trace.specs.Alone.{blockAlone};
+ghost use Rattle.quick.specs.Quick.{quickCount, quickNth, quickStrings, quickStringsLeft, quickFind, quickKeyword};
+ghost use Rattle.quick.specs.Quick.{quickNumber, quickDouble, quickLocation, quickIntegers, quickIntegersLeft};
+ghost use Rattle.quick.specs.Quick.{quickBits, quickPatternsLeft, quickClassesLeft};
 ghost use Rattle.layout.specs.Layout.{integersTrace, patternsTrace};
 ghost use Rattle.start.specs.Start.{startAnswer, startLeft};
 ghost use Rattle.writer.specs.Answers.{addAnswer, addLeft};
@@ -71,6 +75,17 @@ pub extern "C" fn seg2_string(buffer: &[u8], n: usize, part: i32, index: usize) 
     ensures { λ r. ⌜ r ≡ asString (nthAnswer Strict (now (buffer .entry)) n part index) ⌝ }
 {
     call_strings::string(buffer, n, part, index)
+}
+
+// All strings of the file or a trace, into a row of four numbers each: where the keyword starts and its length, where the
+// value starts and its length.
+#[no_mangle]
+pub extern "C" fn seg2_strings(buffer: &[u8], n: usize, part: i32, row: &mut [usize]) -> Seg2Verdict
+    ensures answer { λ r. ⌜ r ≡ asVerdict (stringsAnswer Strict (now (buffer .entry)) n part
+        (length (now (row .entry)))) ⌝ }
+    ensures row { λ _. ⌜ now (row .exit) ≡ stringsLeft Strict (now (buffer .entry)) n part (now (row .entry)) ⌝ }
+{
+    call_rows::strings(buffer, n, part, row)
 }
 
 // Whether a keyword is there: one of the two calls of a keyword question.
@@ -144,6 +159,39 @@ pub extern "C" fn seg2_bits(
 
 // ---- one trace, quickly: the rest of the file is not looked at
 
+// Its block.
+#[no_mangle]
+pub extern "C" fn seg2_quick_trace_block(buffer: &[u8], n: usize, trace: i32) -> Seg2Trace
+    ensures { λ r. ⌜ r ≡ asTrace (blockAlone (now (buffer .entry)) n trace) ⌝ }
+{
+    call_quick::trace_block(buffer, n, trace)
+}
+
+// How many strings it has.
+#[no_mangle]
+pub extern "C" fn seg2_quick_string_count(buffer: &[u8], n: usize, trace: i32) -> Seg2Count
+    ensures { λ r. ⌜ r ≡ asCount (quickCount (now (buffer .entry)) n trace) ⌝ }
+{
+    call_quick::string_count(buffer, n, trace)
+}
+
+// Its string with an index, counted from 0.
+#[no_mangle]
+pub extern "C" fn seg2_quick_string(buffer: &[u8], n: usize, trace: i32, index: usize) -> Seg2String
+    ensures { λ r. ⌜ r ≡ asString (quickNth (now (buffer .entry)) n trace index) ⌝ }
+{
+    call_quick::string(buffer, n, trace, index)
+}
+
+// All its strings, into a row of four numbers each.
+#[no_mangle]
+pub extern "C" fn seg2_quick_strings(buffer: &[u8], n: usize, trace: i32, row: &mut [usize]) -> Seg2Verdict
+    ensures answer { λ r. ⌜ r ≡ asVerdict (quickStrings (now (buffer .entry)) n trace (length (now (row .entry)))) ⌝ }
+    ensures row { λ _. ⌜ now (row .exit) ≡ quickStringsLeft (now (buffer .entry)) n trace (now (row .entry)) ⌝ }
+{
+    call_rows::quick_strings(buffer, n, trace, row)
+}
+
 // Whether a trace has a keyword: one of the two calls.
 #[no_mangle]
 pub extern "C" fn seg2_quick_keyword(buffer: &[u8], n: usize, trace: i32, key: &[u8]) -> Seg2Keyword
@@ -158,6 +206,58 @@ pub extern "C" fn seg2_quick_value(buffer: &[u8], n: usize, trace: i32, key: &[u
     ensures { λ r. ⌜ r ≡ asValue (quickFind (now (buffer .entry)) n trace (now (key .entry))) ⌝ }
 {
     call_quick::value(buffer, n, trace, key)
+}
+
+// The number that its keyword's value is.
+#[no_mangle]
+pub extern "C" fn seg2_quick_number(buffer: &[u8], n: usize, trace: i32, key: &[u8]) -> Seg2Number
+    ensures { λ r. ⌜ r ≡ asNumber (quickNumber (now (buffer .entry)) n trace (now (key .entry))) ⌝ }
+{
+    call_quick_values::number(buffer, n, trace, key)
+}
+
+// The double that its keyword's value is.
+#[no_mangle]
+pub extern "C" fn seg2_quick_double(buffer: &[u8], n: usize, trace: i32, key: &[u8]) -> Seg2Double
+    ensures { λ r. ⌜ r ≡ asDouble (quickDouble (now (buffer .entry)) n trace (now (key .entry))) ⌝ }
+{
+    call_quick_values::double(buffer, n, trace, key)
+}
+
+// The location that its keyword's value is.
+#[no_mangle]
+pub extern "C" fn seg2_quick_location(buffer: &[u8], n: usize, trace: i32, key: &[u8]) -> Seg2Location
+    ensures { λ r. ⌜ r ≡ asLocation (quickLocation (now (buffer .entry)) n trace (now (key .entry))) ⌝ }
+{
+    call_quick_values::location(buffer, n, trace, key)
+}
+
+// Its samples of code 1 to 3, into a row of as many.
+#[no_mangle]
+pub extern "C" fn seg2_quick_integers(buffer: &[u8], n: usize, trace: i32, row: &mut [i32]) -> Seg2Verdict
+    ensures answer { λ r. ⌜ r ≡ asVerdict (quickIntegers (now (buffer .entry)) n trace (length (now (row .entry)))) ⌝ }
+    ensures row { λ _. ⌜ now (row .exit) ≡ quickIntegersLeft (now (buffer .entry)) n trace (now (row .entry)) ⌝ }
+{
+    call_rows::quick_integers(buffer, n, trace, row)
+}
+
+// The bit patterns and the classes of its samples of code 4 or 5, into two rows of as many.
+#[no_mangle]
+pub extern "C" fn seg2_quick_bits(
+    buffer: &[u8],
+    n: usize,
+    trace: i32,
+    row: &mut [u64],
+    classes: &mut [u8],
+) -> Seg2Verdict
+    ensures answer { λ r. ⌜ r ≡ asVerdict (quickBits (now (buffer .entry)) n trace (length (now (row .entry)))
+        (length (now (classes .entry)))) ⌝ }
+    ensures row { λ _. ⌜ now (row .exit) ≡ quickPatternsLeft (now (buffer .entry)) n trace (now (row .entry))
+        (now (classes .entry)) ⌝ }
+    ensures classes { λ _. ⌜ now (classes .exit)
+        ≡ quickClassesLeft (now (buffer .entry)) n trace (now (row .entry)) (now (classes .entry)) ⌝ }
+{
+    call_rows::quick_bits(buffer, n, trace, row, classes)
 }
 
 // ---- writing

@@ -1,2 +1,3 @@
 pub mod Until
 pub mod Turns
+pub mod Counted

@@ -1,5 +1,5 @@
--- The search for a keyword, string by string: a law for each turn of the loop, and that what is found lies in the area.
--- f is the file, the area its part up to e.
+-- The walk along an area's strings: a law for each turn of the loop, that what is found lies in the area, and that there
+-- are no more strings than bytes. f is the file, the area its part up to e.
 -- Assumes nothing.
 use mathlib.Core.Path.{_≡_, refl, sym, ap, _∙_}
 use mathlib.Core.Bool.{Bool, true, false}
@@ -16,7 +16,6 @@ use Rattle.refusal.specs.declared.Part.{Part}
 use Rattle.refusal.specs.declared.Refusal.{Refusal}
 use Rattle.refusal.specs.declared.Rule.the-variants.{StringOffset}
 use Rattle.text.specs.declared.Manner.the-variants.{Strict}
-use Rattle.chars.specs.Runs.{same}
 use Rattle.strings.specs.declared.Step.{Step}
 use Rattle.strings.specs.declared.Step.the-variants.{Next, Done, Bad}
 use Rattle.strings.specs.declared.Place.{Place}
@@ -24,112 +23,110 @@ use Rattle.strings.specs.Strings.{onFrame, stepOf, placeOf, PlaceIn}
 use Rattle.strings.specs.Frames.{frame-short}
 use Rattle.strings.specs.Walks.{next-fits, next-bounds, place-fits}
 use Rattle.strings.specs.Passed.{seenPlace, seen-key, seen-place}
-use Rattle.until.specs.declared.Sought.{Sought}
-use Rattle.until.specs.declared.Sought.the-variants as sought
-use Rattle.until.specs.Until.{passed, compared, onStep, soughtFrom, soughtOf}
+use Rattle.until.specs.declared.Turn.{Turn}
+use Rattle.until.specs.declared.Turn.the-variants.{Here, Gone, On}
+use Rattle.until.specs.declared.Walked.{Walked}
+use Rattle.until.specs.declared.Walked.the-variants as walked
+use Rattle.until.specs.Until.{onTurn, onStep, walkFrom, walkOf}
 
--- a turn of the search: the keyword before is the part from k to g of the file
-module _ (high : Bool) (t u : List ℕ) (p : Part) (key f : List ℕ) (e at k g m : ℕ) (low : at < e) (fits : e ≤ length f) (enough : e - at ≤ m) where
-  step : soughtFrom m high t u p key (part k g f) (part at e f) at
-      ≡ onStep (stepOf Strict high t u p (part k g f) (part at e f) at) sought.Refused sought.Nothing
+-- a turn of the walk: the keyword before is the part from k to g of the file, and j strings are passed
+module _ (look : ℕ → List ℕ → Turn) (high : Bool) (t u : List ℕ) (p : Part) (f : List ℕ) (e at k g j m : ℕ) (low : at < e) (fits : e ≤ length f)
+    (enough : e - at ≤ m) where
+  step : walkFrom look m high t u p j (part k g f) (part at e f) at
+      ≡ onStep (stepOf Strict high t u p (part k g f) (part at e f) at) walked.Bad (walked.Over j)
       (λ o n.
-      compared key (take n (drop 2 (part at e f))) (sought.Is (placeOf t o (part at e f) at)) sought.Nothing
-      (soughtFrom (m - 1) high t u p key (take n (drop 2 (part at e f))) (drop o (part at e f)) (at + o)))
-  unfolding soughtFrom
+      onTurn (look j (take n (drop 2 (part at e f)))) (walked.At (placeOf t o (part at e f) at)) (walked.Over j)
+      (walkFrom look (m - 1) high t u p (j + 1) (take n (drop 2 (part at e f))) (drop o (part at e f)) (at + o)))
+  unfolding walkFrom
   step = let s : m ≡ suc (m - 1) = omega arith in rw s (let q : suc (m - 1) - 1 ≡ m - 1 = omega arith in rw q)
 
-  pub sought-bad : {r : Refusal} → stepOf Strict high t u p (part k g f) (part at e f) at ≡ Bad r
-      → sought.Refused r ≡ soughtFrom m high t u p key (part k g f) (part at e f) at
-  sought-bad h = sym (step ∙ rw h)
+  pub walk-bad : {r : Refusal} → stepOf Strict high t u p (part k g f) (part at e f) at ≡ Bad r
+      → walked.Bad r ≡ walkFrom look m high t u p j (part k g f) (part at e f) at
+  walk-bad h = sym (step ∙ rw h)
 
-  pub sought-done : stepOf Strict high t u p (part k g f) (part at e f) at ≡ Done
-      → sought.Nothing ≡ soughtFrom m high t u p key (part k g f) (part at e f) at
-  sought-done h = sym (step ∙ rw h)
+  pub walk-done : stepOf Strict high t u p (part k g f) (part at e f) at ≡ Done
+      → walked.Over j ≡ walkFrom look m high t u p j (part k g f) (part at e f) at
+  walk-done h = sym (step ∙ rw h)
 
-  -- a string is passed, and its keyword compared
+  -- a string met no row, and is the asked one or not
   module _ (o n : ℕ) (h : stepOf Strict high t u p (part k g f) (part at e f) at ≡ Next o n) where
-    told : {v w : Bool} → same (part (at + 2) (at + 2 + n) f) key ≡ v → passed key (part (at + 2) (at + 2 + n) f) ≡ w
-        → soughtFrom m high t u p key (part k g f) (part at e f) at
-        ≡ pick v (sought.Is (seenPlace t f at (at + 2 + n) o))
-        (pick w sought.Nothing (soughtFrom (m - 1) high t u p key (part (at + 2) (at + 2 + n) f) (part (at + o) e f) (at + o)))
-    told a b =
+    told : {w : Turn} → look j (part (at + 2) (at + 2 + n) f) ≡ w
+        → walkFrom look m high t u p j (part k g f) (part at e f) at
+        ≡ onTurn w (walked.At (seenPlace t f at (at + 2 + n) o)) (walked.Over j)
+        (walkFrom look (m - 1) high t u p (j + 1) (part (at + 2) (at + 2 + n) f) (part (at + o) e f) (at + o))
+    told a =
         let y = seen-key Strict high t u p (part k g f) f e at o n fits h in
         let z = seen-place Strict high t u p (part k g f) f e at o n fits h in
-        step ∙ rw (h, y, z, part-drop o at e f, a, b)
+        step ∙ rw (h, y, z, part-drop o at e f, a)
 
-    pub sought-found : same (part (at + 2) (at + 2 + n) f) key ≡ true
-        → sought.Is (seenPlace t f at (at + 2 + n) o) ≡ soughtFrom m high t u p key (part k g f) (part at e f) at
-    sought-found a = sym (told a refl)
+    pub walk-here : look j (part (at + 2) (at + 2 + n) f) ≡ Here
+        → walked.At (seenPlace t f at (at + 2 + n) o) ≡ walkFrom look m high t u p j (part k g f) (part at e f) at
+    walk-here a = sym (told a)
 
-    pub sought-passed : same (part (at + 2) (at + 2 + n) f) key ≡ false → passed key (part (at + 2) (at + 2 + n) f) ≡ true
-        → sought.Nothing ≡ soughtFrom m high t u p key (part k g f) (part at e f) at
-    sought-passed a b = sym (told a b)
+    pub walk-gone : look j (part (at + 2) (at + 2 + n) f) ≡ Gone → walked.Over j ≡ walkFrom look m high t u p j (part k g f) (part at e f) at
+    walk-gone a = sym (told a)
 
-    pub sought-next : same (part (at + 2) (at + 2 + n) f) key ≡ false → passed key (part (at + 2) (at + 2 + n) f) ≡ false
-        → soughtFrom (m - 1) high t u p key (part (at + 2) (at + 2 + n) f) (part (at + o) e f) (at + o)
-        ≡ soughtFrom m high t u p key (part k g f) (part at e f) at
-    sought-next a b = sym (told a b)
+    pub walk-on : look j (part (at + 2) (at + 2 + n) f) ≡ On
+        → walkFrom look (m - 1) high t u p (j + 1) (part (at + 2) (at + 2 + n) f) (part (at + o) e f) (at + o)
+        ≡ walkFrom look m high t u p j (part k g f) (part at e f) at
+    walk-on a = sym (told a)
 
 -- the start, an empty area, and an area that ended without a mark
-module _ (high : Bool) (t u : List ℕ) (p : Part) (key f : List ℕ) (e : ℕ) where
-  pub sought-start : (a : ℕ) → a < e → e ≤ length f
-      → soughtFrom (length (part a e f)) high t u p key (part a a f) (part a e f) a ≡ soughtOf high t u p key (part a e f) a
-  unfolding soughtOf
-  sought-start a low fits =
+module _ (look : ℕ → List ℕ → Turn) (high : Bool) (t u : List ℕ) (p : Part) (f : List ℕ) (e : ℕ) where
+  pub walk-start : (a : ℕ) → a < e → e ≤ length f
+      → walkFrom look (length (part a e f)) high t u p 0 (part a a f) (part a e f) a ≡ walkOf look high t u p (part a e f) a
+  unfolding walkOf
+  walk-start a low fits =
       let w : length (part a e f) ≡ e - a = length-part a e f fits in
       rw (ne-eqb (length (part a e f)) 0 (omega arith), part-none a a f (omega arith))
 
-  pub sought-none : (a : ℕ) → e ≤ a → sought.Nothing ≡ soughtOf high t u p key (part a e f) a
-  unfolding soughtOf
-  sought-none a h = rw (part-none a e f h)
+  pub walk-none : (a : ℕ) → e ≤ a → walked.Over 0 ≡ walkOf look high t u p (part a e f) a
+  unfolding walkOf
+  walk-none a h = rw (part-none a e f h)
 
-  pub sought-over : (prev : List ℕ) (at m : ℕ) → e ≤ at
-      → sought.Refused (refusal StringOffset p at) ≡ soughtFrom m high t u p key prev (part at e f) at
-  unfolding soughtFrom stepOf onFrame
-  sought-over prev at zero h = refl
-  sought-over prev at (suc m) h = rw (part-none at e f h, ← frame-short Strict high t [] refl)
+  pub walk-past : (prev : List ℕ) (at j m : ℕ) → e ≤ at
+      → walked.Bad (refusal StringOffset p at) ≡ walkFrom look m high t u p j prev (part at e f) at
+  unfolding walkFrom stepOf onFrame
+  walk-past prev at j zero h = refl
+  walk-past prev at j (suc m) h = rw (part-none at e f h, ← frame-short Strict high t [] refl)
 
--- ---- what is found lies in the area
-module _ (high : Bool) (t u : List ℕ) (p : Part) (key : List ℕ) (e : ℕ) (s : Place) where
-  same-in : (r : Place) → r ≡ s → PlaceIn e r → PlaceIn e s
-  same-in r q h = rw q at h
+-- ---- where a walk ends. What is found lies in the area; each string that was passed has a byte of it
+abbrev pub EndsIn : ℕ → Walked → Type 0
+EndsIn e (walked.At s) = PlaceIn e s
+EndsIn e (walked.Over j) = j ≤ e
+EndsIn e (walked.Bad r) = Unit {0}
 
-  found-from : (m : ℕ) (prev l : List ℕ) (at : ℕ) → at + length l ≤ e → soughtFrom m high t u p key prev l at ≡ sought.Is s → PlaceIn e s
-  unfolding soughtFrom
-  found-from zero prev l at h q = let z : _≡_ {A = ℕ} 0 1 = cc in absurd (omega arith)
-  found-from (suc m) prev l at h q = go (stepOf Strict high t u p prev l at) refl q (λ o n. found-from m (take n (drop 2 l)) (drop o l) (at + o))
+module _ (look : ℕ → List ℕ → Turn) (high : Bool) (t u : List ℕ) (p : Part) (e : ℕ) where
+  from-in : (m j : ℕ) (prev l : List ℕ) (at : ℕ) → at + length l ≤ e → j ≤ at → EndsIn e (walkFrom look m high t u p j prev l at)
+  unfolding walkFrom
+  from-in zero j prev l at h c = tt
+  from-in (suc m) j prev l at h c = go (stepOf Strict high t u p prev l at) refl (λ o n. from-in m (j + 1) (take n (drop 2 l)) (drop o l) (at + o))
     where
-      at-string : (o n : ℕ) → stepOf Strict high t u p prev l at ≡ Next o n → (v w : Bool)
-          → pick v (sought.Is (placeOf t o l at))
-          (pick w sought.Nothing (soughtFrom m high t u p key (take n (drop 2 l)) (drop o l) (at + o))) ≡ sought.Is s
-          → (at + o + length (drop o l) ≤ e → soughtFrom m high t u p key (take n (drop 2 l)) (drop o l) (at + o) ≡ sought.Is s → PlaceIn e s)
-          → PlaceIn e s
-      at-string o n b true w k again =
-          let i = place-fits Strict high t l at o (next-fits Strict high t u p prev l at o n b .0) in
-          let y : placeOf t o l at ≡ s = cc in
-          let q : PlaceIn e (placeOf t o l at) = (i .inside .0, i .inside .1, i .inside .2, omega (arith, i .inside .3, i .within)) in
-          same-in (placeOf t o l at) y q
-      at-string o n b false true k again = let z : _≡_ {A = ℕ} 0 1 = cc in absurd (omega arith)
-      at-string o n b false false k again =
-          let c = next-bounds Strict high t u p prev l at o n b in
-          again (omega (arith, length-drop o l, c .1)) k
+      turn : (o : ℕ) (w : Turn) (more : Walked) → PlaceIn e (placeOf t o l at) → EndsIn e more
+          → EndsIn e (onTurn w (walked.At (placeOf t o l at)) (walked.Over j) more)
+      turn o Here more i again = i
+      turn o Gone more i again = omega arith
+      turn o On more i again = again
 
-      go : (w : Step) → stepOf Strict high t u p prev l at ≡ w
-          → onStep w sought.Refused sought.Nothing
+      go : (st : Step) → stepOf Strict high t u p prev l at ≡ st
+          → ((o n : ℕ) → at + o + length (drop o l) ≤ e → j + 1 ≤ at + o
+          → EndsIn e (walkFrom look m high t u p (j + 1) (take n (drop 2 l)) (drop o l) (at + o)))
+          → EndsIn e (onStep st walked.Bad (walked.Over j)
           (λ o n.
-          compared key (take n (drop 2 l)) (sought.Is (placeOf t o l at)) sought.Nothing
-          (soughtFrom m high t u p key (take n (drop 2 l)) (drop o l) (at + o))) ≡ sought.Is s
-          → ((o n : ℕ) → at + o + length (drop o l) ≤ e
-          → soughtFrom m high t u p key (take n (drop 2 l)) (drop o l) (at + o) ≡ sought.Is s → PlaceIn e s)
-          → PlaceIn e s
-      go (Next o n) b k again = at-string o n b (same (take n (drop 2 l)) key) (passed key (take n (drop 2 l))) k (again o n)
-      go Done b k again = let z : _≡_ {A = ℕ} 0 1 = cc in absurd (omega arith)
-      go (Bad r) b k again = let z : _≡_ {A = ℕ} 0 1 = cc in absurd (omega arith)
+          onTurn (look j (take n (drop 2 l))) (walked.At (placeOf t o l at)) (walked.Over j)
+          (walkFrom look m high t u p (j + 1) (take n (drop 2 l)) (drop o l) (at + o))))
+      go Done b again = omega arith
+      go (Bad r) b again = tt
+      go (Next o n) b again =
+          let i = place-fits Strict high t l at o (next-fits Strict high t u p prev l at o n b .0) in
+          let d = next-bounds Strict high t u p prev l at o n b in
+          turn o (look j (take n (drop 2 l))) _ (i .inside .0, i .inside .1, i .inside .2, omega (arith, i .inside .3, i .within))
+          (again o n (omega (arith, length-drop o l, d .1)) (omega (arith, d .0)))
 
-  pub found-in : (f : List ℕ) (a : ℕ) → a ≤ e → e ≤ length f → soughtOf high t u p key (part a e f) a ≡ sought.Is s → PlaceIn e s
-  unfolding soughtOf
-  found-in f a low fits q = go (eqb (length (part a e f)) 0) q
+  pub walk-in : (f : List ℕ) (a : ℕ) → a ≤ e → e ≤ length f → EndsIn e (walkOf look high t u p (part a e f) a)
+  unfolding walkOf
+  walk-in f a low fits = go (eqb (length (part a e f)) 0)
     where
-      go : (w : Bool) → pick w sought.Nothing (soughtFrom (length (part a e f)) high t u p key [] (part a e f) a) ≡ sought.Is s → PlaceIn e s
-      go true k = let z : _≡_ {A = ℕ} 0 1 = cc in absurd (omega arith)
-      go false k = found-from (length (part a e f)) [] (part a e f) a (omega (arith, length-part a e f fits)) k
+      go : (w : Bool) → EndsIn e (pick w (walked.Over 0) (walkFrom look (length (part a e f)) high t u p 0 [] (part a e f) a))
+      go true = omega arith
+      go false = from-in (length (part a e f)) 0 [] (part a e f) a (omega (arith, length-part a e f fits)) (omega arith)

@@ -11,7 +11,10 @@ ghost use mathlib.Core.Path.{_≡_};
 ghost use lib.ListN.{length};
 ghost use Rattle.word.specs.Part.{PartOf};
 ghost use Rattle.reader.specs.Questions.{valueThere, valueAnswer, spanThere, spanAnswer, numberAnswer, doubleAnswer};
-ghost use Rattle.reader.specs.Questions.{locationAnswer};
+ghost use Rattle.reader.specs.Questions.{locationAnswer, onString};
+ghost use Rattle.decimal.specs.Number.{numberIn};
+ghost use Rattle.double.specs.Double.{doubleOf};
+ghost use Rattle.location.specs.Location.{locationOf};
 ghost use Rattle.reader.specs.Leaves.{Within};
 
 // The value of a string that was found, as the caller's own bytes; else the empty part at the start.
@@ -47,32 +50,52 @@ pub fn value<'a>(buffer: &'a [u8], n: usize, part: i32, key: &[u8], how: Manner)
 
 // ---- numbers in values; an absent keyword has the empty value, which is no number and no location
 
-pub fn number(buffer: &[u8], n: usize, part: i32, key: &[u8], how: Manner) -> NumberAnswer
-    ensures { λ r. ⌜ r ≡ numberAnswer how (now (buffer .entry)) n part (now (key .entry)) ⌝ }
+// Of a string that was looked for: its own refusal, or the number that its value is.
+pub fn number_of(buffer: &[u8], s: StringAnswer) -> NumberAnswer
+    requires { ⌜ Within (length (now buffer)) s ⌝ }
+    ensures { λ r. ⌜ r ≡ onString NumberAnswer.Refused s (numberIn (valueThere (now (buffer .entry)) s)) ⌝ }
 {
-    let s = reader::find(buffer, n, part, key, how);
     if let StringAnswer::Refused(r) = s {
         return NumberAnswer::Refused(r);
     }
     decimal::number(value_at(buffer, s))
 }
 
-pub fn double(buffer: &[u8], n: usize, part: i32, key: &[u8], how: Manner) -> DoubleAnswer
-    ensures { λ r. ⌜ r ≡ doubleAnswer how (now (buffer .entry)) n part (now (key .entry)) ⌝ }
+pub fn double_of(buffer: &[u8], s: StringAnswer) -> DoubleAnswer
+    requires { ⌜ Within (length (now buffer)) s ⌝ }
+    ensures { λ r. ⌜ r ≡ onString DoubleAnswer.Refused s (doubleOf (valueThere (now (buffer .entry)) s)) ⌝ }
 {
-    let s = reader::find(buffer, n, part, key, how);
     if let StringAnswer::Refused(r) = s {
         return DoubleAnswer::Refused(r);
     }
     double::double(value_at(buffer, s))
 }
 
-pub fn location(buffer: &[u8], n: usize, part: i32, key: &[u8], how: Manner) -> LocationAnswer
-    ensures { λ r. ⌜ r ≡ locationAnswer how (now (buffer .entry)) n part (now (key .entry)) ⌝ }
+pub fn location_of(buffer: &[u8], s: StringAnswer) -> LocationAnswer
+    requires { ⌜ Within (length (now buffer)) s ⌝ }
+    ensures { λ r. ⌜ r ≡ onString LocationAnswer.Refused s (locationOf (valueThere (now (buffer .entry)) s)) ⌝ }
 {
-    let s = reader::find(buffer, n, part, key, how);
     if let StringAnswer::Refused(r) = s {
         return LocationAnswer::Refused(r);
     }
     location::location(value_at(buffer, s))
+}
+
+// Of a part's keyword.
+pub fn number(buffer: &[u8], n: usize, part: i32, key: &[u8], how: Manner) -> NumberAnswer
+    ensures { λ r. ⌜ r ≡ numberAnswer how (now (buffer .entry)) n part (now (key .entry)) ⌝ }
+{
+    number_of(buffer, reader::find(buffer, n, part, key, how))
+}
+
+pub fn double(buffer: &[u8], n: usize, part: i32, key: &[u8], how: Manner) -> DoubleAnswer
+    ensures { λ r. ⌜ r ≡ doubleAnswer how (now (buffer .entry)) n part (now (key .entry)) ⌝ }
+{
+    double_of(buffer, reader::find(buffer, n, part, key, how))
+}
+
+pub fn location(buffer: &[u8], n: usize, part: i32, key: &[u8], how: Manner) -> LocationAnswer
+    ensures { λ r. ⌜ r ≡ locationAnswer how (now (buffer .entry)) n part (now (key .entry)) ⌝ }
+{
+    location_of(buffer, reader::find(buffer, n, part, key, how))
 }

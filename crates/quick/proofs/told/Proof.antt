@@ -11,6 +11,6 @@ told-spec =
     (λ c. search needs)
     (λ c. search needs)
     (λ c. search needs)
-    (λ c. sym (rw (c .before .s .given .1)))
+    (λ c. sym (rw (c .before .w .given .1)))
     (λ c. search needs)
-    (λ c. sym (rw (c .before .s2 .given .1))))
+    (λ c. sym (rw (c .before .w2 .given .1))))

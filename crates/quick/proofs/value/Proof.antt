@@ -4,7 +4,7 @@ use lib.IntN.{ℤ}
 use mir.Syntax.{w32}
 use Rattle.word.specs.Signed.{handed}
 use Rattle.quick.specs.Quick.{quickFind}
-use Rattle.quick.specs.QuickLaws.{quick-lent, value-told, span-told}
+use Rattle.quick.specs.QuickLaws.{find-lent, value-told, span-told}
 use borrow.Author.Needs.{needs}
 use Rattle.quick.proofs.value.Statement.{statement}
 use Rattle.quick.proofs.value.Tie as tie
@@ -16,7 +16,7 @@ value-spec =
     (λ c κs. search needs)
     (λ c κs.
     let c3 = c .before .before .before in
-    rw (c .find .ensures) (quick-lent (c3 .args .buffer .now) (c3 .args .n) _ (c3 .args .key .now)))
+    rw (c .find .ensures) (find-lent (c3 .args .buffer .now) (c3 .args .n) _ (c3 .args .key .now)))
     (λ c.
     let c4 = c .before .before .before .before in
     let e = handed w32 (λ (z : ℤ). quickFind (c4 .args .buffer .now) (c4 .args .n) z (c4 .args .key .now)) (c4 .args .trace) (c4 .fits .trace

@@ -1,4 +1,4 @@
--- `traces::bits` meets its contract. The block of a trace of an accepted image fits it. Assumes nothing.
+-- `samples::bits` meets its contract. The block of a trace of an accepted image fits it. Assumes nothing.
 use mathlib.Core.Path.{sym, _∙_}
 use native.Mathlib.Omega.{arith}
 use lib.IntN.{ℤ}
@@ -47,17 +47,17 @@ bits-spec =
     (λ c. search needs)
     (λ c. search needs)
     (λ c.
-    let at-bits-of = c .before .before .before .before in
-    let at-a2 = at-bits-of .before .before .before .before .before in
+    let at-bits = c .before .before .before .before in
+    let at-a2 = at-bits .before .before .before .before .before in
     let at-trace-block = at-a2 .before .before in
     let start = at-trace-block .before .before .before .before in
     let args = start .args in
     let h = told _ _ _ _ _ (sym (handed w32 (λ (z : ℤ). traceAnswer (args .how) (args .buffer .now) (args .n) z)
     (args .trace) (start .fits .trace .sfits)
     (at-trace-block .trace-block .ensures)) ∙ at-a2 .a2 .given .1) in (
-      at-bits-of .bits-of .ensures .0 ∙ bits-answer _ _ _ _ _ h _ _,
+      at-bits .bits .ensures .0 ∙ bits-answer _ _ _ _ _ h _ _,
       (
-        at-bits-of .bits-of .ensures .1 .0 ∙ patterns-left _ _ _ _ _ h _ _,
-        at-bits-of .bits-of .ensures .1 .1 ∙ classes-left _ _ _ _ _ h _ _,
+        at-bits .bits .ensures .1 .0 ∙ patterns-left _ _ _ _ _ h _ _,
+        at-bits .bits .ensures .1 .1 ∙ classes-left _ _ _ _ _ h _ _,
       ),
     )))

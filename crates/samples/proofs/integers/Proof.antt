@@ -1,4 +1,4 @@
--- `traces::integers` meets its contract. The block of a trace of an accepted image fits it. Assumes nothing.
+-- `samples::integers` meets its contract. The block of a trace of an accepted image fits it. Assumes nothing.
 use mathlib.Core.Path.{sym, _∙_}
 use native.Mathlib.Omega.{arith}
 use lib.IntN.{ℤ}
@@ -46,12 +46,12 @@ integers-spec =
     (at-trace-block .trace-block .ensures)) ∙ at-a .a .given .1) _)
     (λ c. search needs)
     (λ c.
-    let at-integers-of = c .before in
-    let at-a2 = at-integers-of .before .before .before .before in
+    let at-integers = c .before in
+    let at-a2 = at-integers .before .before .before .before in
     let at-trace-block = at-a2 .before .before in
     let start = at-trace-block .before .before in
     let args = start .args in
     let h = told _ _ _ _ _ (sym (handed w32 (λ (z : ℤ). traceAnswer (args .how) (args .buffer .now) (args .n) z)
     (args .trace) (start .fits .trace .sfits)
     (at-trace-block .trace-block .ensures)) ∙ at-a2 .a2 .given .1) in
-    (at-integers-of .integers-of .ensures .0 ∙ integers-answer _ _ _ _ _ h _, at-integers-of .integers-of .ensures .1 ∙ integers-left _ _ _ _ _ h _)))
+    (at-integers .integers .ensures .0 ∙ integers-answer _ _ _ _ _ h _, at-integers .integers .ensures .1 ∙ integers-left _ _ _ _ _ h _)))

@@ -1,14 +1,13 @@
 -- `values::number` meets its contract. What was found lies in the buffer. Assumes nothing.
-use mathlib.Core.Path.{sym, _∙_}
+use mathlib.Core.Path.{_∙_}
 use lib.IntN.{ℤ}
-use borrow.Author.Needs.{needs}
 use mir.Syntax.{w32}
+use Rattle.word.specs.Signed.{handed}
 use Rattle.decimal.specs.Number.{numberIn}
 use Rattle.decimal.specs.declared.NumberAnswer.the-variants as number
 use Rattle.reader.specs.Reach.{find-lent, value-made}
 use Rattle.reader.specs.Questions.{findAnswer, numberAnswer}
-use Rattle.word.specs.Signed.{handed}
-use Rattle.values.proofs.Passed.{answered}
+use borrow.Author.Needs.{needs}
 use Rattle.values.proofs.number.Statement.{statement}
 use Rattle.values.proofs.number.Tie as tie
 
@@ -18,23 +17,11 @@ number-spec =
     tie.close
     (tie.spec
     (λ c κs. search needs)
-    (λ c. search needs)
+    (λ c κs. rw (c .find .ensures) (find-lent _ _ _ _ _))
     (λ c.
-    let at-s = c .before in
-    let at-find = at-s .before .before in
-    let start = at-find .before .before .before in
+    let start = c .before .before .before .before in
     let args = start .args in
-    rw (sym (handed w32 (λ (z : ℤ). findAnswer (args .how) (args .buffer .now) (args .n) z (args .key .now)) (args .part) (start .fits .part .sfits)
-    (at-find .find .ensures)) ∙ at-s .s .given .1))
-    (λ c κs. rw (c .before .find .ensures) (find-lent _ _ _ _ _))
-    (λ c κs. search needs)
-    (λ c.
-    let at-value-at = c .before in
-    let at-match = at-value-at .before in
-    let at-find = at-match .before in
-    let start = at-find .before .before .before in
-    let args = start .args in
-    c .number .ensures ∙ value-made _ number.Refused numberIn _ _ _ _ _ _ (handed w32 (λ (z : ℤ). findAnswer (args .how)
-    (args .buffer .now) (args .n) z (args .key .now))
-    (args .part) (start .fits .part .sfits) (at-find .find .ensures)) (at-value-at .value-at .ensures .0)
-    (answered number.Refused (at-find .find .result) (at-match .match .keys2))))
+    c .number-of .ensures
+    ∙ value-made _ number.Refused numberIn _ _ _ _ _
+    (handed w32 (λ (z : ℤ). findAnswer (args .how) (args .buffer .now) (args .n) z (args .key .now)) (args .part) (start .fits .part .sfits)
+    (c .before .find .ensures))))
