@@ -18,4 +18,3 @@ pub mod Ignored
 pub mod Repeats
 pub mod Decimals
 pub mod Channels
-pub mod Quickly

@@ -6,7 +6,7 @@
 use mathlib.Core.Path.{_≡_, refl, sym, ap, _∙_}
 use mathlib.Core.Bool.{Bool, true, false, not, _||_}
 use mathlib.Core.List.{List, [], _∷_, _++_}
-use Prim.Native.Nat.{ℕ, zero, suc}
+use Prim.Native.Nat.{ℕ, zero, suc, _+_, _*_}
 use lib.IntN.{ℤ, pos, negsuc, natAbs}
 use lib.Signed.{ltZ}
 use lib.ListN.{length, take}
@@ -44,17 +44,23 @@ use Rattle.image.specs.Image.{checkOf}
 use Rattle.reader.specs.declared.Whose.the-variants.{One, Nobody}
 use Rattle.head.specs.declared.FileAnswer.the-variants as file
 use Rattle.block.specs.declared.TraceAnswer.the-variants as trace
+use Rattle.reader.specs.declared.CountAnswer.{CountAnswer}
 use Rattle.reader.specs.declared.CountAnswer.the-variants as count
+use Rattle.reader.specs.declared.Area.{Area}
+use Rattle.reader.specs.declared.Area.the-variants.{Outside, From}
+use Rattle.word.specs.Part.{part}
+use Rattle.places.specs.Numbers.{fourOf, numbersOf, numbers-nth}
 use Rattle.reader.specs.declared.StringAnswer.the-variants as string
 use Rattle.reader.specs.declared.KeywordAnswer.the-variants as keyword
 use Rattle.reader.specs.Questions.{noTrace, whoseOf, isTrace, areaNamed, areaAsked, onArea, onTrace, fileAnswer, traceAnswer}
+use Rattle.reader.specs.Questions.{stringsVerdict, stringsAnswer, stringsLeft, numbersIn}
 use Rattle.reader.specs.Questions.{placesIn, countAnswer, there, nthAnswer, findAnswer, yesOrNo, keywordAnswer}
 use Rattle.reader.specs.Questions.{valueThere, valueAnswer, onString, numberAnswer, doubleAnswer, locationAnswer}
 use Rattle.reader.specs.Questions.{codeAt, countAt, ofIntegers, ofBits, blockAt, integersRows, bitsRows}
 use Rattle.reader.specs.Questions.{integersVerdict, bitsVerdict, integersAnswer, bitsAnswer, traceNumber}
 use Rattle.reader.specs.Leaves.{on-trace}
 use Rattle.reader.specs.Listed.{found-value}
-use Rattle.refusal.specs.FirstRow.{row, firstOf, first-more, rowsAt, rule-first, asked-more, asked-row, asked-none}
+use Rattle.refusal.specs.FirstRow.{row, firstOf, first-one, first-more, rowsAt, rule-first, asked-more, asked-row, asked-none}
 use Rattle.demands.specs.FileRows.{checkRows, check-answers-first}
 
 -- ---- 18
@@ -141,6 +147,45 @@ pub nth-answers-first : (how : Manner) (xs : List ℕ) (n : ℕ) (z : ℤ) (i : 
     → nthAnswer how xs n z i ≡ asked string.Refused (firstOf (partAskedRows how xs n z)) (there (nthOf (placesAsked how (take n xs) z) i))
 unfolding nthAnswer
 nth-answers-first how xs n z i = part-first how string.Refused (λ ps. there (nthOf ps i)) xs n z
+
+-- all strings of a part at once: the part's rows, then "32 where the row's length is not four times the count". Rules out a
+-- row that is filled in part.
+abbrev pub stringsAskedRows : Manner → List ℕ → ℕ → ℤ → ℕ → List Verdict
+stringsAskedRows how xs n z s =
+    partAskedRows how xs n z ++ (row (not (eqb s (4 * length (placesAsked how (take n xs) z)))) RowLength File 0 ∷ [])
+
+pub strings-answer-first : (how : Manner) (xs : List ℕ) (n : ℕ) (z : ℤ) (s : ℕ) → stringsAnswer how xs n z s ≡ firstOf (stringsAskedRows how xs n z s)
+unfolding stringsAnswer andThen
+strings-answer-first how xs n z s =
+    let c : ℕ = length (placesAsked how (take n xs) z) in
+    let last : Verdict = row (not (eqb s (4 * c))) RowLength File 0 in
+    ap (λ (w : CountAnswer). stringsVerdict w s) (count-answers-first how xs n z)
+    ∙ go (firstOf (partAskedRows how xs n z)) c
+    ∙ ap (andThen (firstOf (partAskedRows how xs n z))) (first-one last)
+    ∙ sym (first-more (partAskedRows how xs n z) (last ∷ []))
+  where
+    go : (v : Verdict) (c : ℕ) → stringsVerdict (asked count.Refused v (count.Is c)) s ≡ andThen v (row (not (eqb s (4 * c))) RowLength File 0)
+    go Accepted c = refl
+    go (Refused r) c = refl
+
+-- "four numbers a string": the i-th four are those that the question for the i-th string answers. Rules out another order, a
+-- place of another string, and a row whose strings are not those of the part.
+pub row-holds-each : (how : Manner) (xs : List ℕ) (n : ℕ) (z : ℤ) (row : List ℕ) (i : ℕ) (s : Place) → stringsAnswer how xs n z (length row) ≡ Accepted
+    → nthAnswer how xs n z i ≡ string.There s → part (4 * i) (4 * i + 4) (stringsLeft how xs n z row) ≡ fourOf s
+unfolding stringsLeft numbersIn numbersOf
+row-holds-each how xs n z row i s ok e =
+    let f : List ℕ = take n xs in
+    rw ok (ap (part (4 * i) (4 * i + 4)) (inside (areaAsked f z))
+    ∙ numbers-nth (placesAsked how f z) i s (told (firstOf (partAskedRows how xs n z)) (nthOf (placesAsked how f z) i) (sym (nth-answers-first how xs n z i) ∙ e)))
+  where
+    inside : (w : Area) → onArea w [] (λ a e. numbersOf (placesIn how (take n xs) a e)) ≡ numbersOf (onArea w [] (λ a e. placesIn how (take n xs) a e))
+    inside Outside = refl
+    inside (From a e) = refl
+
+    told : (v : Verdict) (y : Found) → asked string.Refused v (there y) ≡ string.There s → y ≡ Is s
+    told Accepted Nothing h = let q : _≡_ {A = ℕ} 0 1 = cc in absurd (omega arith)
+    told Accepted (Is p) h = let q : p ≡ s = cc in ap Is q
+    told (Refused r) y h = let q : _≡_ {A = ℕ} 0 1 = cc in absurd (omega arith)
 
 pub find-answers-first : (how : Manner) (xs : List ℕ) (n : ℕ) (z : ℤ) (key : List ℕ)
     → findAnswer how xs n z key ≡ asked string.Refused (firstOf (partAskedRows how xs n z)) (there (foundAsked how (take n xs) z key))
@@ -277,7 +322,7 @@ integersAskedRows how xs n z s =
     ∷ [])
 
 -- behind the rows nothing comes
-ruled-rows : (rs : Rows Rule) → ruled rs (λ r. Refused (refusal r File 0)) Accepted ≡ firstOf (rowsAt File 0 rs)
+pub ruled-rows : (rs : Rows Rule) → ruled rs (λ r. Refused (refusal r File 0)) Accepted ≡ firstOf (rowsAt File 0 rs)
 unfolding andThen
 ruled-rows rs = rule-first rs File 0 Accepted ∙ then-none (firstOf (rowsAt File 0 rs))
   where

@@ -3,11 +3,15 @@
 -- Assumes nothing.
 use mathlib.Core.Path.{_≡_, refl, sym, ap, _∙_}
 use mathlib.Core.List.{List, [], _∷_, _++_, append-nil}
-use Prim.Native.Nat.{ℕ, _+_, _-_, _*_, _≤_}
+use Prim.Native.Nat.{ℕ, zero, suc, _+_, _-_, _*_, _≤_}
 use native.Mathlib.Omega.{arith}
 use lib.ListN.{length, length-append}
+use lib.Seq.{drop-drop}
+use Rattle.word.specs.Part.{part}
 use Rattle.word.specs.Put.{put, put-none, put-append, put-over}
 use Rattle.strings.specs.declared.Place.{Place}
+use Rattle.strings.specs.declared.Found.the-variants.{Is}
+use Rattle.strings.specs.Strings.{nthOf}
 
 abbrev pub fourOf : Place → List ℕ
 fourOf s = s .key ∷ (s .gap - s .key) ∷ s .value ∷ (s .end - s .value) ∷ []
@@ -39,3 +43,13 @@ numbers-all ss row e =
     ap (λ (r : List ℕ). put r 0 (numbersOf ss)) (sym (append-nil row))
     ∙ put-over row (numbersOf ss) [] (e ∙ sym (length-numbers ss))
     ∙ append-nil (numbersOf ss)
+
+-- the i-th four numbers of the row are those of the i-th string
+pub numbers-nth : (ss : List Place) (i : ℕ) (s : Place) → nthOf ss i ≡ Is s → part (4 * i) (4 * i + 4) (numbersOf ss) ≡ fourOf s
+unfolding numbersOf nthOf
+numbers-nth [] i s h = let z : _≡_ {A = ℕ} 0 1 = cc in absurd (omega arith)
+numbers-nth (r ∷ rs) zero s h = let e : r ≡ s = cc in rw e
+numbers-nth (r ∷ rs) (suc i) s h =
+    let a : 4 * suc i ≡ 4 + 4 * i = omega arith in
+    let n : 4 + 4 * i + 4 - (4 + 4 * i) ≡ 4 * i + 4 - 4 * i = omega arith in
+    rw (a, n, ← drop-drop (4 * i) 4 (fourOf r ++ numbersOf rs)) (numbers-nth rs i s h)

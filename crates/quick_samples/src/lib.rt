@@ -35,8 +35,8 @@ pub fn bits(
     ensures classes { λ _. ⌜ now (classes .exit)
         ≡ quickClassesLeft (now (buffer .entry)) n trace (now (row .entry)) (now (classes .entry)) ⌝ }
 {
-    let b = one_trace::block(buffer, n, trace);
-    match b {
+    let x = one_trace::block(buffer, n, trace);
+    match x {
         TraceAnswer::Refused(r) => Verdict::Refused(r),
         TraceAnswer::Is(t) => sample_rows::bits(&buffer[..n], t, row, classes),
     }

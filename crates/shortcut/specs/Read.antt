@@ -1,6 +1,7 @@
--- The bytes that the quick question reads (document 02 §5): "the file block's first 32 bytes, pointer k, the first 32
--- bytes of that trace's block, and its strings in order only until the keyword is found or passed (that string is read
--- whole and checked)". xs is the lent buffer, n the length given beside it, f the image: the first n bytes.
+-- The bytes that a quick question reads (document 02 §5): "the file block's first 32 bytes, pointer k, the first 32 bytes
+-- of that trace's block, and its strings in order only until the keyword is found or passed (that string is read whole and
+-- checked)"; so too up to the i-th string, or all of them, and for samples the trace's data. xs is the lent buffer, n the
+-- length given beside it, f the image: the first n bytes.
 -- Assumes nothing.
 use mathlib.Core.Path.{_≡_}
 use mathlib.Core.Bool.{Bool, not, _&&_}
@@ -22,12 +23,13 @@ use Rattle.strings.specs.Strings.{offset, stepOf}
 use Rattle.head.specs.declared.Purpose.the-variants.{Read}
 use Rattle.head.specs.Head.{highFirst, roomOf, countOf, headOf}
 use Rattle.terminators.specs.Terminators.{stringEnd, lineEnd}
-use Rattle.block.specs.Block.{dataAt, pointerRow, blockOf}
+use Rattle.block.specs.Block.{dataAt, endAt, pointerRow, blockOf}
 use Rattle.block.specs.BlockLaws.{headAt}
 use Rattle.image.specs.Image.{badLength}
 use Rattle.image.specs.Keeps.{traceAt}
-use Rattle.until.specs.Until.{compared, onStep}
-use Rattle.reader.specs.Questions.{isTrace, traceNumber}
+use Rattle.until.specs.declared.Turn.{Turn}
+use Rattle.until.specs.Until.{onTurn, onStep}
+use Rattle.reader.specs.Questions.{isTrace, traceNumber, blockAt, integersVerdict, bitsVerdict}
 
 -- ---- of the strings: as many bytes of their area, the first (the arguments are until/Until's)
 
@@ -39,41 +41,60 @@ reaches high t l = leb (3 + length t) (offset high l) && leb (offset high l) (le
 unfoldable pub stringRead : Bool → List ℕ → List ℕ → ℕ
 stringRead high t l = pick (ltb (length l) 2) 0 (pick (reaches high t l) (offset high l) 2)
 
--- string by string, and none behind that which ends the search
-unfoldable pub readFrom : ℕ → Bool → List ℕ → List ℕ → Part → List ℕ → List ℕ → List ℕ → ℕ → ℕ
-readFrom zero high t u p key prev l at = 0
-readFrom (suc m) high t u p key prev l at =
+-- string by string, and none behind that which ends the walk
+unfoldable pub readFrom : (ℕ → List ℕ → Turn) → ℕ → Bool → List ℕ → List ℕ → Part → ℕ → List ℕ → List ℕ → ℕ → ℕ
+readFrom look zero high t u p j prev l at = 0
+readFrom look (suc m) high t u p j prev l at =
     stringRead high t l
     + onStep (stepOf Strict high t u p prev l at) (λ r. 0) 0
-    (λ o n. compared key (take n (drop 2 l)) 0 0 (readFrom m high t u p key (take n (drop 2 l)) (drop o l) (at + o)))
+    (λ o n. onTurn (look j (take n (drop 2 l))) 0 0 (readFrom look m high t u p (j + 1) (take n (drop 2 l)) (drop o l) (at + o)))
 
-unfoldable pub readOf : Bool → List ℕ → List ℕ → Part → List ℕ → List ℕ → ℕ → ℕ
-readOf high t u p key l at = readFrom (length l) high t u p key [] l at
+unfoldable pub readOf : (ℕ → List ℕ → Turn) → Bool → List ℕ → List ℕ → Part → List ℕ → ℕ → ℕ
+readOf look high t u p l at = readFrom look (length l) high t u p 0 [] l at
 
--- ---- of the whole: spans of the image, each from a place up to another
-
--- how many of its strings' bytes
-unfoldable pub readIn : List ℕ → ℕ → List ℕ → ℕ
-readIn f k key =
+-- how many of the trace's strings' bytes
+unfoldable pub readIn : (ℕ → List ℕ → Turn) → List ℕ → ℕ → ℕ
+readIn look f k =
     let p = traceAt f k in
-    readOf (highFirst f) (stringEnd f) (lineEnd f) (Trace k) key (part (p + 32) (dataAt (highFirst f) f p) f) (p + 32)
+    readOf look (highFirst f) (stringEnd f) (lineEnd f) (Trace k) (part (p + 32) (dataAt (highFirst f) f p) f) (p + 32)
 
--- a span is read where the check before it was passed
-abbrev pub behind : Verdict → ℕ × ℕ → List (ℕ × ℕ) → List (ℕ × ℕ)
-behind Accepted s rest = s ∷ rest
-behind (Refused r) s rest = []
+-- ---- spans of the image, each from a place up to another
+
+-- spans are read where the check before them was passed
+abbrev pub behind : Verdict → List (ℕ × ℕ) → List (ℕ × ℕ)
+behind Accepted ss = ss
+behind (Refused r) ss = []
+
+-- the question's own: of the trace's block none more; of its strings as far as it goes; of its samples the data, behind
+-- rows 33 and 32
+abbrev pub blockRead : List ℕ → ℕ → List (ℕ × ℕ)
+blockRead f k = []
+
+abbrev pub stringsRead : (ℕ → List ℕ → Turn) → List ℕ → ℕ → List (ℕ × ℕ)
+stringsRead look f k = (traceAt f k + 32, traceAt f k + 32 + readIn look f k) ∷ []
+
+abbrev pub dataRead : Verdict → List ℕ → ℕ → List (ℕ × ℕ)
+dataRead v f k = behind v ((dataAt (highFirst f) f (traceAt f k), endAt (highFirst f) f (traceAt f k)) ∷ [])
+
+abbrev pub integersRead : ℕ → List ℕ → ℕ → List (ℕ × ℕ)
+integersRead s f k = dataRead (integersVerdict (blockAt f k) s) f k
+
+abbrev pub bitsRead : ℕ → ℕ → List ℕ → ℕ → List (ℕ × ℕ)
+bitsRead s c f k = dataRead (bitsVerdict (blockAt f k) s c) f k
 
 -- behind row 1 the file block's first 32 bytes; behind 2 to 7 and 18 pointer k; behind 8 the block's first 32; behind 9
--- to 13 the strings
-unfoldable pub bytesRead : List ℕ → ℕ → ℤ → List ℕ → List (ℕ × ℕ)
-bytesRead xs n z key =
+-- to 13 the question's own
+unfoldable pub bytesRead : (List ℕ → ℕ → List (ℕ × ℕ)) → List ℕ → ℕ → ℤ → List (ℕ × ℕ)
+bytesRead own xs n z =
     let f = take n xs in
     let k = traceNumber z in
     let p = traceAt f k in
-    behind (row (badLength (length xs) n) Length File 0) (0, 32)
-    (behind (firstOf (headOf Read (take 32 f) (length f) ∷ row (not (isTrace z (countOf f))) NoTrace File 0 ∷ [])) (32 + 4 * k, 36 + 4 * k)
-    (behind (pointerRow (length f) k (32 + roomOf f) p) (p, p + 32)
-    (behind (blockOf (highFirst f) (headAt f p) (length f) k p) (p + 32, p + 32 + readIn f k key) [])))
+    behind (row (badLength (length xs) n) Length File 0)
+    ((0, 32)
+    ∷ behind (firstOf (headOf Read (take 32 f) (length f) ∷ row (not (isTrace z (countOf f))) NoTrace File 0 ∷ []))
+    ((32 + 4 * k, 36 + 4 * k)
+    ∷ behind (pointerRow (length f) k (32 + roomOf f) p)
+    ((p, p + 32) ∷ behind (blockOf (highFirst f) (headAt f p) (length f) k p) (own f k))))
 
 -- two images are alike on spans
 abbrev pub Agree : List ℕ → List ℕ → List (ℕ × ℕ) → Type 0

@@ -13,14 +13,14 @@ use Rattle.quick_samples.proofs.bits.Statement.{statement}
 use Rattle.quick_samples.proofs.bits.Tie as tie
 
 -- the block that was answered
-read : (c : tie.After-b2)
+read : (c : tie.After-x2)
     → let args = c .before .before .before .before .before .before .args in
-    blockAlone (args .buffer .now) (args .n) (args .trace) ≡ trace.Is (c .b2 .given .0 .0)
+    blockAlone (args .buffer .now) (args .n) (args .trace) ≡ trace.Is (c .x2 .given .0 .0)
 read c =
     let start = c .before .before .before .before .before .before in
     let args = start .args in
     sym (handed w32 (λ (z : ℤ). blockAlone (args .buffer .now) (args .n) z) (args .trace) (start .fits .trace .sfits) (c .before .before .block .ensures))
-    ∙ c .b2 .given .1
+    ∙ c .x2 .given .1
 
 pub bits-spec : {M : Type 1} → statement M
 bits-spec =
@@ -40,7 +40,7 @@ bits-spec =
     bits-bad _ _ _ _
     (sym (handed w32 (λ (z : ℤ). blockAlone (args .buffer .now) (args .n) z) (args .trace) (start .fits .trace .sfits)
     (c .before .before .before .block .ensures))
-    ∙ c .before .b .given .1) _ _)
+    ∙ c .before .x .given .1) _ _)
     (λ c. search needs)
     (λ c. search needs)
     (λ c.
