@@ -38,11 +38,12 @@ use Rattle.image.specs.Accepted.{before-next}
 use Rattle.reader.specs.Reach.{some-trace, trace-pointed, trace-blocked}
 use Rattle.digits.specs.Digits.{digits, digits-few}
 use Rattle.lines.specs.Lines.{whose, headLine, traceLine, stringLine}
-use Rattle.listing.specs.Listing.{linesText, valuesOf, stringsText, stringsIn, traceText, tracesText, fileText}
+use Rattle.string_lines.specs.StringLines.{linesText, valuesOf, stringsText}
+use Rattle.file_lines.specs.FileLines.{stringsIn, traceText, tracesText, fileText}
 use Rattle.listing.specs.Listing.{roomFor}
 use Rattle.lines.specs.Sizes.{five, length-ended, length-order, length-head, length-trace, length-label, length-line}
 use Rattle.lines.specs.Spaced.{length-spaced}
-use Rattle.listing.specs.Told.{line-some}
+use Rattle.file_lines.specs.Told.{line-some}
 
 -- ---- numbers
 one : (n : ℕ) → n < 10 → length (digits n) ≤ 1

@@ -1,10 +1,10 @@
--- `listing::put_file` meets its contract. The first line, the strings, the traces. Assumes nothing.
-use Rattle.listing.specs.Told.{ends-good, line-some, count-told, first-slot, file-area, file-first, file-second}
-use Rattle.listing.specs.Told.{file-third, file-all}
+-- `file_lines::put_file` meets its contract. The first line, the strings, the traces. Assumes nothing.
+use Rattle.file_lines.specs.Told.{ends-good, line-some, count-told, first-slot, file-area, file-first, file-second}
+use Rattle.file_lines.specs.Told.{file-third, file-all}
 use native.Mathlib.Omega.{arith}
 use borrow.Author.Needs.{needs}
-use Rattle.listing.proofs.put_file.Statement.{statement}
-use Rattle.listing.proofs.put_file.Tie as tie
+use Rattle.file_lines.proofs.put_file.Statement.{statement}
+use Rattle.file_lines.proofs.put_file.Tie as tie
 
 pub put-file-spec : {M : Type 1} → statement M
 put-file-spec =

@@ -1,9 +1,9 @@
--- `listing::put_string` meets its contract. Only a NOTE has lines. Assumes nothing.
+-- `string_lines::put_string` meets its contract. Only a NOTE has lines. Assumes nothing.
 use mathlib.Core.Path.{sym, _∙_}
-use Rattle.listing.specs.Turns.{values-note, values-plain, lines-one}
+use Rattle.string_lines.specs.Turns.{values-note, values-plain, lines-one}
 use borrow.Author.Needs.{needs}
-use Rattle.listing.proofs.put_string.Statement.{statement}
-use Rattle.listing.proofs.put_string.Tie as tie
+use Rattle.string_lines.proofs.put_string.Statement.{statement}
+use Rattle.string_lines.proofs.put_string.Tie as tie
 
 pub put-string-spec : {M : Type 1} → statement M
 put-string-spec =

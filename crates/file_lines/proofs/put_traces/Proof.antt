@@ -1,11 +1,11 @@
--- `listing::put_traces` meets its contract. The invariant: the traces that are left, stored, make the whole. Assumes
+-- `file_lines::put_traces` meets its contract. The invariant: the traces that are left, stored, make the whole. Assumes
 -- nothing.
 use Prim.Native.Nat.{_-_}
-use Rattle.listing.specs.Walks.{Tracing, tracing-start, tracing-over, tracing-room, tracing-turn}
+use Rattle.file_lines.specs.Walks.{Tracing, tracing-start, tracing-over, tracing-room, tracing-turn}
 use borrow.Author.Needs.{needs}
 use native.Mathlib.Omega.{arith}
-use Rattle.listing.proofs.put_traces.Statement.{statement}
-use Rattle.listing.proofs.put_traces.Tie as tie
+use Rattle.file_lines.proofs.put_traces.Statement.{statement}
+use Rattle.file_lines.proofs.put_traces.Tie as tie
 
 abbrev Inv-loop : tie.InvT-loop
 Inv-loop out₀ at f n k₀ to₀ out k to = Tracing out₀ at f n k to out

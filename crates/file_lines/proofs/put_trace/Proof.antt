@@ -1,10 +1,10 @@
--- `listing::put_trace` meets its contract. Its line, then its strings. Assumes nothing.
-use Rattle.listing.specs.Told.{ends-good, line-some, trace-slot, trace-area, trace-first, trace-second}
-use Rattle.listing.specs.Told.{trace-both}
+-- `file_lines::put_trace` meets its contract. Its line, then its strings. Assumes nothing.
+use Rattle.file_lines.specs.Told.{ends-good, line-some, trace-slot, trace-area, trace-first, trace-second}
+use Rattle.file_lines.specs.Told.{trace-both}
 use native.Mathlib.Omega.{arith}
 use borrow.Author.Needs.{needs}
-use Rattle.listing.proofs.put_trace.Statement.{statement}
-use Rattle.listing.proofs.put_trace.Tie as tie
+use Rattle.file_lines.proofs.put_trace.Statement.{statement}
+use Rattle.file_lines.proofs.put_trace.Tie as tie
 
 pub put-trace-spec : {M : Type 1} → statement M
 put-trace-spec =

@@ -1,4 +1,4 @@
--- The walks over a NOTE's lines, an area's strings and a file's traces: a law for each turn.
+-- The walks over a NOTE's lines and an area's strings: a law for each turn.
 -- Assumes nothing.
 use mathlib.Core.Path.{_≡_, refl, sym, ap, _∙_}
 use mathlib.Core.Bool.{Bool, true, false}
@@ -23,7 +23,7 @@ use Rattle.strings.specs.Strings.{valueIn}
 use Rattle.strings.specs.Walks.{in-frame, place-next, place-stop, place-bounds}
 use Rattle.strings.specs.Spelled.{strsIn}
 use Rattle.lines.specs.Lines.{stringLine}
-use Rattle.listing.specs.Listing.{linesText, valuesOf, stringsText, traceText, tracesText}
+use Rattle.string_lines.specs.StringLines.{linesText, valuesOf, stringsText}
 
 -- ---- the lines of a NOTE: e is where the line from `from` on ends
 module _ (u v : List ℕ) (from e m : ℕ) (told : e ≡ from + lineLen u (drop from v)) (enough : length (drop from v) ≤ m) where
@@ -143,12 +143,3 @@ pub strings-over : (p : Part) (u f : List ℕ) (high : Bool) (t : List ℕ) (e a
 unfolding stringsText
 strings-over p u f high t e at m h = ap (λ (ps : List Place). stringsText p u (strsIn f ps))
     (sym (Rattle.strings.specs.Walks.place-over Strict high t f e at m h))
-
--- ---- the traces
-pub trace-next : (f : List ℕ) (n k : ℕ) → k < n → tracesText f (n - k) k ≡ traceText f k ++ tracesText f (n - (k + 1)) (k + 1)
-unfolding tracesText
-trace-next f n k h = let e : n - k ≡ suc (n - (k + 1)) = omega arith in rw e
-
-pub traces-over : (f : List ℕ) (n k : ℕ) → n ≤ k → tracesText f (n - k) k ≡ []
-unfolding tracesText
-traces-over f n k h = let e : n - k ≡ 0 = omega arith in rw e

@@ -1,4 +1,4 @@
--- What a walk has written, and what is left: of a NOTE's lines, of an area's strings and of a file's traces.
+-- What a walk has written, and what is left: of a NOTE's lines and of an area's strings.
 -- Assumes nothing.
 use mathlib.Core.Path.{_≡_, refl, sym, ap, _∙_}
 use mathlib.Core.Bool.{Bool}
@@ -18,10 +18,10 @@ use Rattle.strings.specs.Spelled.{strsIn}
 use Rattle.lines.specs.Lines.{label, stringLine}
 use Rattle.lines.specs.Sizes.{length-line}
 use Rattle.lines.specs.Spaced.{length-spaced}
-use Rattle.listing.specs.Listing.{linesText, stringsText, traceText, tracesText}
+use Rattle.string_lines.specs.StringLines.{linesText, stringsText}
 use Rattle.word.specs.Wrote.{Room, Wrote, Left, left-start, left-room, left-turn, left-over, left-last-room, left-last}
-use Rattle.listing.specs.Turns.{line-on, line-last, lines-more, lines-one, textFrom, lineText, string-in}
-use Rattle.listing.specs.Turns.{string-next, string-none, strings-over, trace-next, traces-over}
+use Rattle.string_lines.specs.Turns.{line-on, line-last, lines-more, lines-one, textFrom, lineText, string-in}
+use Rattle.string_lines.specs.Turns.{string-next, string-none, strings-over}
 
 -- ---- a NOTE: the line from `from` on ends at e
 module _ (out₀ : List ℕ) (at : ℕ) (p : Part) (key u v : List ℕ) where
@@ -108,23 +108,3 @@ module _ (out₀ : List ℕ) (at : ℕ) (p : Part) (f : List ℕ) (a e : ℕ) (h
             let i = stringing-in in
             let k = left-turn out₀ at _ to _ out (l .2 .2) (lineText p u f q) _ (string-next p u f high t e s (l .2 .0) low fits (l .2 .1) q h) r new w in
             (i .2, k .2, (l .2 .0 - 1, omega (arith, l .2 .1, i .1), k))
-
--- ---- the traces of f from k on
-module _ (out₀ : List ℕ) (at : ℕ) (f : List ℕ) (n : ℕ) where
-  abbrev pub Tracing : ℕ → ℕ → List ℕ → Type 0
-  Tracing k to out = (k ≤ n) × (length out ≡ length out₀) × Left out₀ at (tracesText f n 0) to (tracesText f (n - k) k) out
-
-  pub tracing-start : Tracing 0 at out₀
-  tracing-start = let e : n - 0 ≡ n = omega arith in (omega arith, refl, rw e (left-start out₀ at _))
-
-  module _ (k to : ℕ) (out : List ℕ) (l : Tracing k to out) where
-    pub tracing-over : n ≤ k → Wrote out₀ at (tracesText f n 0) to out
-    tracing-over h = left-over out₀ at _ to _ out (l .2) (traces-over f n k h)
-
-    pub tracing-room : k < n → Room out₀ at (tracesText f n 0) → Room out to (traceText f k)
-    tracing-room h r = left-room out₀ at _ to _ out (l .2) (traceText f k) _ (trace-next f n k h) r
-
-    pub tracing-turn : k < n → (r : ℕ) (new : List ℕ) → Wrote out to (traceText f k) r new → Tracing (k + 1) r new
-    tracing-turn h r new w =
-        let t = left-turn out₀ at _ to _ out (l .2) (traceText f k) _ (trace-next f n k h) r new w in
-        (omega arith, t .2, t)

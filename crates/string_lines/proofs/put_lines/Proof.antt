@@ -1,13 +1,13 @@
--- `listing::put_lines` meets its contract. The invariant: the lines that are left, stored, make the whole. Assumes
+-- `string_lines::put_lines` meets its contract. The invariant: the lines that are left, stored, make the whole. Assumes
 -- nothing.
 use Prim.Native.Nat.{_-_}
 use lib.ListN.{length}
-use Rattle.listing.specs.Walks.{Lining, lining-start, lining-fits, lining-room, lining-turn, lining-last-room}
-use Rattle.listing.specs.Walks.{lining-last}
+use Rattle.string_lines.specs.Walks.{Lining, lining-start, lining-fits, lining-room, lining-turn, lining-last-room}
+use Rattle.string_lines.specs.Walks.{lining-last}
 use borrow.Author.Needs.{needs}
 use native.Mathlib.Omega.{arith}
-use Rattle.listing.proofs.put_lines.Statement.{statement}
-use Rattle.listing.proofs.put_lines.Tie as tie
+use Rattle.string_lines.proofs.put_lines.Statement.{statement}
+use Rattle.string_lines.proofs.put_lines.Tie as tie
 
 abbrev Inv-loop : tie.InvT-loop
 Inv-loop out₀ at part key u v from₀ to₀ e₀ out from to e = Lining out₀ at part key u v from to e out

@@ -1,15 +1,15 @@
--- `listing::put_strings` meets its contract. The invariant: the strings that are left, stored, make the whole. Assumes
+-- `string_lines::put_strings` meets its contract. The invariant: the strings that are left, stored, make the whole. Assumes
 -- nothing.
 use mathlib.Core.Path.{sym, _∙_}
 use Prim.Native.Nat.{_+_, _-_, _≤_, _<_}
 use lib.ListN.{length}
 use Rattle.strings.specs.Strings.{PlaceIn}
-use Rattle.listing.specs.Walks.{Stringing, stringing-start, stringing-over, stringing-none, stringing-in}
-use Rattle.listing.specs.Walks.{stringing-room, stringing-turn}
+use Rattle.string_lines.specs.Walks.{Stringing, stringing-start, stringing-over, stringing-none, stringing-in}
+use Rattle.string_lines.specs.Walks.{stringing-room, stringing-turn}
 use borrow.Author.Needs.{needs}
 use native.Mathlib.Omega.{arith}
-use Rattle.listing.proofs.put_strings.Statement.{statement}
-use Rattle.listing.proofs.put_strings.Tie as tie
+use Rattle.string_lines.proofs.put_strings.Statement.{statement}
+use Rattle.string_lines.proofs.put_strings.Tie as tie
 
 abbrev Inv-loop : tie.InvT-loop
 Inv-loop out₀ at part f a e high t u s₀ to₀ out s to = Stringing out₀ at part f a e high t u s to out
