@@ -28,7 +28,8 @@ use Rattle.decimal.specs.Number.{has, past, powerOf, decimalOf, judged, partsOf
 use Rattle.digits.specs.Value.{worth, value}
 use Rattle.digits.specs.Digits.{onto, digits}
 use Rattle.digits.specs.LastDigits.{lastDigits}
-use Rattle.numeral.specs.Numeral.{partsFor, signText, pointText, powerText, spelling, numeralOf, numeralAnswer}
+use Rattle.numeral_text.specs.NumeralText.{signText, pointText, powerText, spelling}
+use Rattle.numeral.specs.Numeral.{partsFor, numeralOf, numeralAnswer}
 use Rattle.layout.specs.Layout.{Samples.integers, fitting, unfit}
 use Rattle.entry.specs.Entry.{samplesVerdict}
 

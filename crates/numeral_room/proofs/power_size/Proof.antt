@@ -1,8 +1,8 @@
--- `numeral::power_size` meets its contract. Assumes nothing.
-use Rattle.numeral.specs.Stored.{power-none-size, power-size}
+-- `numeral_room::power_size` meets its contract. Assumes nothing.
+use Rattle.numeral_room.specs.Sizes.{power-none-size, power-size}
 use borrow.Author.Needs.{needs}
-use Rattle.numeral.proofs.power_size.Statement.{statement}
-use Rattle.numeral.proofs.power_size.Tie as tie
+use Rattle.numeral_room.proofs.power_size.Statement.{statement}
+use Rattle.numeral_room.proofs.power_size.Tie as tie
 
 pub power-size-spec : {M : Type 1} → statement M
 power-size-spec =

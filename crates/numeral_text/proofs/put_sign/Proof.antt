@@ -1,8 +1,8 @@
--- `numeral::put_sign` meets its contract. Assumes nothing.
-use Rattle.numeral.specs.Stored.{sign-room, sign-there, sign-none}
+-- `numeral_text::put_sign` meets its contract. Assumes nothing.
+use Rattle.numeral_text.specs.Stored.{sign-room, sign-there, sign-none}
 use borrow.Author.Needs.{needs}
-use Rattle.numeral.proofs.put_sign.Statement.{statement}
-use Rattle.numeral.proofs.put_sign.Tie as tie
+use Rattle.numeral_text.proofs.put_sign.Statement.{statement}
+use Rattle.numeral_text.proofs.put_sign.Tie as tie
 
 pub put-sign-spec : {M : Type 1} → statement M
 put-sign-spec =

@@ -1,12 +1,12 @@
--- `numeral::put_power` meets its contract. Assumes nothing.
+-- `numeral_text::put_power` meets its contract. Assumes nothing.
 use mathlib.Core.Path.{ap, _∙_}
 use native.Mathlib.Omega.{arith}
 use lib.ListN.{length, length-set}
 use Rattle.word.specs.Put.{length-put}
-use Rattle.numeral.specs.Stored.{power-none, power-room, power-there}
+use Rattle.numeral_text.specs.Stored.{power-none, power-room, power-there}
 use borrow.Author.Needs.{needs}
-use Rattle.numeral.proofs.put_power.Statement.{statement}
-use Rattle.numeral.proofs.put_power.Tie as tie
+use Rattle.numeral_text.proofs.put_power.Statement.{statement}
+use Rattle.numeral_text.proofs.put_power.Tie as tie
 
 pub put-power-spec : {M : Type 1} → statement M
 put-power-spec =

@@ -1,14 +1,14 @@
--- `numeral::text_size` meets its contract: the sizes of its four pieces. Assumes nothing.
+-- `numeral_room::text_size` meets its contract: the sizes of its four pieces. Assumes nothing.
 use mathlib.Core.Path.{ap}
 use Prim.Native.Nat.{ℕ}
 use native.Mathlib.Omega.{arith}
 use lib.ListN.{length}
 use Rattle.digits.specs.Digits.{digits}
-use Rattle.numeral.specs.Numeral.{partsWith}
-use Rattle.numeral.specs.Stored.{text-length}
+use Rattle.numeral_text.specs.NumeralText.{partsWith}
+use Rattle.numeral_text.specs.Stored.{text-length}
 use borrow.Author.Needs.{needs}
-use Rattle.numeral.proofs.text_size.Statement.{statement}
-use Rattle.numeral.proofs.text_size.Tie as tie
+use Rattle.numeral_room.proofs.text_size.Statement.{statement}
+use Rattle.numeral_room.proofs.text_size.Tie as tie
 
 pub text-size-spec : {M : Type 1} → statement M
 text-size-spec =

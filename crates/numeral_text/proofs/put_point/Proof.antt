@@ -1,11 +1,11 @@
--- `numeral::put_point` meets its contract. Assumes nothing.
+-- `numeral_text::put_point` meets its contract. Assumes nothing.
 use mathlib.Core.Path.{ap, _∙_}
 use lib.ListN.{length, length-set}
 use Rattle.word.specs.Put.{length-put}
-use Rattle.numeral.specs.Stored.{point-none, point-room, point-there}
+use Rattle.numeral_text.specs.Stored.{point-none, point-room, point-there}
 use borrow.Author.Needs.{needs}
-use Rattle.numeral.proofs.put_point.Statement.{statement}
-use Rattle.numeral.proofs.put_point.Tie as tie
+use Rattle.numeral_text.proofs.put_point.Statement.{statement}
+use Rattle.numeral_text.proofs.put_point.Tie as tie
 
 pub put-point-spec : {M : Type 1} → statement M
 put-point-spec =

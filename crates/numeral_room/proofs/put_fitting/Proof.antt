@@ -1,9 +1,9 @@
--- `numeral::put_fitting` meets its contract: the text against the room. Assumes nothing.
+-- `numeral_room::put_fitting` meets its contract: the text against the room. Assumes nothing.
 use native.Mathlib.Omega.{arith}
-use Rattle.numeral.specs.Stored.{room-missing, room-enough}
+use Rattle.numeral_room.specs.Sizes.{room-missing, room-enough}
 use borrow.Author.Needs.{needs}
-use Rattle.numeral.proofs.put_fitting.Statement.{statement}
-use Rattle.numeral.proofs.put_fitting.Tie as tie
+use Rattle.numeral_room.proofs.put_fitting.Statement.{statement}
+use Rattle.numeral_room.proofs.put_fitting.Tie as tie
 
 pub put-fitting-spec : {M : Type 1} → statement M
 put-fitting-spec =

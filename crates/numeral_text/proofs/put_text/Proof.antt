@@ -1,15 +1,15 @@
--- `numeral::put_text` meets its contract: its four pieces, one behind the other. Assumes nothing.
+-- `numeral_text::put_text` meets its contract: its four pieces, one behind the other. Assumes nothing.
 use mathlib.Core.Path.{ap}
 use Prim.Native.Nat.{ℕ}
 use native.Mathlib.Omega.{arith}
 use lib.ListN.{length}
 use Rattle.word.specs.Wrote.{joined}
 use Rattle.digits.specs.Digits.{digits}
-use Rattle.numeral.specs.Numeral.{partsWith, spelling}
-use Rattle.numeral.specs.Stored.{text-length}
+use Rattle.numeral_text.specs.NumeralText.{partsWith, spelling}
+use Rattle.numeral_text.specs.Stored.{text-length}
 use borrow.Author.Needs.{needs}
-use Rattle.numeral.proofs.put_text.Statement.{statement}
-use Rattle.numeral.proofs.put_text.Tie as tie
+use Rattle.numeral_text.proofs.put_text.Statement.{statement}
+use Rattle.numeral_text.proofs.put_text.Tie as tie
 
 pub put-text-spec : {M : Type 1} → statement M
 unfolding spelling

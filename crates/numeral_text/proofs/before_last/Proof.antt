@@ -1,11 +1,11 @@
--- `numeral::before_last` meets its contract: what is left, before the digits that are left, is what is asked. Assumes
+-- `numeral_text::before_last` meets its contract: what is left, before the digits that are left, is what is asked. Assumes
 -- nothing.
 use mathlib.Core.Path.{_≡_}
 use Prim.Native.Nat.{_-_, _^_, _/_, _≤_}
 use native.Mathlib.Omega.{arith}
-use Rattle.numeral.specs.Stored.{before-start, before-again, before-over}
-use Rattle.numeral.proofs.before_last.Statement.{statement}
-use Rattle.numeral.proofs.before_last.Tie as tie
+use Rattle.numeral_text.specs.Stored.{before-start, before-again, before-over}
+use Rattle.numeral_text.proofs.before_last.Statement.{statement}
+use Rattle.numeral_text.proofs.before_last.Tie as tie
 
 abbrev Inv-loop : tie.InvT-loop
 Inv-loop c k left₀ i₀ left i = (i ≤ k) × (left / 10 ^ (k - i) ≡ c / 10 ^ k)
