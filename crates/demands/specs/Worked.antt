@@ -19,7 +19,8 @@ use Rattle.decode.specs.Sample.{patternOf, twos, exponentIn, ones, scaled, grou
 use Rattle.decode.specs.Sample.{integersRead}
 use Rattle.fit.specs.Unfit.{firstFrom, unfitInteger, unfitIntegers}
 use Rattle.float20.specs.Float20.{smallest, exponentOf, mantissaOf, onesBits}
-use Rattle.encode.specs.Write.{exponentsOf, wordsOf, groupBytes, groups}
+use Rattle.group20.specs.Group20.{exponentsOf, wordsOf, groupBytes}
+use Rattle.row20.specs.Row20.{groups}
 use Rattle.encode.specs.Write.{filledUp, integersData}
 use Rattle.decimal.specs.declared.NumberAnswer.{NumberAnswer}
 use Rattle.decimal.specs.declared.NumberAnswer.the-variants as answer

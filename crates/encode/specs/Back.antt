@@ -22,8 +22,10 @@ use Rattle.decode.specs.Sample.{twos, patternOf, sampleOf, integersAsked, integ
 use Rattle.decode.specs.Sample.{bitsAsked, bitsThere, patternsRead, classesRead}
 use Rattle.decode.specs.SampleLaws.{twos-plus, twos-minus, there, bits-there, all-read, all-bits-read}
 use Rattle.fit.specs.Unfit.{outside, unfitInteger, unfitIntegers, unfitPattern, unfitPatterns, all-good}
-use Rattle.encode.specs.Write.{flat, residue, fixedBytes, groups, filledUp, integersData, bitsData}
-use Rattle.encode.specs.WriteLaws.{length-flat, length-groups, length-filledUp}
+use Rattle.row20.specs.Row20.{groups}
+use Rattle.row20.specs.RowLaws.{length-groups}
+use Rattle.encode.specs.Write.{flat, residue, fixedBytes, filledUp, integersData, bitsData}
+use Rattle.encode.specs.WriteLaws.{length-flat, length-filledUp}
 use Rattle.fit.specs.declared.Fit.the-variants.{All}
 
 -- ---- how long the data block is
