@@ -20,9 +20,9 @@ use Rattle.strings.specs.declared.Judged.the-variants.{Keyword, Wrong}
 use Rattle.chars.specs.Chars.{keyChar}
 use Rattle.chars.specs.Runs.{run, all}
 use Rattle.text.specs.Order.{rises}
-use Rattle.sheet.specs.declared.Step.the-variants.{Next, Bad}
-use Rattle.sheet.specs.Lines.{plain, lineLen, lineKeyLen, spaced, continues, lineRows, lineJudged, onLineJudged}
-use Rattle.sheet.specs.Lines.{lineStep}
+use Rattle.sheet_line.specs.declared.Step.the-variants.{Next, Bad}
+use Rattle.sheet_line.specs.SheetLine.{plain, lineLen, lineKeyLen, spaced, continues, lineRows, lineJudged, onLineJudged}
+use Rattle.sheet_line.specs.SheetLine.{lineStep}
 
 -- ---- which answer it is: n is the number of keyword characters at the line's start
 module _ (prev l : List ℕ) (n : ℕ) (e : n ≡ run keyChar l) where

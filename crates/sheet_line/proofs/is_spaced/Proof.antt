@@ -1,9 +1,9 @@
--- `sheet::is_spaced` meets its contract. Assumes nothing.
+-- `sheet_line::is_spaced` meets its contract. Assumes nothing.
 use lib.ListN.{List·getD-eq-default}
 use borrow.Author.Needs.{needs}
 use native.Mathlib.Omega.{arith}
-use Rattle.sheet.proofs.is_spaced.Statement.{statement}
-use Rattle.sheet.proofs.is_spaced.Tie as tie
+use Rattle.sheet_line.proofs.is_spaced.Statement.{statement}
+use Rattle.sheet_line.proofs.is_spaced.Tie as tie
 
 pub is-spaced-spec : {M : Type 1} → statement M
 is-spaced-spec =

@@ -1,14 +1,14 @@
--- `sheet::judge` meets its contract. Each answer has its law. Assumes nothing.
+-- `sheet_line::judge` meets its contract. Each answer has its law. Assumes nothing.
 use mathlib.Core.Path.{sym, _∙_}
 use lib.Seq.{length-take-le}
 use borrow.Author.Tests.{not-true, not-false}
 use Rattle.word.specs.Part.{part-rest}
-use Rattle.sheet.specs.Judging.{judged-none, judged-short, judged-other, judged-value, judged-space, judged-order}
-use Rattle.sheet.specs.Judging.{judged-good}
+use Rattle.sheet_line.specs.Judging.{judged-none, judged-short, judged-other, judged-value, judged-space, judged-order}
+use Rattle.sheet_line.specs.Judging.{judged-good}
 use borrow.Author.Needs.{needs}
 use native.Mathlib.Omega.{arith}
-use Rattle.sheet.proofs.judge.Statement.{statement}
-use Rattle.sheet.proofs.judge.Tie as tie
+use Rattle.sheet_line.proofs.judge.Statement.{statement}
+use Rattle.sheet_line.proofs.judge.Tie as tie
 
 pub judge-spec : {M : Type 1} → statement M
 judge-spec =

@@ -1,8 +1,8 @@
--- `sheet::is_continued` meets its contract. Assumes nothing.
-use Rattle.sheet.specs.Lines.{continues}
+-- `sheet_line::is_continued` meets its contract. Assumes nothing.
+use Rattle.sheet_line.specs.SheetLine.{continues}
 use borrow.Author.Needs.{needs}
-use Rattle.sheet.proofs.is_continued.Statement.{statement}
-use Rattle.sheet.proofs.is_continued.Tie as tie
+use Rattle.sheet_line.proofs.is_continued.Statement.{statement}
+use Rattle.sheet_line.proofs.is_continued.Tie as tie
 
 pub is-continued-spec : {M : Type 1} → statement M
 unfolding continues

@@ -1,10 +1,10 @@
--- `sheet::step_at` meets its contract. Each answer has its law. Assumes nothing.
+-- `sheet_line::step_at` meets its contract. Each answer has its law. Assumes nothing.
 use mathlib.Core.Path.{sym, _∙_}
 use lib.Seq.{length-take-le}
-use Rattle.sheet.specs.Judging.{step-open, step-good, step-bad}
+use Rattle.sheet_line.specs.Judging.{step-open, step-good, step-bad}
 use borrow.Author.Needs.{needs}
-use Rattle.sheet.proofs.step_at.Statement.{statement}
-use Rattle.sheet.proofs.step_at.Tie as tie
+use Rattle.sheet_line.proofs.step_at.Statement.{statement}
+use Rattle.sheet_line.proofs.step_at.Tie as tie
 
 pub step-at-spec : {M : Type 1} → statement M
 step-at-spec =
