@@ -25,7 +25,8 @@ use Rattle.strings.specs.declared.Frame.the-variants.{End, Text, Broken}
 use Rattle.strings.specs.declared.Place.{Place}
 use Rattle.chars.specs.Chars.{note}
 use Rattle.chars.specs.Runs.{same, same-eq}
-use Rattle.note.specs.Note.{lineLen, linesOf, line-ends, starts-fits}
+use Rattle.note_line.specs.NoteLine.{lineLen, line-ends, starts-fits}
+use Rattle.note.specs.Note.{linesOf}
 use Rattle.strings.specs.Strings.{frameOf, placeOf, onText, placesFrom, placesOf, keyIn, valueIn}
 use Rattle.strings.specs.Walks.{Fits, place-fits}
 use Rattle.strings.specs.Spelled.{strsIn}

@@ -17,7 +17,8 @@ use Rattle.strings.specs.declared.Place.{Place}
 use Rattle.strings.specs.declared.Found.the-variants.{Nothing, Is}
 use Rattle.strings.specs.declared.Entry.the-variants.{Stop, At}
 use Rattle.chars.specs.Runs.{same}
-use Rattle.note.specs.Note.{starts, lineLen, linesOf, line-ends, starts-fits}
+use Rattle.note_line.specs.NoteLine.{starts, lineLen, line-ends, starts-fits}
+use Rattle.note.specs.Note.{linesOf}
 use Rattle.strings.specs.Strings.{PlaceIn, frameOf, placeOf, onText, entryOf, placesFrom, placesOf, nthOf, keyIn}
 use Rattle.strings.specs.Strings.{valueIn}
 use Rattle.strings.specs.Walks.{in-frame, place-next, place-stop, place-bounds}

@@ -12,7 +12,8 @@ use Rattle.word.specs.Part.{part, length-part, part-rest}
 use Rattle.refusal.specs.declared.Part.{Part}
 use Rattle.strings.specs.declared.Place.{Place}
 use Rattle.strings.specs.declared.Found.the-variants.{Nothing, Is}
-use Rattle.note.specs.Note.{lineLen, linesOf, lineLen-le}
+use Rattle.note_line.specs.NoteLine.{lineLen, lineLen-le}
+use Rattle.note.specs.Note.{linesOf}
 use Rattle.strings.specs.Strings.{PlaceIn, placesOf, nthOf}
 use Rattle.strings.specs.Spelled.{strsIn}
 use Rattle.lines.specs.Lines.{label, stringLine}

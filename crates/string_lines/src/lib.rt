@@ -25,11 +25,11 @@ fn put_lines(out: &mut [u8], at: usize, part: Part, key: &[u8], u: &[u8], v: &[u
 {
     let mut from: usize = 0;
     let mut to = at;
-    let mut e = note::line_end(u, v, 0);
+    let mut e = note_line::line_end(u, v, 0);
     while e < v.len() {
         to = lines::put_line(out, to, part, key, &v[from..e]);
         from = e + u.len();
-        e = note::line_end(u, v, from);
+        e = note_line::line_end(u, v, from);
     }
     lines::put_line(out, to, part, key, &v[from..])
 }

@@ -1,14 +1,14 @@
--- `note::is_start` meets its contract. Assumes nothing.
+-- `note_line::is_start` meets its contract. Assumes nothing.
 use mathlib.Core.Path.{sym, _∙_}
 use native.Mathlib.Omega.{arith}
 use Prim.Native.Nat.{_<_}
 use lib.ListN.{length}
 use lib.Seq.{length-take-le}
 use borrow.Author.Tests.{lt-leb, le-leb}
-use Rattle.note.specs.Note.{starts, starts-none, starts-other}
+use Rattle.note_line.specs.NoteLine.{starts, starts-none, starts-other}
 use borrow.Author.Needs.{needs}
-use Rattle.note.proofs.is_start.Statement.{statement}
-use Rattle.note.proofs.is_start.Tie as tie
+use Rattle.note_line.proofs.is_start.Statement.{statement}
+use Rattle.note_line.proofs.is_start.Tie as tie
 
 pub is-start-spec : {M : Type 1} → statement M
 unfolding starts

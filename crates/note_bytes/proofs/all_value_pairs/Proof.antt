@@ -1,14 +1,14 @@
--- `note::all_value_pairs` meets its contract. The invariant: what was found before, and what is left behind the byte
+-- `note_bytes::all_value_pairs` meets its contract. The invariant: what was found before, and what is left behind the byte
 -- passed last, is the answer.
 -- Assumes nothing.
 use mathlib.Core.Path.{_≡_, refl, _∙_}
 use mathlib.Core.Bool.{false, _&&_}
 use Prim.Native.Nat.{_≤_, _-_}
 use lib.ListN.{length, drop}
-use Rattle.note.specs.Note.{paired, paired-turn, paired-through}
+use Rattle.note_bytes.specs.NoteBytes.{paired, paired-turn, paired-through}
 use borrow.Author.Needs.{needs}
-use Rattle.note.proofs.all_value_pairs.Statement.{statement}
-use Rattle.note.proofs.all_value_pairs.Tie as tie
+use Rattle.note_bytes.proofs.all_value_pairs.Statement.{statement}
+use Rattle.note_bytes.proofs.all_value_pairs.Tie as tie
 
 abbrev Inv-loop : tie.InvT-loop
 Inv-loop a b s ok₀ behind₀ i₀ ok behind i = (i ≤ length s) × ((ok && paired a b behind (drop i s)) ≡ paired a b false s)

@@ -1,14 +1,14 @@
--- `note::line_end` meets its contract. The invariant: the line from here and the bytes passed make the line. Assumes
+-- `note_line::line_end` meets its contract. The invariant: the line from here and the bytes passed make the line. Assumes
 -- nothing.
 use mathlib.Core.Path.{_≡_, refl, sym, _∙_}
 use Prim.Native.Nat.{_≤_, _+_, _-_}
 use lib.ListN.{length, drop}
 use Rattle.word.specs.Part.{part-rest}
-use Rattle.note.specs.Note.{lineLen, line-here, line-on, line-over}
+use Rattle.note_line.specs.NoteLine.{lineLen, line-here, line-on, line-over}
 use borrow.Author.Needs.{needs}
 use native.Mathlib.Omega.{arith}
-use Rattle.note.proofs.line_end.Statement.{statement}
-use Rattle.note.proofs.line_end.Tie as tie
+use Rattle.note_line.proofs.line_end.Statement.{statement}
+use Rattle.note_line.proofs.line_end.Tie as tie
 
 abbrev Inv-loop : tie.InvT-loop
 Inv-loop u v from i₀ i = (from ≤ i) × (i + lineLen u (drop i v) ≡ from + lineLen u (drop from v))

@@ -1,14 +1,14 @@
--- `note::all_value_or` meets its contract. The invariant: what was found before, and all from here on, is all. Assumes
+-- `note_bytes::all_value_or` meets its contract. The invariant: what was found before, and all from here on, is all. Assumes
 -- nothing.
 use mathlib.Core.Path.{_≡_, refl, _∙_}
 use mathlib.Core.Bool.{_&&_}
 use Prim.Native.Nat.{_≤_, _-_}
 use lib.ListN.{length, drop}
 use Rattle.chars.specs.Runs.{all, all-turn, all-through}
-use Rattle.note.specs.Note.{valueOr}
+use Rattle.note_bytes.specs.NoteBytes.{valueOr}
 use borrow.Author.Needs.{needs}
-use Rattle.note.proofs.all_value_or.Statement.{statement}
-use Rattle.note.proofs.all_value_or.Tie as tie
+use Rattle.note_bytes.proofs.all_value_or.Statement.{statement}
+use Rattle.note_bytes.proofs.all_value_or.Tie as tie
 
 abbrev Inv-loop : tie.InvT-loop
 Inv-loop x s ok₀ i₀ ok i = (i ≤ length s) × ((ok && all (valueOr x) (drop i s)) ≡ all (valueOr x) s)
