@@ -15,7 +15,8 @@ use Rattle.refusal.specs.declared.Written.the-variants as written
 use Rattle.refusal.specs.Table as refusals
 use Rattle.sample.specs.Needed.{needed, width}
 use Rattle.sample.specs.Run as samples
-use Rattle.decode.specs.Sample.{patternOf, twos, exponentIn, ones, scaled, groupSample, sampleOf, integersThere}
+use Rattle.sample_bits.specs.SampleBits.{twos, exponentIn, ones, scaled}
+use Rattle.decode.specs.Sample.{patternOf, groupSample, sampleOf, integersThere}
 use Rattle.decode.specs.Sample.{integersRead}
 use Rattle.fit.specs.Unfit.{firstFrom, unfitInteger, unfitIntegers}
 use Rattle.float20.specs.Float20.{smallest, exponentOf, mantissaOf, onesBits}

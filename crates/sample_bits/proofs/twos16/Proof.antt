@@ -1,14 +1,14 @@
--- `decode::twos16` meets its contract. Minus k and one is the bits of k turned over. Assumes nothing.
+-- `sample_bits::twos16` meets its contract. Minus k and one is the bits of k turned over. Assumes nothing.
 use mathlib.Core.Path.{_∙_, sym}
 use Prim.Native.Nat.{_-_}
 use native.Mathlib.Omega.{arith}
 use borrow.Author.Needs.{needs}
 use mir.Syntax.{w16}
 use mir.Facts.{toZ-pos}
-use Rattle.decode.specs.SampleLaws.{twos-plus, twos-minus}
-use Rattle.decode.proofs.Machine.{flipped16}
-use Rattle.decode.proofs.twos16.Statement.{statement}
-use Rattle.decode.proofs.twos16.Tie as tie
+use Rattle.sample_bits.specs.BitLaws.{twos-plus, twos-minus}
+use Rattle.sample_bits.proofs.Machine.{flipped16}
+use Rattle.sample_bits.proofs.twos16.Statement.{statement}
+use Rattle.sample_bits.proofs.twos16.Tie as tie
 
 pub twos16-spec : {M : Type 1} → statement M
 twos16-spec =

@@ -1,8 +1,8 @@
--- `decode::scaled` meets its contract. 15 bits shifted by at most 15 lose nothing. Assumes nothing.
+-- `sample_bits::scaled` meets its contract. 15 bits shifted by at most 15 lose nothing. Assumes nothing.
 use borrow.Author.Needs.{needs}
-use Rattle.decode.proofs.Machine.{mantissa-shifts}
-use Rattle.decode.proofs.scaled.Statement.{statement}
-use Rattle.decode.proofs.scaled.Tie as tie
+use Rattle.sample_bits.proofs.Machine.{mantissa-shifts}
+use Rattle.sample_bits.proofs.scaled.Statement.{statement}
+use Rattle.sample_bits.proofs.scaled.Tie as tie
 
 pub scaled-spec : {M : Type 1} → statement M
 scaled-spec =

@@ -1,4 +1,4 @@
--- `decode::ones` meets its contract. A mantissa with the sign bit is 65535 less than its bits say. Assumes nothing.
+-- `sample_bits::ones` meets its contract. A mantissa with the sign bit is 65535 less than its bits say. Assumes nothing.
 use mathlib.Core.Path.{_≡_, sym, _∙_}
 use Prim.Native.Nat.{ℕ, _≤_, _<_}
 use native.Mathlib.Omega.{arith}
@@ -9,10 +9,10 @@ use mir.Syntax.{w32}
 use mir.Val.{toZ}
 use mir.Facts.{toZ-pos}
 use Rattle.word.specs.Signed.{kept}
-use Rattle.decode.specs.Sample.{ones}
-use Rattle.decode.specs.SampleLaws.{ones-plus, ones-less, ones-small}
-use Rattle.decode.proofs.ones.Statement.{statement}
-use Rattle.decode.proofs.ones.Tie as tie
+use Rattle.sample_bits.specs.SampleBits.{ones}
+use Rattle.sample_bits.specs.BitLaws.{ones-plus, ones-less, ones-small}
+use Rattle.sample_bits.proofs.ones.Statement.{statement}
+use Rattle.sample_bits.proofs.ones.Tie as tie
 
 small : (z : ℤ) → natAbs z < 32768 → mag z < 2147483648
 small (pos n) h = omega arith

@@ -1,14 +1,14 @@
--- `decode::twos32` meets its contract. Minus k and one is the bits of k turned over. Assumes nothing.
+-- `sample_bits::twos32` meets its contract. Minus k and one is the bits of k turned over. Assumes nothing.
 use mathlib.Core.Path.{_∙_, sym}
 use Prim.Native.Nat.{_-_}
 use native.Mathlib.Omega.{arith}
 use borrow.Author.Needs.{needs}
 use mir.Syntax.{w32}
 use mir.Facts.{toZ-pos}
-use Rattle.decode.specs.SampleLaws.{twos-plus, twos-minus}
-use Rattle.decode.proofs.Machine.{flipped}
-use Rattle.decode.proofs.twos32.Statement.{statement}
-use Rattle.decode.proofs.twos32.Tie as tie
+use Rattle.sample_bits.specs.BitLaws.{twos-plus, twos-minus}
+use Rattle.sample_bits.proofs.Machine.{flipped}
+use Rattle.sample_bits.proofs.twos32.Statement.{statement}
+use Rattle.sample_bits.proofs.twos32.Tie as tie
 
 pub twos32-spec : {M : Type 1} → statement M
 twos32-spec =

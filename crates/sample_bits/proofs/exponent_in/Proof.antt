@@ -1,10 +1,10 @@
--- `decode::exponent_in` meets its contract. A shift divides, and a mask is a remainder. Assumes nothing.
+-- `sample_bits::exponent_in` meets its contract. A shift divides, and a mask is a remainder. Assumes nothing.
 use Prim.Native.Nat.{_*_, _/_, _^_}
 use lib.Bits.{and-mask, mask-lt}
 use borrow.Author.Needs.{needs}
-use Rattle.decode.specs.Sample.{exponentIn}
-use Rattle.decode.proofs.exponent_in.Statement.{statement}
-use Rattle.decode.proofs.exponent_in.Tie as tie
+use Rattle.sample_bits.specs.SampleBits.{exponentIn}
+use Rattle.sample_bits.proofs.exponent_in.Statement.{statement}
+use Rattle.sample_bits.proofs.exponent_in.Tie as tie
 
 pub exponent-in-spec : {M : Type 1} → statement M
 unfolding exponentIn
