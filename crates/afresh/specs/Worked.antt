@@ -18,8 +18,8 @@ use Rattle.strings.specs.Spelled.{texts}
 use Rattle.sample.specs.Needed.{needed, room}
 use Rattle.fit.specs.Unfit.{firstFrom, outside, unfitInteger, unfitIntegers}
 use Rattle.encode.specs.Write.{flat, residue, fixedBytes, filledUp, integersData}
-use Rattle.sheet.specs.Lines.{lineLen, lineKeyLen, continues, lineJudged, lineStep, checkFrom, linesVerdict}
-use Rattle.sheet.specs.Lines.{sheetLinesFrom, sheetLines}
+use Rattle.sheet_line.specs.SheetLine.{lineLen, lineKeyLen, continues, lineJudged, lineStep}
+use Rattle.sheet.specs.Lines.{checkFrom, linesVerdict, sheetLinesFrom, sheetLines}
 use Rattle.sheet.specs.Area.{joined, sheetStrings, textSize, areaOf, areaSize, measuredOf}
 use Rattle.sheet_channel.specs.SheetChannel.{hasLine}
 use Rattle.layout.specs.Layout.{nul, lineFeed, fileBlock, startSize, Trace, Samples.integers, count, fitting, unfit}

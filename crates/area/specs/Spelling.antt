@@ -29,7 +29,8 @@ use Rattle.strings.specs.Paper.{spelled-accepted}
 use Rattle.strings.specs.Spelled.{GoodString, Rising, sizeOf, Ends.mark, Spells, Spells.full}
 use Rattle.sheet.specs.declared.Measured as measured
 use Rattle.sheet.specs.declared.Measured.the-variants.{Size}
-use Rattle.sheet.specs.Lines.{Line, plain, spaced, continues, linesVerdict, sheetLines}
+use Rattle.sheet_line.specs.SheetLine.{plain, spaced, continues}
+use Rattle.sheet.specs.Lines.{Line, linesVerdict, sheetLines}
 use Rattle.sheet.specs.Area.{areaMost, strOf, values, noteOf, joined, sheetStrings, textSize, padding, areaOf, areaSize}
 use Rattle.sheet.specs.Area.{sized, measuredOf}
 use Rattle.sheet.specs.Sizes.{length-area, textSize-low}

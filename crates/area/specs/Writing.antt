@@ -19,7 +19,8 @@ use Rattle.chars.specs.Runs.{run, same, same-eq, same-refl}
 use Rattle.note.specs.Note.{withEnds}
 use Rattle.strings.specs.Spelled.{Str, textOf, sizeOf, texts, written}
 use Rattle.sheet.specs.declared.Measured.the-variants.{Size}
-use Rattle.sheet.specs.Lines.{Line, lineLen, linesVerdict, sheetLines}
+use Rattle.sheet_line.specs.SheetLine.{lineLen}
+use Rattle.sheet.specs.Lines.{Line, linesVerdict, sheetLines}
 use Rattle.sheet.specs.Area.{areaMost, strOf, values, noteOf, joined, sheetStrings, textSize, padding, areaOf, areaSize}
 use Rattle.sheet.specs.Area.{measuredOf}
 use Rattle.sheet.specs.Counting.{past-line, lines-none}

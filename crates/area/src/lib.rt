@@ -57,7 +57,7 @@ fn write_lines(part: &mut [u8], u: &[u8], s: &[u8], to: usize) -> usize
     let mut at: usize = 0;
     let mut end = to;
     while at < s.len() {
-        let n = sheet::line_len(&s[at..]);
+        let n = sheet_line::line_len(&s[at..]);
         let from = at + 5;
         let e = at + n;
         end = write_more(part, u, &s[from..e], end);
@@ -75,7 +75,7 @@ fn write_note(part: &mut [u8], high: bool, t: &[u8], u: &[u8], s: &[u8], to: usi
         × (now (part .exit) ≡ put (now (part .entry)) to
         (stringBytes high (now (t .entry)) (noteOf (now (u .entry)) (sheetLines (now (s .entry)))))) ⌝ }
 {
-    let n = sheet::line_len(s);
+    let n = sheet_line::line_len(s);
     let a = to + 2;
     let b = a + 5;
     let c = a + n;
@@ -99,7 +99,7 @@ fn write_strings(part: &mut [u8], high: bool, t: &[u8], u: &[u8], sheet: &[u8]) 
     let mut at: usize = 0;
     let mut to: usize = 0;
     while at < sheet.len() {
-        let n = sheet::line_len(&sheet[at..]);
+        let n = sheet_line::line_len(&sheet[at..]);
         let e = at + n;
         let w = text::key_run(&sheet[at..e], Manner::Strict);
         let k = at + w;

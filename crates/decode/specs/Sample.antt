@@ -4,13 +4,14 @@
 -- Assumes nothing.
 use mathlib.Core.Bool.{Bool, true, false, cond, _&&_}
 use mathlib.Core.List.{List}
-use Prim.Native.Nat.{ℕ, _+_, _-_, _*_, _/_, _%_, _^_}
-use lib.IntN.{ℤ, pos, negℤ, _-ℤ_, _*ℤ_}
+use Prim.Native.Nat.{ℕ, _+_, _*_, _/_, _%_, _^_}
+use lib.IntN.{ℤ, pos}
 use lib.ListN.{length}
-use lib.Dec.{ltb, leb, eqb}
+use lib.Dec.{leb, eqb}
 use Rattle.word.specs.Word.{wordAt}
 use Rattle.sample.specs.Needed.{byCode, needed, width}
 use Rattle.sample.specs.Run.{valuesFrom}
+use Rattle.sample_bits.specs.SampleBits.{twos, exponentIn, scaled}
 
 -- ---- codes 1, 2, 4 and 5: a sample is one whole number
 
@@ -18,25 +19,7 @@ use Rattle.sample.specs.Run.{valuesFrom}
 unfoldable pub patternOf : ℕ → Bool → List ℕ → ℕ → ℕ
 patternOf code high block i = wordAt (width code) high block (width code * i)
 
--- two's complement (figures B-1 and B-2): the sign bit weighs `half`, and where it is set the number is less by twice
--- that than its bits say
-unfoldable pub twos : ℕ → ℕ → ℤ
-twos half n = cond (ltb n half) (pos n) (pos n -ℤ pos (2 * half))
-
 -- ---- code 3: groups of ten bytes for four samples (figure B-3)
-
--- the exponent of sample k of a group: bits 4k to 4k + 3 of the group's first word
-unfoldable pub exponentIn : ℕ → ℕ → ℕ
-exponentIn word k = word / 2 ^ (4 * k) % 16
-
--- one's complement of 16 bits: where the sign bit is set, minus the number whose bits are the others. So FFFFh is minus
--- 0, which is 0
-unfoldable pub ones : ℕ → ℤ
-ones n = cond (ltb n 32768) (pos n) (negℤ (pos (65535 - n)))
-
--- "Value: mantissa times 2 to the exponent"
-unfoldable pub scaled : ℕ → ℕ → ℤ
-scaled exponent mantissa = ones mantissa *ℤ pos (2 ^ exponent)
 
 -- sample k of the group at place g: the exponents' word is the first of the group's five, and mantissa k is k words
 -- behind it and one

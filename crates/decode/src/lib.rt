@@ -1,5 +1,5 @@
-// Codes 1 to 3 read, on a data block alone (document 01, "Samples"): integers. Sample has the definitions, of codes 4 and
-// 5 too. `high` says that the high byte comes first. Stands on `sample`, `word`.
+// Codes 1 to 3 read, on a data block alone (document 01, "Samples"): integers. Sample has the definitions, of codes 4
+// and 5 too. `high` says that the high byte comes first. Stands on `sample_bits`, `sample`, `word`.
 // The rules in words: docs/FORMAT.md, "Samples".
 ghost use mathlib.Core.Path.{_≡_};
 ghost use mathlib.Core.Bool.{true, false};
@@ -9,39 +9,16 @@ ghost use Rattle.word.specs.Put.{put};
 ghost use Rattle.word.specs.Word.{wordAt};
 ghost use Rattle.sample.specs.Needed.{needed};
 ghost use Rattle.sample.specs.Run.{valuesFrom};
-ghost use Rattle.decode.specs.Sample.{twos, exponentIn, ones, scaled, groupSample, sampleOf};
-ghost use Rattle.decode.specs.Sample.{sampleEnd, integersThere, integersRead};
+ghost use Rattle.decode.specs.Sample.{groupSample, sampleOf, sampleEnd, integersThere, integersRead};
 
 // ---- codes 1 and 2
-
-// Two's complement of 16 bits. Both arms are the same bits, so that nothing is left of the test in the machine's code.
-fn twos16(n: u16) -> i16
-    ensures { λ r. ⌜ r ≡ twos 32768 n ⌝ }
-{
-    if n < 32768 {
-        n as i16
-    } else {
-        !((65535 - n) as i16)
-    }
-}
-
-// Two's complement of 32 bits.
-fn twos32(n: u32) -> i32
-    ensures { λ r. ⌜ r ≡ twos 2147483648 n ⌝ }
-{
-    if n < 2147483648 {
-        n as i32
-    } else {
-        !((4294967295 - n) as i32)
-    }
-}
 
 // Sample i of code 1.
 fn sample1(block: &[u8], high: bool, i: usize) -> i32
     requires { ⌜ 2 * i + 2 ≤ length (now block) ⌝ }
     ensures { λ r. ⌜ r ≡ sampleOf 1 high (now (block .entry)) i ⌝ }
 {
-    twos16(sample::word_at(block, high, 2 * i)) as i32
+    sample_bits::twos16(sample::word_at(block, high, 2 * i)) as i32
 }
 
 // Of code 2.
@@ -49,7 +26,7 @@ fn sample2(block: &[u8], high: bool, i: usize) -> i32
     requires { ⌜ 4 * i + 4 ≤ length (now block) ⌝ }
     ensures { λ r. ⌜ r ≡ sampleOf 2 high (now (block .entry)) i ⌝ }
 {
-    twos32(sample::word4_at(block, high, 4 * i))
+    sample_bits::twos32(sample::word4_at(block, high, 4 * i))
 }
 
 // Fills the row with samples of code 1. Where the block is too short for it: false, and nothing is written.
@@ -86,40 +63,13 @@ pub fn read2(block: &[u8], high: bool, row: &mut [i32]) -> bool
 
 // ---- code 3
 
-// Exponent k out of the first word of a group: "sample 0 in bits 0-3, sample 3 in bits 12-15".
-fn exponent_in(word: u16, k: u16) -> u16
-    requires { ⌜ k < 4 ⌝ }
-    ensures { λ r. ⌜ (r ≡ exponentIn word k) × (r < 16) ⌝ }
-{
-    word >> 4 * k & 15
-}
-
-// A mantissa: one's complement of 16 bits.
-fn ones(mantissa: u16) -> i32
-    ensures { λ r. ⌜ r ≡ ones mantissa ⌝ }
-{
-    if mantissa < 32768 {
-        mantissa as i32
-    } else {
-        mantissa as i32 - 65535
-    }
-}
-
-// A mantissa, times 2 to the exponent. The sign comes in first, and one shift serves both.
-fn scaled(exponent: u16, mantissa: u16) -> i32
-    requires { ⌜ exponent < 16 ⌝ }
-    ensures { λ r. ⌜ r ≡ scaled exponent mantissa ⌝ }
-{
-    ones(mantissa) << exponent as i32
-}
-
 // Sample k of the group at a place, whose first word is at hand.
 fn group_sample(block: &[u8], high: bool, at: usize, exponents: u16, k: u16) -> i32
     requires { ⌜ (at + 10 ≤ length (now block)) × (exponents ≡ wordAt 2 high (now block) at) × (k < 4) ⌝ }
     ensures { λ r. ⌜ r ≡ groupSample high (now (block .entry)) at k ⌝ }
 {
-    scaled(
-        exponent_in(exponents, k),
+    sample_bits::scaled(
+        sample_bits::exponent_in(exponents, k),
         sample::word_at(block, high, at + 2 * (k as usize + 1)),
     )
 }

@@ -34,8 +34,9 @@ use Rattle.reader.specs.declared.StringAnswer.{StringAnswer}
 use Rattle.reader.specs.declared.StringAnswer.the-variants as string
 use Rattle.reader.specs.Questions.{onString, findAnswer, valueAnswer, numberAnswer}
 use Rattle.digits.specs.LastDigits.{lastDigits}
-use Rattle.numeral.specs.Numeral.{unlessZero, partsFor, numeralOf, numeralAnswer, numeralLeft}
-use Rattle.numeral.specs.Stored.{count-many, count-large, count-few, after-many, after-few}
+use Rattle.numeral_text.specs.NumeralText.{unlessZero}
+use Rattle.numeral.specs.Numeral.{partsFor, numeralOf, numeralAnswer, numeralLeft}
+use Rattle.numeral.specs.Answers.{count-many, count-large, count-few, after-many, after-few}
 use Rattle.numeral.specs.Plain.{Plain, Shows, shown-exactly}
 use Rattle.numeral.specs.Returned.{reads-back, one-text-one-number, text-there, refused-stays, given-written, typed-stays, longest}
 use Rattle.numeral.specs.Returned.{longest-given, least-room}

@@ -19,7 +19,8 @@ use Rattle.word.specs.WordLaws.{word-take}
 use Rattle.refusal.specs.declared.Verdict.the-variants.{Accepted}
 use Rattle.sample.specs.Needed.{needed, room}
 use Rattle.chars.specs.Runs.{run, same}
-use Rattle.sheet.specs.Lines.{lineLen, lineKeyLen, sheetLinesFrom, sheetLines}
+use Rattle.sheet_line.specs.SheetLine.{lineLen, lineKeyLen}
+use Rattle.sheet.specs.Lines.{sheetLinesFrom, sheetLines}
 use Rattle.sheet.specs.Area.{joined, sheetStrings, textSize, areaSize}
 use Rattle.head.specs.Head.{fileBlockOf, highFirst, roomOf, countOf}
 use Rattle.terminators.specs.Terminators.{stringEnd, lineEnd}

@@ -24,7 +24,8 @@ use Rattle.double.specs.Double.{doubleOf}
 use Rattle.location.specs.Location.{locationOf}
 use Rattle.sample.specs.Needed.{needed, room}
 use Rattle.sheet.specs.declared.Measured.the-variants.{Size}
-use Rattle.sheet.specs.Lines.{Line, plain, spaced, lineLen, lineKeyLen, sheetLinesFrom, sheetLines}
+use Rattle.sheet_line.specs.SheetLine.{plain, spaced, lineLen, lineKeyLen}
+use Rattle.sheet.specs.Lines.{Line, sheetLinesFrom, sheetLines}
 use Rattle.sheet.specs.Area.{areaMost, joined, sheetStrings, textSize, areaSize, areaOf, measuredOf}
 use Rattle.sheet.specs.Sizes.{length-area}
 use Rattle.sheet.specs.Paper.{sheetOf, GoodLines, lines-read}

@@ -18,8 +18,9 @@ use Rattle.word.specs.Word.{wordAt}
 use Rattle.word.specs.WordLaws.{word-byte, word-joined, word-part, word-small}
 use Rattle.sample.specs.Needed.{needed, width}
 use Rattle.sample.specs.Run.{valuesFrom}
-use Rattle.decode.specs.Sample.{patternOf, exponentIn, groupSample, sampleOf, classBy, classOf}
-use Rattle.decode.specs.SampleLaws.{twos-plus, twos-minus, scaled-plus, scaled-minus}
+use Rattle.sample_bits.specs.SampleBits.{exponentIn}
+use Rattle.decode.specs.Sample.{patternOf, groupSample, sampleOf, classBy, classOf}
+use Rattle.sample_bits.specs.BitLaws.{twos-plus, twos-minus, scaled-plus, scaled-minus}
 use Rattle.patterns.specs.Classes.{valueClass, codeOf, class-ieee}
 use Rattle.head.specs.Head.{highFirst}
 use Rattle.block.specs.Block.{pointerOf, blockSize, dataSize, sampleCount, formatCode, traceBlockOf}

@@ -15,11 +15,13 @@ use Rattle.refusal.specs.declared.Written.the-variants as written
 use Rattle.refusal.specs.Table as refusals
 use Rattle.sample.specs.Needed.{needed, width}
 use Rattle.sample.specs.Run as samples
-use Rattle.decode.specs.Sample.{patternOf, twos, exponentIn, ones, scaled, groupSample, sampleOf, integersThere}
+use Rattle.sample_bits.specs.SampleBits.{twos, exponentIn, ones, scaled}
+use Rattle.decode.specs.Sample.{patternOf, groupSample, sampleOf, integersThere}
 use Rattle.decode.specs.Sample.{integersRead}
 use Rattle.fit.specs.Unfit.{firstFrom, unfitInteger, unfitIntegers}
 use Rattle.float20.specs.Float20.{smallest, exponentOf, mantissaOf, onesBits}
-use Rattle.encode.specs.Write.{exponentsOf, wordsOf, groupBytes, groups}
+use Rattle.group20.specs.Group20.{exponentsOf, wordsOf, groupBytes}
+use Rattle.row20.specs.Row20.{groups}
 use Rattle.encode.specs.Write.{filledUp, integersData}
 use Rattle.decimal.specs.declared.NumberAnswer.{NumberAnswer}
 use Rattle.decimal.specs.declared.NumberAnswer.the-variants as answer
@@ -28,7 +30,8 @@ use Rattle.decimal.specs.Number.{has, past, powerOf, decimalOf, judged, partsOf
 use Rattle.digits.specs.Value.{worth, value}
 use Rattle.digits.specs.Digits.{onto, digits}
 use Rattle.digits.specs.LastDigits.{lastDigits}
-use Rattle.numeral.specs.Numeral.{partsFor, signText, pointText, powerText, spelling, numeralOf, numeralAnswer}
+use Rattle.numeral_text.specs.NumeralText.{signText, pointText, powerText, spelling}
+use Rattle.numeral.specs.Numeral.{partsFor, numeralOf, numeralAnswer}
 use Rattle.layout.specs.Layout.{Samples.integers, fitting, unfit}
 use Rattle.entry.specs.Entry.{samplesVerdict}
 

@@ -22,11 +22,11 @@ use Rattle.text.specs.declared.Manner.the-variants.{Strict}
 use Rattle.fit.specs.Unfit.{firstFrom, unfitInteger, unfitPattern, unfitIntegers, unfitPatterns}
 use Rattle.strings.specs.declared.Judged.{Judged}
 use Rattle.strings.specs.declared.Judged.the-variants.{Keyword, Wrong}
-use Rattle.sheet.specs.declared.Step.the-variants.{Bad}
+use Rattle.sheet_line.specs.declared.Step.the-variants.{Bad}
 use Rattle.sheet.specs.declared.Measured.{Measured}
 use Rattle.sheet.specs.declared.Measured.the-variants as measured
-use Rattle.sheet.specs.Lines.{lineLen, lineOf, lineKeyLen, lineRows, lineJudged, onLineJudged, lineStep, onLineStep}
-use Rattle.sheet.specs.Lines.{checkFrom, linesVerdict}
+use Rattle.sheet_line.specs.SheetLine.{lineLen, lineOf, lineKeyLen, lineRows, lineJudged, onLineJudged, lineStep}
+use Rattle.sheet.specs.Lines.{onLineStep, checkFrom, linesVerdict}
 use Rattle.sheet.specs.Area.{areaMost, areaSize, measuredOf}
 use Rattle.head.specs.Head.{maximum, roomOf, countOf}
 use Rattle.terminators.specs.Terminators.{stringEnd, lineEnd}

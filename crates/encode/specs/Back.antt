@@ -18,12 +18,16 @@ use Rattle.word.specs.Word.{wordAt, bytesOf}
 use Rattle.word.specs.WordLaws.{word-among, word-drop, length-bytesOf}
 use Rattle.sample.specs.Needed.{byCode, needed, room, width}
 use Rattle.sample.specs.Run.{valuesFrom, length-run, getD-run}
-use Rattle.decode.specs.Sample.{twos, patternOf, sampleOf, integersAsked, integersThere, integersRead, classOf}
+use Rattle.sample_bits.specs.SampleBits.{twos}
+use Rattle.decode.specs.Sample.{patternOf, sampleOf, integersAsked, integersThere, integersRead, classOf}
 use Rattle.decode.specs.Sample.{bitsAsked, bitsThere, patternsRead, classesRead}
-use Rattle.decode.specs.SampleLaws.{twos-plus, twos-minus, there, bits-there, all-read, all-bits-read}
+use Rattle.sample_bits.specs.BitLaws.{twos-plus, twos-minus}
+use Rattle.decode.specs.SampleLaws.{there, bits-there, all-read, all-bits-read}
 use Rattle.fit.specs.Unfit.{outside, unfitInteger, unfitIntegers, unfitPattern, unfitPatterns, all-good}
-use Rattle.encode.specs.Write.{flat, residue, fixedBytes, groups, filledUp, integersData, bitsData}
-use Rattle.encode.specs.WriteLaws.{length-flat, length-groups, length-filledUp}
+use Rattle.row20.specs.Row20.{groups}
+use Rattle.row20.specs.RowLaws.{length-groups}
+use Rattle.encode.specs.Write.{flat, residue, fixedBytes, filledUp, integersData, bitsData}
+use Rattle.encode.specs.WriteLaws.{length-flat, length-filledUp}
 use Rattle.fit.specs.declared.Fit.the-variants.{All}
 
 -- ---- how long the data block is

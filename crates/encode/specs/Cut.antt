@@ -17,15 +17,17 @@ use Rattle.word.specs.Bytes.{Bytes}
 use Rattle.word.specs.Word.{wordAt, bytesOf}
 use Rattle.word.specs.WordLaws.{word-drop, word-small}
 use Rattle.sample.specs.Run.{valuesFrom, run-same, run-map, run-of}
-use Rattle.decode.specs.Sample.{exponentIn, ones, scaled, groupSample, sampleOf, integersThere, integersRead}
-use Rattle.decode.specs.SampleLaws.{minus-times, scaled-plus, scaled-minus, in-group, all-read}
+use Rattle.sample_bits.specs.SampleBits.{exponentIn, ones, scaled}
+use Rattle.decode.specs.Sample.{groupSample, sampleOf, integersThere, integersRead}
+use Rattle.sample_bits.specs.BitLaws.{minus-times, scaled-plus, scaled-minus}
+use Rattle.decode.specs.SampleLaws.{in-group, all-read}
 use Rattle.fit.specs.Unfit.{unfitIntegers}
 use Rattle.float20.specs.Float20.{mantissaMost, smallest, exponentOf, mantissaOf, onesBits}
 use Rattle.float20.specs.Float20Laws.{no-less, exponent-of, exponent-smallest, exponent-small}
-use Rattle.encode.specs.Write.{flat, exponentsOf}
-use Rattle.encode.specs.Write.{wordsOf, groupBytes, groups, filledUp, integersData}
-use Rattle.encode.specs.WriteLaws.{fit-magnitude}
-use Rattle.encode.specs.WriteLaws.{length-group}
+use Rattle.group20.specs.Group20.{exponentsOf, wordsOf, groupBytes}
+use Rattle.group20.specs.GroupLaws.{fit-magnitude, length-group}
+use Rattle.row20.specs.Row20.{groups}
+use Rattle.encode.specs.Write.{flat, filledUp, integersData}
 use Rattle.encode.specs.Back.{word-flat, written-there}
 use Rattle.fit.specs.declared.Fit.the-variants.{All}
 

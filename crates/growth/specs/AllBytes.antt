@@ -26,8 +26,9 @@ use Rattle.note.specs.Note.{Lines, Lines.done, Lines.char, Lines.line}
 use Rattle.strings.specs.Spelled.{Str, GoodString, Rising, textOf, sizeOf, texts, markedEnd, Spells, Spells.empty}
 use Rattle.strings.specs.Spelled.{Spells.full}
 use Rattle.float20.specs.Float20.{mantissaOf, onesBits}
-use Rattle.encode.specs.Write.{flat, residue, fixedBytes, exponentsOf, wordsOf, groupBytes}
-use Rattle.encode.specs.Write.{groups, filledUp, integersData, bitsData}
+use Rattle.group20.specs.Group20.{exponentsOf, wordsOf, groupBytes}
+use Rattle.row20.specs.Row20.{groups}
+use Rattle.encode.specs.Write.{flat, residue, fixedBytes, filledUp, integersData, bitsData}
 use Rattle.sheet.specs.declared.Measured.the-variants.{Size}
 use Rattle.sheet.specs.Area.{areaOf, areaSize, padding, sheetStrings, textSize, measuredOf}
 use Rattle.area.specs.Spelling.{among, Terminators, terminators-end, area-spells}

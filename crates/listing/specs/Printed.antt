@@ -10,7 +10,7 @@ use Rattle.strings.specs.Spelled.{Str, Spells}
 use Rattle.strings.specs.Paper.{spelled-places}
 use Rattle.head.specs.Head.{highFirst}
 use Rattle.terminators.specs.Terminators.{stringEnd, lineEnd}
-use Rattle.listing.specs.Listing.{stringsIn}
+use Rattle.file_lines.specs.FileLines.{stringsIn}
 
 pub printed : (f : List ℕ) (a e : ℕ) (ss : List Str) → a ≤ e → e ≤ length f → Spells Strict (highFirst f) (stringEnd f) (lineEnd f) ss (part a e f)
     → stringsIn f a e ≡ ss

@@ -25,7 +25,8 @@ use Rattle.strings.specs.declared.Frame.the-variants.{End, Text, Broken}
 use Rattle.strings.specs.declared.Place.{Place}
 use Rattle.chars.specs.Chars.{note}
 use Rattle.chars.specs.Runs.{same, same-eq}
-use Rattle.note.specs.Note.{lineLen, linesOf, line-ends, starts-fits}
+use Rattle.note_line.specs.NoteLine.{lineLen, line-ends, starts-fits}
+use Rattle.note.specs.Note.{linesOf}
 use Rattle.strings.specs.Strings.{frameOf, placeOf, onText, placesFrom, placesOf, keyIn, valueIn}
 use Rattle.strings.specs.Walks.{Fits, place-fits}
 use Rattle.strings.specs.Spelled.{strsIn}
@@ -38,11 +39,12 @@ use Rattle.image.specs.Accepted.{before-next}
 use Rattle.reader.specs.Reach.{some-trace, trace-pointed, trace-blocked}
 use Rattle.digits.specs.Digits.{digits, digits-few}
 use Rattle.lines.specs.Lines.{whose, headLine, traceLine, stringLine}
-use Rattle.listing.specs.Listing.{linesText, valuesOf, stringsText, stringsIn, traceText, tracesText, fileText}
+use Rattle.string_lines.specs.StringLines.{linesText, valuesOf, stringsText}
+use Rattle.file_lines.specs.FileLines.{stringsIn, traceText, tracesText, fileText}
 use Rattle.listing.specs.Listing.{roomFor}
 use Rattle.lines.specs.Sizes.{five, length-ended, length-order, length-head, length-trace, length-label, length-line}
 use Rattle.lines.specs.Spaced.{length-spaced}
-use Rattle.listing.specs.Told.{line-some}
+use Rattle.file_lines.specs.Told.{line-some}
 
 -- ---- numbers
 one : (n : ℕ) → n < 10 → length (digits n) ≤ 1

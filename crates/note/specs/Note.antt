@@ -11,15 +11,13 @@ use native.Mathlib.Omega.{arith}
 use lib.ListN.{length, getD, take, drop, length-append, length-drop, take-append-drop}
 use lib.Seq.{take-all, take-append-seam, drop-append-add, drop-append-seam, drop-drop}
 use lib.Dec.{leb, eqb}
-use borrow.Author.Tests.{leb-true, leb-false, le-leb, lt-leb, eqb-true, eqb-false, ne-eqb, not-true}
-use Rattle.word.specs.Tests.{neither, both, and-false, never}
+use borrow.Author.Tests.{leb-false, le-leb, lt-leb, eqb-true, eqb-false, ne-eqb, not-true}
+use Rattle.word.specs.Tests.{neither, both, never}
 use Rattle.refusal.specs.Rows.{pick}
 use Rattle.chars.specs.Chars.{note, valueChar, control, control-no-value}
-use Rattle.chars.specs.Runs.{same, same-eq, same-refl, same-not, all, more, none}
-
--- the list begins with u
-unfoldable pub starts : List ℕ → List ℕ → Bool
-starts u l = leb (length u) (length l) && same (take (length u) l) u
+use Rattle.chars.specs.Runs.{same, same-eq, same-not, all, more, none}
+use Rattle.note_line.specs.NoteLine.{starts, lineLen, starts-split, starts-fits, starts-other, starts-front, line-ends}
+use Rattle.note_bytes.specs.NoteBytes.{valueOr, paired, rest}
 
 -- value characters and whole line terminators: k bytes of a terminator are still to be passed over
 unfoldable pub lines : List ℕ → ℕ → List ℕ → Bool
@@ -30,11 +28,6 @@ lines u (suc k) (b ∷ bs) = lines u k bs
 -- what a value may be: in a NOTE it has lines
 unfoldable pub valueOk : List ℕ → List ℕ → List ℕ → Bool
 valueOk u k v = pick (same k note) (lines u 0 v) (all valueChar v)
-
--- the length of the first line: up to a terminator, or to the end
-unfoldable pub lineLen : List ℕ → List ℕ → ℕ
-lineLen u [] = 0
-lineLen u (b ∷ bs) = pick (starts u (b ∷ bs)) 0 (suc (lineLen u bs))
 
 -- the lines of a value, an empty one too: what stands between its terminators. The number bounds how many there are;
 -- the length of v is enough
@@ -84,34 +77,6 @@ unfolding lines
 lines-skip u [] [] = refl
 lines-skip u [] (b ∷ bs) = refl
 lines-skip u (x ∷ xs) bs = lines-skip u xs bs
-
--- a list that begins with u is u and what follows
-pub starts-split : (u l : List ℕ) → starts u l ≡ true → l ≡ u ++ drop (length u) l
-unfolding starts
-starts-split u l h =
-    let k = both (leb (length u) (length l)) (same (take (length u) l) u) h in
-    sym (take-append-drop (length u) l) ∙ ap (λ (r : List ℕ). r ++ drop (length u) l) (same-eq (take (length u) l) u (k .1))
-
-pub starts-fits : (u l : List ℕ) → starts u l ≡ true → length u ≤ length l
-unfolding starts
-starts-fits u l h = leb-true (length u) (length l) (both (leb (length u) (length l)) (same (take (length u) l) u) h .0)
-
--- the empty list begins every list; and the first bytes can tell that a list does not
-pub starts-none : (u l : List ℕ) → length u ≡ 0 → true ≡ starts u l
-unfolding starts same
-starts-none [] [] h = refl
-starts-none [] (b ∷ l) h = rw (le-leb 0 (suc (length l)) (omega arith))
-starts-none (x ∷ u) l h = absurd (omega arith)
-
-pub starts-other : (u l : List ℕ) → 0 < length u → 0 < length l → (getD l 0 0 ≡ getD u 0 0 → ⊥) → false ≡ starts u l
-unfolding starts same
-starts-other [] l h k n = absurd (omega arith)
-starts-other (x ∷ u) [] h k n = absurd (omega arith)
-starts-other (x ∷ u) (b ∷ l) h k n = rw (ne-eqb b x n) (sym (and-false (leb (suc (length u)) (suc (length l)))))
-
-pub starts-front : (u r : List ℕ) → starts u (u ++ r) ≡ true
-unfolding starts
-starts-front u r = rw (le-leb (length u) (length (u ++ r)) (simp length-append (omega arith)), take-append-seam u r) (same-refl u)
 
 -- where the terminator's first byte is no value character, as a terminator's is not, the two say the same
 not-start : (x b : ℕ) (xs bs : List ℕ) → valueChar x ≡ false → valueChar b ≡ true → starts (x ∷ xs) (b ∷ bs) ≡ false
@@ -177,26 +142,6 @@ value-spelled u k v e h = go (same k note) refl h
     go false q r = (λ n. r, λ n. absurd (same-not k note q n))
 
 -- ---- the lines of a value
-
-pub lineLen-le : (u v : List ℕ) → lineLen u v ≤ length v
-unfolding lineLen
-lineLen-le u [] = omega arith
-lineLen-le u (b ∷ bs) = go (starts u (b ∷ bs)) (lineLen-le u bs)
-  where
-    go : (w : Bool) → lineLen u bs ≤ length bs → pick w 0 (suc (lineLen u bs)) ≤ suc (length bs)
-    go true h = omega arith
-    go false h = omega arith
-
--- a line that ends before the value does ends at a whole terminator
-pub line-ends : (u v : List ℕ) → lineLen u v < length v → starts u (drop (lineLen u v) v) ≡ true
-unfolding lineLen
-line-ends u [] h = absurd (omega arith)
-line-ends u (b ∷ bs) h = go (starts u (b ∷ bs)) refl (line-ends u bs) h
-  where
-    go : (w : Bool) → starts u (b ∷ bs) ≡ w → (lineLen u bs < length bs → starts u (drop (lineLen u bs) bs) ≡ true)
-        → pick w 0 (suc (lineLen u bs)) < suc (length bs) → starts u (drop (pick w 0 (suc (lineLen u bs))) (b ∷ bs)) ≡ true
-    go true e i k = e
-    go false e i k = i (omega arith)
 
 -- what begins with u also does with more behind it
 starts-more : (u l : List ℕ) (n : ℕ) → starts u l ≡ false → starts u (take n l) ≡ false
@@ -362,16 +307,7 @@ unfolding lines
 lines-whole [] r h = absurd (omega arith)
 lines-whole (x ∷ xs) r h = let k : suc (length xs) - 1 ≡ length xs = omega arith in rw (starts-front (x ∷ xs) r, k) (lines-skip (x ∷ xs) xs r)
 
--- ---- a terminator of one byte, or of two that differ, without a walk: a byte, and for two the byte before it, tells
-
--- a value character or the byte x
-abbrev pub valueOr : ℕ → ℕ → Bool
-valueOr x b = valueChar b || eqb b x
-
--- value characters, and each a with b behind it: p says that an a stands before the list
-unfoldable pub paired : ℕ → ℕ → Bool → List ℕ → Bool
-paired a b p [] = not p
-paired a b p (c ∷ cs) = pick p (eqb c b) (valueChar c || eqb c a) && paired a b (eqb c a) cs
+-- ---- a terminator of one byte, or of two that differ, without a walk (note_bytes/NoteBytes)
 
 -- a terminator of one byte is that byte, wherever it stands
 pub lines-one : (u s : List ℕ) → length u ≡ 1 → all (valueOr (getD u 0 0)) s ≡ lines u 0 s
@@ -389,10 +325,6 @@ lines-one (x ∷ []) s h = go s
     go : (s : List ℕ) → all (valueOr x) s ≡ lines (x ∷ []) 0 s
     go [] = refl
     go (b ∷ bs) = rw (le-leb 1 (suc (length bs)) (omega arith), go bs) (turn (eqb b x) (valueChar b) (lines (x ∷ []) 0 bs))
-
-rest : (v r : Bool) → ((v || false) && r) ≡ (v && r)
-rest true r = refl
-rest false r = refl
 
 two : (a b : ℕ) (s : List ℕ) → valueChar a ≡ false → (a ≡ b → ⊥) → paired a b false s ≡ lines (a ∷ b ∷ []) 0 s
 unfolding lines starts same paired
@@ -424,21 +356,7 @@ lines-two (a ∷ []) s h n = absurd (omega arith)
 lines-two (a ∷ b ∷ []) s h n = let k = neither (valueChar a) (eqb a b) n in two a b s (k .0) (eqb-false a b (k .1))
 lines-two (a ∷ b ∷ c ∷ u) s h n = absurd (omega arith)
 
--- a turn of the loop for two bytes, and its end: w is what was found before
-module _ (a b : ℕ) (s : List ℕ) (i : ℕ) where
-  pub paired-turn : (w p : Bool) → i < length s
-      → ((w && ((p && eqb (getD s i 0) b) || (not p && (valueChar (getD s i 0) || eqb (getD s i 0) a)))) && paired a b (eqb (getD s i 0) a) (drop (i + 1) s))
-      ≡ (w && paired a b p (drop i s))
-  unfolding paired
-  paired-turn false p h = refl
-  paired-turn true false h = rw (more s i h)
-  paired-turn true true h = rw (more s i h) (rest (eqb (getD s i 0) b) _)
-
-  pub paired-through : (w p : Bool) → length s ≤ i → (w && not p) ≡ (w && paired a b p (drop i s))
-  unfolding paired
-  paired-through w p h = rw (none s i h)
-
--- ---- turns of the loops
+-- ---- turns of the walk
 module _ (u s : List ℕ) (i : ℕ) (h : i < length s) where
   -- a terminator is passed over whole
   pub lines-start : 0 < length u → starts u (drop i s) ≡ true → (i + length u ≤ length s) × (lines u 0 (drop (i + length u) s) ≡ lines u 0 (drop i s))
@@ -469,18 +387,6 @@ module _ (u s : List ℕ) (i : ℕ) (h : i < length s) where
   unfolding lines
   lines-bad q v = let r = rw (more s i h) at q in rw (more s i h, r, v)
 
-  pub line-here : starts u (drop i s) ≡ true → i ≡ i + lineLen u (drop i s)
-  unfolding lineLen
-  line-here q = let r = rw (more s i h) at q in rw (more s i h, r) (omega arith)
-
-  pub line-on : starts u (drop i s) ≡ false → i + 1 + lineLen u (drop (i + 1) s) ≡ i + lineLen u (drop i s)
-  unfolding lineLen
-  line-on q = let r = rw (more s i h) at q in rw (more s i h, r) (omega arith)
-
 pub lines-over : (u s : List ℕ) (i : ℕ) → length s ≤ i → true ≡ lines u 0 (drop i s)
 unfolding lines
 lines-over u s i h = rw (none s i h)
-
-pub line-over : (u s : List ℕ) (i : ℕ) → length s ≤ i → i ≡ i + lineLen u (drop i s)
-unfolding lineLen
-line-over u s i h = rw (none s i h) (omega arith)

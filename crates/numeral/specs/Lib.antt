@@ -1,5 +1,5 @@
 pub mod Leading
 pub mod Numeral
-pub mod Stored
+pub mod Answers
 pub mod Plain
 pub mod Returned

@@ -31,9 +31,11 @@ use Rattle.decimal.specs.Number.{signed, powerOf, decimalOf, partsAre}
 use Rattle.digits.specs.LastDigits.{lastDigits, last-length}
 use Rattle.numeral.specs.Leading.{last-digits, last-mean, last-value, before-value, Leading, leading-least}
 use Rattle.numeral.specs.Leading.{each-digit, digits-leading, digits-value}
-use Rattle.numeral.specs.Numeral.{raised, unlessZero, partsFor, signText, pointText, powerText, spelling, numeralOf}
-use Rattle.numeral.specs.Numeral.{numeralRows, fitted, numeralAnswer}
-use Rattle.numeral.specs.Stored.{not-zero}
+use Rattle.numeral_text.specs.NumeralText.{unlessZero, signText, pointText, powerText, spelling}
+use Rattle.numeral.specs.Numeral.{raised, partsFor, numeralOf}
+use Rattle.numeral_room.specs.Fitted.{fitted}
+use Rattle.numeral.specs.Numeral.{numeralRows, numeralAnswer}
+use Rattle.numeral_text.specs.Stored.{not-zero}
 
 -- ---- the rule
 

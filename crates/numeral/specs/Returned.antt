@@ -26,9 +26,10 @@ use Rattle.decimal.specs.Grammar.{Parts, Writes, Short}
 use Rattle.decimal.specs.Number.{decimalOf, numberIn}
 use Rattle.decimal.specs.Agreed.{is-number}
 use Rattle.digits.specs.LastDigits.{lastDigits, last-length}
-use Rattle.numeral.specs.Numeral.{raised, unlessZero, partsFor, signText, pointText, powerText, spelling, numeralOf}
+use Rattle.numeral_text.specs.NumeralText.{unlessZero, signText, pointText, powerText, spelling}
+use Rattle.numeral.specs.Numeral.{raised, partsFor, numeralOf}
 use Rattle.numeral.specs.Numeral.{numeralRows, numeralAnswer, numeralLeft}
-use Rattle.numeral.specs.Stored.{text-most, after-few}
+use Rattle.numeral.specs.Answers.{text-most, after-few}
 use Rattle.numeral.specs.Plain.{Plain, rows-from, rows-to, rows-short, parts-number, parts-write, raised-back}
 use Rattle.numeral.specs.Plain.{whole-back, far-of, shown-exactly}
 

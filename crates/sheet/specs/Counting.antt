@@ -21,13 +21,13 @@ use Rattle.refusal.specs.declared.Verdict.the-variants.{Accepted, Refused}
 use Rattle.chars.specs.Chars.{note}
 use Rattle.chars.specs.Runs.{same}
 use Rattle.text.specs.Order.{rises, rises-note}
-use Rattle.sheet.specs.declared.Step.the-variants.{Next, Bad}
+use Rattle.sheet_line.specs.declared.Step.the-variants.{Next, Bad}
 use Rattle.sheet.specs.declared.Measured as measured
 use Rattle.sheet.specs.declared.Measured.the-variants.{Size}
-use Rattle.sheet.specs.Lines.{Line, lineLen, lineKeyLen, continues, lineStep, onLineStep, checkFrom, linesVerdict}
-use Rattle.sheet.specs.Lines.{sheetLinesFrom, sheetLines}
+use Rattle.sheet_line.specs.SheetLine.{lineLen, lineKeyLen, continues, lineStep}
+use Rattle.sheet.specs.Lines.{Line, onLineStep, checkFrom, linesVerdict, sheetLinesFrom, sheetLines}
 use Rattle.sheet.specs.Area.{areaMost, sheetStrings, textSize, areaSize, sized, measuredOf}
-use Rattle.sheet.specs.Judging.{next-told}
+use Rattle.sheet_line.specs.Judging.{next-told}
 use Rattle.sheet.specs.Sizes.{lineCost, costs, joined-size, capped}
 
 -- ---- one line of a walk

@@ -18,11 +18,11 @@ use Rattle.strings.specs.declared.Judged.the-variants.{Keyword}
 use Rattle.chars.specs.Chars.{inLine, keyChar}
 use Rattle.chars.specs.Runs.{run, all, Stops, all-append, all-weaker, run-all, run-stops, run-append}
 use Rattle.text.specs.Order.{rises}
-use Rattle.sheet.specs.declared.Step.{Step}
-use Rattle.sheet.specs.declared.Step.the-variants.{Next, Bad}
-use Rattle.sheet.specs.Lines.{Line, plain, lineLen, lineKeyLen, spaced, continues, lineJudged, lineStep}
-use Rattle.sheet.specs.Lines.{onLineStep, checkFrom, linesVerdict, sheetLinesFrom, sheetLines}
-use Rattle.sheet.specs.Judging.{Told, judged-good, step-good, next-told}
+use Rattle.sheet_line.specs.declared.Step.{Step}
+use Rattle.sheet_line.specs.declared.Step.the-variants.{Next, Bad}
+use Rattle.sheet_line.specs.SheetLine.{plain, lineLen, lineKeyLen, spaced, continues, lineJudged, lineStep}
+use Rattle.sheet.specs.Lines.{Line, onLineStep, checkFrom, linesVerdict, sheetLinesFrom, sheetLines}
+use Rattle.sheet_line.specs.Judging.{Told, judged-good, step-good, next-told}
 use Rattle.sheet.specs.Counting.{check-step, check-none, lines-none, lines-step}
 
 -- "keyword (as above), tab, value", and 0Ah behind each

@@ -11,7 +11,8 @@ use lib.Dec.{ltb}
 use borrow.Author.Tests.{lt-ltb, le-ltb, ne-eqb}
 use Rattle.word.specs.Part.{part, part-rest}
 use Rattle.chars.specs.Runs.{run, none, same, same-eq}
-use Rattle.sheet.specs.Lines.{lineLen, lineKeyLen, lineKey, lineValue, asLine, sheetLinesFrom, sheetLines}
+use Rattle.sheet_line.specs.SheetLine.{lineLen, lineKeyLen, lineKey, lineValue}
+use Rattle.sheet.specs.Lines.{asLine, sheetLinesFrom, sheetLines}
 use Rattle.sheet.specs.Counting.{past-line, lines-none}
 use Rattle.channel.specs.Channel.{channelNumber, badChannel}
 use Rattle.sheet_channel.specs.SheetChannel.{hasLine, valueOfLine, badSheet}

@@ -13,7 +13,8 @@ use Rattle.chars.specs.Runs.{same, same-eq}
 use Rattle.text.specs.declared.Manner.the-variants.{Strict}
 use Rattle.text.specs.Order.{rises-note}
 use Rattle.strings.specs.Spelled.{hasKey, valueOfKey}
-use Rattle.sheet.specs.Lines.{Line, continues, linesVerdict, sheetLines}
+use Rattle.sheet_line.specs.SheetLine.{continues}
+use Rattle.sheet.specs.Lines.{Line, linesVerdict, sheetLines}
 use Rattle.sheet.specs.Area.{strOf, noteOf, joined, sheetStrings}
 use Rattle.sheet.specs.Paper.{GoodLine, GoodLines, accepted-lines}
 use Rattle.channel.specs.Count.{countIn}

@@ -7,7 +7,8 @@ ghost use mathlib.Core.Path.{_≡_};
 ghost use lib.ListN.{length};
 ghost use lib.Dec.{ltb};
 ghost use Rattle.chars.specs.Runs.{same};
-ghost use Rattle.sheet.specs.Lines.{lineKey, lineValue, sheetLines};
+ghost use Rattle.sheet_line.specs.SheetLine.{lineKey, lineValue};
+ghost use Rattle.sheet.specs.Lines.{sheetLines};
 ghost use Rattle.channel.specs.Channel.{channelNumber};
 ghost use Rattle.sheet_channel.specs.SheetChannel.{hasLine, valueOfLine, badSheet};
 
@@ -34,7 +35,7 @@ fn find(sheet: &[u8]) -> &[u8]
 {
     let mut at: usize = 0;
     while at < sheet.len() {
-        let e = at + sheet::line_len(&sheet[at..]);
+        let e = at + sheet_line::line_len(&sheet[at..]);
         if is_channel(&sheet[at..e]) {
             return &sheet[at..e];
         }

@@ -4,7 +4,8 @@ use mathlib.Core.Path.{ap, ap₂, _∙_}
 use Prim.Native.Nat.{ℕ}
 use borrow.Author.Needs.{needs}
 use mir.Syntax.{w32}
-use Rattle.decode.specs.Sample.{exponentIn, scaled, groupSample}
+use Rattle.sample_bits.specs.SampleBits.{exponentIn, scaled}
+use Rattle.decode.specs.Sample.{groupSample}
 use Rattle.word.specs.Signed.{kept}
 use Rattle.decode.proofs.group_sample.Statement.{statement}
 use Rattle.decode.proofs.group_sample.Tie as tie

@@ -2,7 +2,8 @@
 use mathlib.Core.Path.{ap, _∙_}
 use borrow.Author.Needs.{needs}
 use Rattle.sample.specs.Needed.{width}
-use Rattle.decode.specs.Sample.{twos, patternOf, sampleOf}
+use Rattle.sample_bits.specs.SampleBits.{twos}
+use Rattle.decode.specs.Sample.{patternOf, sampleOf}
 use Rattle.decode.proofs.Machine.{fits16, kept16}
 use Rattle.decode.proofs.sample1.Statement.{statement}
 use Rattle.decode.proofs.sample1.Tie as tie

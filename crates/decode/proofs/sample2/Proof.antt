@@ -4,7 +4,8 @@ use borrow.Author.Needs.{needs}
 use mir.Syntax.{w32}
 use Rattle.word.specs.Signed.{kept}
 use Rattle.sample.specs.Needed.{width}
-use Rattle.decode.specs.Sample.{twos, patternOf, sampleOf}
+use Rattle.sample_bits.specs.SampleBits.{twos}
+use Rattle.decode.specs.Sample.{patternOf, sampleOf}
 use Rattle.decode.proofs.sample2.Statement.{statement}
 use Rattle.decode.proofs.sample2.Tie as tie
 

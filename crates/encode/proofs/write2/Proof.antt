@@ -9,7 +9,8 @@ use mir.Syntax.{w32}
 use Rattle.word.specs.WordLaws.{length-bytesOf}
 use Rattle.encode.specs.Write.{residue, flat, fixedBytes, integersData}
 use Rattle.sample.specs.Needed.{needed, room}
-use Rattle.encode.specs.WriteLaws.{Writing, write-start, row-turn, row-end}
+use Rattle.row20.specs.RowLaws.{Writing, write-start}
+use Rattle.encode.specs.WriteLaws.{row-turn, row-end}
 use Rattle.word.specs.Signed.{kept}
 use Rattle.encode.proofs.write2.Statement.{statement}
 use Rattle.encode.proofs.write2.Tie as tie

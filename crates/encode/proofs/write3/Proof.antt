@@ -4,8 +4,10 @@ use native.Mathlib.Omega.{arith}
 use borrow.Author.Needs.{needs}
 use Rattle.word.specs.Put.{length-put}
 use Rattle.sample.specs.Needed.{needed, room}
-use Rattle.encode.specs.Write.{groups, integersData}
-use Rattle.encode.specs.WriteLaws.{zeros-end, length-groups}
+use Rattle.row20.specs.Row20.{groups}
+use Rattle.row20.specs.RowLaws.{length-groups}
+use Rattle.encode.specs.Write.{integersData}
+use Rattle.encode.specs.WriteLaws.{zeros-end}
 use Rattle.encode.proofs.write3.Statement.{statement}
 use Rattle.encode.proofs.write3.Tie as tie
 

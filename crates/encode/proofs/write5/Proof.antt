@@ -8,7 +8,8 @@ use Rattle.word.specs.Word.{bytesOf}
 use Rattle.word.specs.WordLaws.{length-bytesOf}
 use Rattle.sample.specs.Needed.{needed, room}
 use Rattle.encode.specs.Write.{flat, bitsData}
-use Rattle.encode.specs.WriteLaws.{Writing, write-start, row-turn, row-end}
+use Rattle.row20.specs.RowLaws.{Writing, write-start}
+use Rattle.encode.specs.WriteLaws.{row-turn, row-end}
 use Rattle.encode.proofs.write5.Statement.{statement}
 use Rattle.encode.proofs.write5.Tie as tie
 

@@ -4,7 +4,7 @@ use lib.IntN.{natAbs}
 use native.Mathlib.Omega.{arith}
 use mir.Syntax.{w32}
 use Rattle.word.specs.Signed.{kept, sign}
-use Rattle.numeral.specs.Stored.{raised-up, raised-over, raised-under}
+use Rattle.numeral.specs.Answers.{raised-up, raised-over, raised-under}
 use borrow.Author.Needs.{needs}
 use Rattle.numeral.proofs.behind_e.Statement.{statement}
 use Rattle.numeral.proofs.behind_e.Tie as tie

@@ -8,7 +8,7 @@ use mir.Syntax.{w32}
 use Rattle.word.specs.Signed.{kept}
 use Rattle.decimal.specs.declared.Decimal.{Decimal}
 use Rattle.numeral.specs.Numeral.{raised}
-use Rattle.numeral.specs.Stored.{zero-minus, many-decimals, large-coefficient, far-power, the-answer}
+use Rattle.numeral.specs.Answers.{zero-minus, many-decimals, large-coefficient, far-power, the-answer}
 use borrow.Author.Needs.{needs}
 use Rattle.numeral.proofs.write.Statement.{statement}
 use Rattle.numeral.proofs.write.Tie as tie

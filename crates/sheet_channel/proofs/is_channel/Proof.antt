@@ -2,7 +2,7 @@
 use mathlib.Core.Path.{sym}
 use lib.Seq.{length-take-le}
 use borrow.Author.Needs.{needs}
-use Rattle.sheet.specs.Lines.{lineKeyLen}
+use Rattle.sheet_line.specs.SheetLine.{lineKeyLen}
 use Rattle.sheet_channel.proofs.is_channel.Statement.{statement}
 use Rattle.sheet_channel.proofs.is_channel.Tie as tie
 

@@ -1,6 +1,6 @@
 -- `sheet_channel::value_of` meets its contract. Assumes nothing.
 use borrow.Author.Needs.{needs}
-use Rattle.sheet.specs.Lines.{lineKeyLen}
+use Rattle.sheet_line.specs.SheetLine.{lineKeyLen}
 use Rattle.sheet_channel.proofs.value_of.Statement.{statement}
 use Rattle.sheet_channel.proofs.value_of.Tie as tie
 

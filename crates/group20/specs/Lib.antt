@@ -1,0 +1,2 @@
+pub mod Group20
+pub mod GroupLaws

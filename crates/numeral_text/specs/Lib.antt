@@ -1,0 +1,2 @@
+pub mod NumeralText
+pub mod Stored

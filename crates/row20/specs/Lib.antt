@@ -1,0 +1,2 @@
+pub mod Row20
+pub mod RowLaws

@@ -1,0 +1,2 @@
+pub mod SheetLine
+pub mod Judging

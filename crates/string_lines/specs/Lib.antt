@@ -1,0 +1,3 @@
+pub mod StringLines
+pub mod Turns
+pub mod Walks
