@@ -7,8 +7,8 @@
  *
  * What a host owes, for the time of the call:
  *   - a pointer is not null, also where the size beside it is 0 (any address will do then);
- *   - it leads to as many elements as the size beside it says: bytes, or samples of a row;
- *   - a row of int32_t, uint64_t or an answer is aligned as its type asks;
+ *   - it leads to as many elements as the size beside it says: bytes, or elements of a row;
+ *   - a row of int32_t, uint64_t or size_t, or an answer, is aligned as its type asks;
  *   - memory that the function writes overlaps nothing else that it is lent, and nobody
  *     else reads or writes it; memory that it reads, nobody writes;
  *   - size_t has 64 bits.
@@ -21,6 +21,7 @@
  * for the file itself, else a trace, counted from 0. Every question about a file checks the
  * whole file first, so its refusal may be any row from 1 to 17, or 34, before one of its own.
  * The functions with quick in their name do not: each reads one trace and judges what it reads.
+ * Whoever wants much of a file asks seg2_check once and then, trace by trace, the quick ones.
  *
  * An answer begins with the refusal: `number` 0, `part` -1 and `place` 0 where there is
  * none. After a refusal the rest of the answer is 0 and no lent byte has changed. An answer
@@ -240,7 +241,7 @@ typedef struct seg2_length {
     size_t length;
 } seg2_length;
 
-/* ---- questions: no lent byte changes but the answer, and the rows of samples where it says so */
+/* ---- questions: no lent byte changes but the answer, and the rows where it says so */
 
 /* Whether the first `length` bytes are a file that keeps the rules; if not, the first row of the table that
  * they meet, 1 to 17 or 34, with its part and place. */
@@ -259,11 +260,18 @@ void seg2_string_count(seg2_count *answer, const uint8_t *buffer, size_t size, s
  * 18 where there is no such part. */
 void seg2_string(struct seg2_string *answer, const uint8_t *buffer, size_t size, size_t length, int32_t part, size_t index);
 
+/* All strings of a part in one call, for a listing: its time grows with the strings, where one call for each string goes
+ * through the list every time. The row has exactly four elements for each string, so 4 times what seg2_string_count
+ * answers: key_start, key_length, value_start and value_length as in struct seg2_string, string behind string in the
+ * order of the file. 18 where there is no such part, 32 where the row has another length; after a refusal the row is as
+ * it was. */
+seg2_verdict seg2_strings(const uint8_t *buffer, size_t size, size_t length, int32_t part, size_t *row, size_t row_size);
+
 /* Whether a part has a keyword: yes, no, or the refusal. Any bytes may be asked for; what cannot be a keyword is
  * a no. 18 where there is no such part.
  *
  * RECEIVER_GEOMETRY and SOURCE_GEOMETRY may stand several times running in a part. This question and the next four
- * answer the first of them; seg2_string_count and seg2_string have them all. */
+ * answer the first of them; seg2_string and seg2_strings have them all. */
 void seg2_keyword(struct seg2_keyword *answer, const uint8_t *buffer, size_t size, size_t length, int32_t part,
                   const uint8_t *key, size_t key_size);
 
@@ -300,32 +308,71 @@ seg2_verdict seg2_bits(const uint8_t *buffer, size_t size, size_t length, int32_
 
 /* ---- one trace, quickly (document 02, section 5): without the check of the whole file
  *
- * To show one value of a long file: what these cost does not grow with the number of traces. They read the file block's
- * first 32 bytes, the trace's pointer, the first 32 bytes of its block, and its strings in order, each whole, until the
- * keyword is found or passed: until a keyword stands there that is greater than the asked one, or NOTE. NOTE itself is
- * sought to the end of the list. The strings behind, the other traces, the file's own strings and the samples are not
- * looked at.
+ * Every question on a trace has a quick form, with the same arguments and the same answer. What it costs does not grow with
+ * the number of traces: one value of a long file is there at once, and all traces of a file take time in proportion to
+ * their number. There is no quick form of the file's own strings: part -1 is asked by the functions above.
+ *
+ * Each reads the file block's first 32 bytes, the trace's pointer and the first 32 bytes of its block; then, where the
+ * question is on strings, the trace's strings in order, each whole, as far as its comment says; and where it is on samples,
+ * the trace's data. It looks at nothing else: not at the strings behind, the other traces or the file's own strings, at no
+ * data where it is asked for strings, and at no string where it is asked for samples.
  *
  * So this is no check. It may answer where seg2_check refuses the file, for something that was not read; whoever wants to
- * know whether the file is sound asks seg2_check. Where seg2_check accepts the file, the answer is that of seg2_keyword
- * and seg2_value, for every trace number from 0 on and every key.
+ * know whether the file is sound asks seg2_check. Where seg2_check accepts the file, the answer is that of the function
+ * without quick in its name, rows included, for every trace number from 0 on.
  *
- * Refusals, of what was read alone: 1 to 7, then 18 where there is no such trace (-1 is none: the file's own strings are
- * not asked here), 8 (a pointer that is no multiple of 4, leads into the pointer room, or leaves no room for a block; it
- * may lead into another trace), 9 to 13, then 14 to 17 string by string, the found or passed one too. 34 is never given:
- * it would need another trace. */
+ * Refusals, of what was read alone: 1 to 7, then 18 where there is no such trace (-1 is none), 8 (a pointer that is no
+ * multiple of 4, leads into the pointer room, or leaves no room for a block; it may lead into another trace), 9 to 13, then
+ * those of the question, and for strings 14 to 17 before them, string by string. 34 is never given: it would need another
+ * trace. After a refusal a lent row is as it was. */
 
-/* Whether a trace has a keyword: yes, no, or the refusal. Any bytes may be asked for; what cannot be a keyword is sought
- * by its bytes like others, and is a no. */
+/* The block of a trace: no string and no data is read, and no row more refuses. */
+void seg2_quick_trace_block(seg2_trace *answer, const uint8_t *buffer, size_t size, size_t length, int32_t trace);
+
+/* How many strings a trace has: all of them are read, and the end mark. */
+void seg2_quick_string_count(seg2_count *answer, const uint8_t *buffer, size_t size, size_t length, int32_t trace);
+
+/* The string of a trace with this index: read are those up to it, itself too, and where there are fewer, all of them and the
+ * end mark; then `found` is 0, which is no refusal. */
+void seg2_quick_string(struct seg2_string *answer, const uint8_t *buffer, size_t size, size_t length, int32_t trace, size_t index);
+
+/* All strings of a trace into a row of four elements each, as seg2_strings: all of them are read, and the end mark. 32, behind
+ * 14 to 17, where the row has not exactly 4 times seg2_quick_string_count elements. */
+seg2_verdict seg2_quick_strings(const uint8_t *buffer, size_t size, size_t length, int32_t trace, size_t *row, size_t row_size);
+
+/* Whether a trace has a keyword: yes, no, or the refusal. Strings are read until the keyword is found or passed: until one
+ * stands there that is greater than the asked one, or NOTE. NOTE itself is sought to the end of the list. The found or passed
+ * string is judged too. Any bytes may be asked for; what cannot be a keyword is sought by its bytes like others, and is a
+ * no. */
 void seg2_quick_keyword(struct seg2_keyword *answer, const uint8_t *buffer, size_t size, size_t length, int32_t trace,
                         const uint8_t *key, size_t key_size);
 
-/* The value of a trace's keyword as the buffer's own bytes, the first where it stands several times. A no is start 0 and
- * length 0 without a refusal; a value that is there, be it empty, never starts at 0. seg2_read_number takes a value as a
- * number. The lines of a NOTE are parted by the line terminator, whose length stands in byte 11 of the file and whose
+/* The value of a trace's keyword as the buffer's own bytes, the first where it stands several times; the strings are read as
+ * far as for seg2_quick_keyword. A no is start 0 and length 0 without a refusal; a value that is there, be it empty, never
+ * starts at 0. The lines of a NOTE are parted by the line terminator, whose length stands in byte 11 of the file and whose
  * characters in byte 12 on; where there is an answer, both have been judged. */
 void seg2_quick_value(struct seg2_value *answer, const uint8_t *buffer, size_t size, size_t length, int32_t trace,
                       const uint8_t *key, size_t key_size);
+
+/* That value as a number: then 20 or 21, as seg2_number. */
+void seg2_quick_number(struct seg2_number *answer, const uint8_t *buffer, size_t size, size_t length, int32_t trace,
+                       const uint8_t *key, size_t key_size);
+
+/* That value as a double: then 20 to 22, as seg2_double. */
+void seg2_quick_double(struct seg2_double *answer, const uint8_t *buffer, size_t size, size_t length, int32_t trace,
+                       const uint8_t *key, size_t key_size);
+
+/* That value as a location: then 23, and 20 to 22 value by value, as seg2_location. */
+void seg2_quick_location(struct seg2_location *answer, const uint8_t *buffer, size_t size, size_t length, int32_t trace,
+                         const uint8_t *key, size_t key_size);
+
+/* The samples of a trace of code 1 to 3, into a row of exactly S elements: 33, then 32, as seg2_integers. */
+seg2_verdict seg2_quick_integers(const uint8_t *buffer, size_t size, size_t length, int32_t trace, int32_t *row, size_t row_size);
+
+/* The bit patterns of the samples of a trace of code 4 or 5 and their classes, into two rows of exactly S elements: 33, then
+ * 32, as seg2_bits. */
+seg2_verdict seg2_quick_bits(const uint8_t *buffer, size_t size, size_t length, int32_t trace, uint64_t *row, size_t row_size,
+                             uint8_t *classes, size_t classes_size);
 
 /* ---- a number and its text (document 02, section 4): no file is lent, so no row of its check comes first */
 
@@ -430,6 +477,24 @@ static inline struct seg2_location seg2_location_of(const uint8_t *buffer, size_
     return answer;
 }
 
+static inline seg2_trace seg2_quick_trace_block_of(const uint8_t *buffer, size_t size, size_t length, int32_t trace) {
+    seg2_trace answer;
+    seg2_quick_trace_block(&answer, buffer, size, length, trace);
+    return answer;
+}
+
+static inline seg2_count seg2_quick_string_count_of(const uint8_t *buffer, size_t size, size_t length, int32_t trace) {
+    seg2_count answer;
+    seg2_quick_string_count(&answer, buffer, size, length, trace);
+    return answer;
+}
+
+static inline struct seg2_string seg2_quick_string_of(const uint8_t *buffer, size_t size, size_t length, int32_t trace, size_t index) {
+    struct seg2_string answer;
+    seg2_quick_string(&answer, buffer, size, length, trace, index);
+    return answer;
+}
+
 static inline struct seg2_keyword seg2_quick_keyword_of(const uint8_t *buffer, size_t size, size_t length, int32_t trace,
                                                         const uint8_t *key, size_t key_size) {
     struct seg2_keyword answer;
@@ -441,6 +506,27 @@ static inline struct seg2_value seg2_quick_value_of(const uint8_t *buffer, size_
                                                     const uint8_t *key, size_t key_size) {
     struct seg2_value answer;
     seg2_quick_value(&answer, buffer, size, length, trace, key, key_size);
+    return answer;
+}
+
+static inline struct seg2_number seg2_quick_number_of(const uint8_t *buffer, size_t size, size_t length, int32_t trace,
+                                                      const uint8_t *key, size_t key_size) {
+    struct seg2_number answer;
+    seg2_quick_number(&answer, buffer, size, length, trace, key, key_size);
+    return answer;
+}
+
+static inline struct seg2_double seg2_quick_double_of(const uint8_t *buffer, size_t size, size_t length, int32_t trace,
+                                                      const uint8_t *key, size_t key_size) {
+    struct seg2_double answer;
+    seg2_quick_double(&answer, buffer, size, length, trace, key, key_size);
+    return answer;
+}
+
+static inline struct seg2_location seg2_quick_location_of(const uint8_t *buffer, size_t size, size_t length, int32_t trace,
+                                                          const uint8_t *key, size_t key_size) {
+    struct seg2_location answer;
+    seg2_quick_location(&answer, buffer, size, length, trace, key, key_size);
     return answer;
 }
 
@@ -515,7 +601,7 @@ static inline const char *seg2_text(uint32_t number) {
     case SEG2_SAMPLE_RANGE: return "a sample is outside what the format code can hold";
     case SEG2_NO_ROOM: return "the result is longer than the buffer or than 67,108,864 bytes";
     case SEG2_START_VALUES: return "the pointer slots are not 1 to 16,383, or the byte order is not 0 or 1";
-    case SEG2_ROW_LENGTH: return "the row's length is not the number of samples";
+    case SEG2_ROW_LENGTH: return "the row's length is not the number of samples, or not four times the number of strings";
     case SEG2_CODE_KIND: return "integers are asked of code 4 or 5, or bit patterns of code 1 to 3";
     case SEG2_CHANNEL_NUMBER: return "the trace's CHANNEL_NUMBER is not 1 to 32,767 in plain digits, or only one of this trace and trace 0 has it";
     case SEG2_SHEET_CHANNEL: return "the sheet's CHANNEL_NUMBER is not 1 to 32,767 in plain digits, is missing where the file's traces have it, or there where they have none";

@@ -40,6 +40,7 @@ enum {
     TRACE_BLOCK,
     STRING_COUNT,
     STRING,
+    STRINGS,
     KEYWORD,
     VALUE,
     NUMBER,
@@ -47,8 +48,17 @@ enum {
     LOCATION,
     INTEGERS,
     BITS,
+    QUICK_TRACE_BLOCK, /* the quick forms, in the order of those above from TRACE_BLOCK on */
+    QUICK_STRING_COUNT,
+    QUICK_STRING,
+    QUICK_STRINGS,
     QUICK_KEYWORD,
     QUICK_VALUE,
+    QUICK_NUMBER,
+    QUICK_DOUBLE,
+    QUICK_LOCATION,
+    QUICK_INTEGERS,
+    QUICK_BITS,
     READ_NUMBER,
     START,
     ADD_INTEGERS,
@@ -66,6 +76,7 @@ static const struct {
     [TRACE_BLOCK] = {"seg2_trace_block", sizeof(seg2_trace)},
     [STRING_COUNT] = {"seg2_string_count", sizeof(seg2_count)},
     [STRING] = {"seg2_string", sizeof(struct seg2_string)},
+    [STRINGS] = {"seg2_strings", sizeof(seg2_verdict)},
     [KEYWORD] = {"seg2_keyword", sizeof(struct seg2_keyword)},
     [VALUE] = {"seg2_value", sizeof(struct seg2_value)},
     [NUMBER] = {"seg2_number", sizeof(struct seg2_number)},
@@ -73,8 +84,17 @@ static const struct {
     [LOCATION] = {"seg2_location", sizeof(struct seg2_location)},
     [INTEGERS] = {"seg2_integers", sizeof(seg2_verdict)},
     [BITS] = {"seg2_bits", sizeof(seg2_verdict)},
+    [QUICK_TRACE_BLOCK] = {"seg2_quick_trace_block", sizeof(seg2_trace)},
+    [QUICK_STRING_COUNT] = {"seg2_quick_string_count", sizeof(seg2_count)},
+    [QUICK_STRING] = {"seg2_quick_string", sizeof(struct seg2_string)},
+    [QUICK_STRINGS] = {"seg2_quick_strings", sizeof(seg2_verdict)},
     [QUICK_KEYWORD] = {"seg2_quick_keyword", sizeof(struct seg2_keyword)},
     [QUICK_VALUE] = {"seg2_quick_value", sizeof(struct seg2_value)},
+    [QUICK_NUMBER] = {"seg2_quick_number", sizeof(struct seg2_number)},
+    [QUICK_DOUBLE] = {"seg2_quick_double", sizeof(struct seg2_double)},
+    [QUICK_LOCATION] = {"seg2_quick_location", sizeof(struct seg2_location)},
+    [QUICK_INTEGERS] = {"seg2_quick_integers", sizeof(seg2_verdict)},
+    [QUICK_BITS] = {"seg2_quick_bits", sizeof(seg2_verdict)},
     [READ_NUMBER] = {"seg2_read_number", sizeof(struct seg2_number)},
     [START] = {"seg2_start", sizeof(seg2_length)},
     [ADD_INTEGERS] = {"seg2_add_integers", sizeof(seg2_length)},
@@ -85,6 +105,21 @@ static const struct {
 /* These write the buffer; of a number it is the room for its text. */
 static int is_writer(uint64_t function) {
     return function >= START;
+}
+
+/* The question of the whole file beside a quick one, which has the same arguments and the same answer; every other function is its own. */
+static uint64_t full_of(uint64_t function) {
+    return function >= QUICK_TRACE_BLOCK && function <= QUICK_BITS ? function - QUICK_TRACE_BLOCK + TRACE_BLOCK : function;
+}
+
+/* These fill rows. */
+static int fills(uint64_t function) {
+    return full_of(function) == STRINGS || full_of(function) == INTEGERS || full_of(function) == BITS;
+}
+
+/* An element of a row, read or written. */
+static size_t width_of(uint64_t function) {
+    return full_of(function) == INTEGERS || function == ADD_INTEGERS ? 4 : 8;
 }
 
 static void stop(const char *why) {
@@ -186,6 +221,7 @@ __attribute__((noinline)) static void perform(call *c) {
     case TRACE_BLOCK: seg2_trace_block(c->answer, c->buffer, c->size, c->length, c->part); break;
     case STRING_COUNT: seg2_string_count(c->answer, c->buffer, c->size, c->length, c->part); break;
     case STRING: seg2_string(c->answer, c->buffer, c->size, c->length, c->part, c->index); break;
+    case STRINGS: *(seg2_verdict *)c->answer = seg2_strings(c->buffer, c->size, c->length, c->part, c->row, c->row_size); break;
     case KEYWORD: seg2_keyword(c->answer, c->buffer, c->size, c->length, c->part, c->text, c->text_size); break;
     case VALUE: seg2_value(c->answer, c->buffer, c->size, c->length, c->part, c->text, c->text_size); break;
     case NUMBER: seg2_number(c->answer, c->buffer, c->size, c->length, c->part, c->text, c->text_size); break;
@@ -196,8 +232,20 @@ __attribute__((noinline)) static void perform(call *c) {
         *(seg2_verdict *)c->answer =
             seg2_bits(c->buffer, c->size, c->length, c->part, c->row, c->row_size, c->classes, c->classes_size);
         break;
+    case QUICK_TRACE_BLOCK: seg2_quick_trace_block(c->answer, c->buffer, c->size, c->length, c->part); break;
+    case QUICK_STRING_COUNT: seg2_quick_string_count(c->answer, c->buffer, c->size, c->length, c->part); break;
+    case QUICK_STRING: seg2_quick_string(c->answer, c->buffer, c->size, c->length, c->part, c->index); break;
+    case QUICK_STRINGS: *(seg2_verdict *)c->answer = seg2_quick_strings(c->buffer, c->size, c->length, c->part, c->row, c->row_size); break;
     case QUICK_KEYWORD: seg2_quick_keyword(c->answer, c->buffer, c->size, c->length, c->part, c->text, c->text_size); break;
     case QUICK_VALUE: seg2_quick_value(c->answer, c->buffer, c->size, c->length, c->part, c->text, c->text_size); break;
+    case QUICK_NUMBER: seg2_quick_number(c->answer, c->buffer, c->size, c->length, c->part, c->text, c->text_size); break;
+    case QUICK_DOUBLE: seg2_quick_double(c->answer, c->buffer, c->size, c->length, c->part, c->text, c->text_size); break;
+    case QUICK_LOCATION: seg2_quick_location(c->answer, c->buffer, c->size, c->length, c->part, c->text, c->text_size); break;
+    case QUICK_INTEGERS: *(seg2_verdict *)c->answer = seg2_quick_integers(c->buffer, c->size, c->length, c->part, c->row, c->row_size); break;
+    case QUICK_BITS:
+        *(seg2_verdict *)c->answer =
+            seg2_quick_bits(c->buffer, c->size, c->length, c->part, c->row, c->row_size, c->classes, c->classes_size);
+        break;
     case READ_NUMBER: seg2_read_number(c->answer, c->text, c->text_size); break;
     case START: seg2_start(c->answer, c->buffer, c->size, c->code, c->slots, c->text, c->text_size); break;
     case ADD_INTEGERS: seg2_add_integers(c->answer, c->buffer, c->size, c->length, c->text, c->text_size, c->code, c->row, c->row_size); break;
@@ -243,7 +291,7 @@ static size_t called(call *c) {
 
 /* An answer's fields behind the refusal, as the vectors have them. */
 static size_t fields_of(uint64_t function, const void *answer, uint64_t *f) {
-    switch (function) {
+    switch (full_of(function)) {
     case FILE_BLOCK: {
         const seg2_file *a = answer;
         f[0] = a->order, f[1] = a->pointer_room, f[2] = a->trace_count, f[3] = a->string_terminator_size, f[4] = a->line_terminator_size;
@@ -260,10 +308,8 @@ static size_t fields_of(uint64_t function, const void *answer, uint64_t *f) {
         f[0] = a->found, f[1] = a->key_start, f[2] = a->key_length, f[3] = a->value_start, f[4] = a->value_length;
         return 5;
     }
-    case KEYWORD:
-    case QUICK_KEYWORD: f[0] = ((const struct seg2_keyword *)answer)->found; return 1;
-    case VALUE:
-    case QUICK_VALUE: f[0] = ((const struct seg2_value *)answer)->value_start, f[1] = ((const struct seg2_value *)answer)->value_length; return 2;
+    case KEYWORD: f[0] = ((const struct seg2_keyword *)answer)->found; return 1;
+    case VALUE: f[0] = ((const struct seg2_value *)answer)->value_start, f[1] = ((const struct seg2_value *)answer)->value_length; return 2;
     case NUMBER:
     case READ_NUMBER: {
         const struct seg2_number *a = answer;
@@ -289,7 +335,7 @@ static size_t fields_of(uint64_t function, const void *answer, uint64_t *f) {
 
 /* The samples that an addition is given. They are only read. */
 static void lend_row(call *c) {
-    size_t width = c->function == ADD_INTEGERS ? 4 : 8, i;
+    size_t width = width_of(c->function), i;
     c->row_size = number();
     if (c->row_size > ROOM / 8) {
         stop("a row is too large");
@@ -297,7 +343,7 @@ static void lend_row(call *c) {
     c->row = end_of(ROW, c->row_size * width);
     for (i = 0; i < c->row_size; i++) {
         uint64_t value = number();
-        if (c->function == ADD_INTEGERS) {
+        if (width == 4) {
             ((int32_t *)c->row)[i] = (int32_t)(int64_t)value;
         } else {
             ((uint64_t *)c->row)[i] = value;
@@ -306,11 +352,11 @@ static void lend_row(call *c) {
     locked(rooms[ROW], ROOM, PROT_READ);
 }
 
-/* The rows that samples are read into, painted. */
+/* The rows that samples or the places of strings are read into, painted. */
 static void lend_painted_rows(call *c) {
-    size_t width = c->function == INTEGERS ? 4 : 8;
+    size_t width = width_of(c->function);
     c->row_size = number();
-    c->classes_size = c->function == BITS ? number() : 0;
+    c->classes_size = full_of(c->function) == BITS ? number() : 0;
     if (c->row_size > ROOM / 8 || c->classes_size > ROOM) {
         stop("a row is too large");
     }
@@ -342,9 +388,10 @@ static call question(uint64_t function, bytes buffer, size_t length) {
     case WRITE_NUMBER:
         c.minus = (uint32_t)number(), c.coefficient = number(), c.power = (int32_t)(int64_t)number(), c.decimals = (uint32_t)number();
         break;
-    case INTEGERS:
-    case BITS: lend_painted_rows(&c); break;
     default: break;
+    }
+    if (fills(function)) {
+        lend_painted_rows(&c);
     }
     c.answer = end_of(ANSWER, functions[function].answer);
     memset(c.answer, 0xEE, functions[function].answer);
@@ -360,7 +407,7 @@ static int same_row(const call *c) {
     }
     for (i = 0; i < c->row_size; i++) {
         uint64_t wanted = number();
-        same &= c->function == INTEGERS ? ((uint32_t *)c->row)[i] == (uint32_t)wanted : ((uint64_t *)c->row)[i] == wanted;
+        same &= width_of(c->function) == 4 ? ((uint32_t *)c->row)[i] == (uint32_t)wanted : ((uint64_t *)c->row)[i] == wanted;
     }
     return same;
 }
@@ -388,10 +435,10 @@ static int as_wanted(const call *c, uint64_t refusal[3]) {
     for (i = 0; i < count; i++) {
         same &= number() == fields[i];
     }
-    if (c->function == INTEGERS || c->function == BITS) {
+    if (fills(c->function)) {
         same &= same_row(c);
     }
-    if (c->function == BITS) {
+    if (full_of(c->function) == BITS) {
         same &= same_bytes(c->classes, c->classes_size);
     }
     if (is_writer(c->function)) {
@@ -453,7 +500,7 @@ int main(void) {
         stop("vectors are missing");
     }
     for (i = CHECK; i < FUNCTIONS; i++) {
-        printf("%-18s %6llu calls, %5zu bytes of stack\n", functions[i].name, (unsigned long long)asked[i], depth[i]);
+        printf("%-23s %6llu calls, %5zu bytes of stack\n", functions[i].name, (unsigned long long)asked[i], depth[i]);
         wrong += asked[i] == 0 || depth[i] == 0; /* every call uses some, or it was not measured */
     }
     printf("%llu vectors, %llu wrong, %zu of %d bytes of stack used\n", (unsigned long long)vectors, (unsigned long long)wrong, deepest, (int)STACK);

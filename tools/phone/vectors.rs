@@ -7,9 +7,9 @@
 use seg2_reference as reference;
 use reference::generate::{
     addition_case, damaged, forged_number, location_case, mutated, number_case, number_edges, quick_case, sample_case,
-    several_damages, start_case, Model, Rng, SampleQuestion, WAYS,
+    several_damages, start_case, Model, QuickAsked, QuickTold, Rng, SampleQuestion, WAYS,
 };
-use reference::{Number, Order, Refusal, Row, TraceGiven};
+use reference::{Number, Order, Question, Refusal, Row, StringPlace, Trace, TraceGiven};
 use std::io::{BufWriter, Write};
 
 /// The exported functions by the numbers that replay.c knows them by. NEW_BUFFER is none, but tells the buffer of the
@@ -20,20 +20,21 @@ const FILE_BLOCK: u64 = 2;
 const TRACE_BLOCK: u64 = 3;
 const STRING_COUNT: u64 = 4;
 const STRING: u64 = 5;
-const KEYWORD: u64 = 6;
-const VALUE: u64 = 7;
-const NUMBER: u64 = 8;
-const DOUBLE: u64 = 9;
-const LOCATION: u64 = 10;
-const INTEGERS: u64 = 11;
-const BITS: u64 = 12;
-const QUICK_KEYWORD: u64 = 13;
-const QUICK_VALUE: u64 = 14;
-const READ_NUMBER: u64 = 15;
-const START: u64 = 16;
-const ADD_INTEGERS: u64 = 17;
-const ADD_BITS: u64 = 18;
-const WRITE_NUMBER: u64 = 19;
+const STRINGS: u64 = 6;
+const KEYWORD: u64 = 7;
+const VALUE: u64 = 8;
+const NUMBER: u64 = 9;
+const DOUBLE: u64 = 10;
+const LOCATION: u64 = 11;
+const INTEGERS: u64 = 12;
+const BITS: u64 = 13;
+/// So far behind each question of a part, TRACE_BLOCK to BITS, stands its quick form.
+const QUICK: u64 = 11;
+const READ_NUMBER: u64 = 25;
+const START: u64 = 26;
+const ADD_INTEGERS: u64 = 27;
+const ADD_BITS: u64 = 28;
+const WRITE_NUMBER: u64 = 29;
 const END: u64 = u64::MAX;
 
 type Answer = Result<Vec<u64>, Refusal>;
@@ -102,65 +103,141 @@ fn check(out: &mut Out, buffer: &[u8], length: usize) {
     out.told(0, reference::check(buffer, length).map(|_| Vec::new()));
 }
 
-fn blocks(out: &mut Out, buffer: &[u8], length: usize, part: i32) {
+fn file_block(out: &mut Out, buffer: &[u8], length: usize) {
     out.ask(FILE_BLOCK, 0, 0, b"");
     out.told(5, reference::file_block(buffer, length).map(|b| {
         let terminators = [b.string_terminator.len() as u64, b.line_terminator.len() as u64];
         vec![order_of(b.order), u64::from(b.m), u64::from(b.n), terminators[0], terminators[1]]
     }));
-    out.ask(TRACE_BLOCK, part, 0, b"");
-    out.told(5, reference::trace_block(buffer, length, i64::from(part)).map(|t| {
-        vec![u64::from(t.p), u64::from(t.b), u64::from(t.d), u64::from(t.s), u64::from(t.code)]
-    }));
 }
 
-fn strings(out: &mut Out, buffer: &[u8], length: usize, part: i32) {
-    let count = reference::string_count(buffer, length, i64::from(part));
-    out.ask(STRING_COUNT, part, 0, b"");
-    out.told(1, count.map(|n| vec![n as u64]));
-    let count = count.unwrap_or(0) as u64;
-    for index in (0..count).chain([count, count + 1, u64::MAX]) {
-        let string = reference::string(buffer, length, i64::from(part), index as usize);
-        out.ask(STRING, part, index, b"");
+/// A part that is asked about: by the question of the whole file, or by that of one trace (document 02, §5).
+#[derive(Clone, Copy)]
+struct Asked<'a> {
+    buffer: &'a [u8],
+    length: usize,
+    part: i32,
+    quick: bool,
+}
+
+impl Asked<'_> {
+    /// Opens the vector of a question.
+    fn ask(&self, out: &mut Out, full: u64, index: u64, text: &[u8]) {
+        let function = if self.quick { full + QUICK } else { full };
+        out.ask(function, self.part, index, text);
+    }
+
+    fn block(&self, out: &mut Out) {
+        let ask = if self.quick { reference::quick_trace_block } else { reference::trace_block };
+        self.block_told(out, ask(self.buffer, self.length, self.part.into()));
+    }
+
+    fn block_told(&self, out: &mut Out, block: Result<Trace, Refusal>) {
+        self.ask(out, TRACE_BLOCK, 0, b"");
+        out.told(5, block.map(|t| {
+            vec![u64::from(t.p), u64::from(t.b), u64::from(t.d), u64::from(t.s), u64::from(t.code)]
+        }));
+    }
+
+    fn count(&self) -> Result<usize, Refusal> {
+        let ask = if self.quick { reference::quick_string_count } else { reference::string_count };
+        ask(self.buffer, self.length, self.part.into())
+    }
+
+    fn count_told(&self, out: &mut Out, count: Result<usize, Refusal>) {
+        self.ask(out, STRING_COUNT, 0, b"");
+        out.told(1, count.map(|n| vec![n as u64]));
+    }
+
+    fn string(&self, index: u64) -> Result<Option<StringPlace>, Refusal> {
+        let ask = if self.quick { reference::quick_string } else { reference::string };
+        ask(self.buffer, self.length, self.part.into(), index as usize)
+    }
+
+    fn string_told(&self, out: &mut Out, index: u64, string: Result<Option<StringPlace>, Refusal>) {
+        self.ask(out, STRING, index, b"");
         out.told(5, string.map(|found| match found {
-            Some(s) => {
-                let size = |r: &std::ops::Range<usize>| (r.end - r.start) as u64;
-                vec![1, s.keyword.start as u64, size(&s.keyword), s.value.start as u64, size(&s.value)]
-            }
+            Some(s) => [&[1], &s.numbers().map(|n| n as u64)[..]].concat(),
             None => vec![0; 5],
         }));
     }
+
+    fn strings_told(&self, out: &mut Out, row: usize, told: Result<Vec<usize>, Refusal>) {
+        self.ask(out, STRINGS, 0, b"");
+        out.number(row as u64);
+        out.told(0, told.clone().map(|_| Vec::new()));
+        out.row(&told.map_or(vec![PAINT; row], |row| row.iter().map(|&n| n as u64).collect()));
+    }
+
+    /// All questions about its strings: count, each by its index and past the last, and in rows of the right size and others.
+    fn strings(&self, out: &mut Out) {
+        let count = self.count();
+        self.count_told(out, count);
+        let count = count.unwrap_or(0) as u64;
+        for index in (0..count).chain([count, count + 1, u64::MAX]) {
+            self.string_told(out, index, self.string(index));
+        }
+        for size in [4 * count, 4 * count + 1, count] {
+            let mut row = vec![0; size as usize];
+            let ask = if self.quick { reference::quick_strings } else { reference::all_strings };
+            let told = ask(self.buffer, self.length, self.part.into(), &mut row).map(|()| row);
+            self.strings_told(out, size as usize, told);
+        }
+    }
+
+    /// What it holds under a keyword: all questions that name one.
+    fn keyword(&self, out: &mut Out, key: &[u8]) {
+        let part = i64::from(self.part);
+        let found = match self.quick {
+            true => reference::quick_search(self.buffer, self.length, part, key).answer,
+            false => reference::keyword_string(self.buffer, self.length, part, key),
+        };
+        self.keyword_told(out, key, found.map(|string| string.map(|s| s.value)));
+    }
+
+    fn keyword_told(&self, out: &mut Out, key: &[u8], value: Result<Option<std::ops::Range<usize>>, Refusal>) {
+        let range = value.clone().map(|value| value.unwrap_or(0..0));
+        let text = range.clone().map(|range| &self.buffer[range]);
+        self.ask(out, KEYWORD, 0, key);
+        out.told(1, value.map(|value| vec![u64::from(value.is_some())]));
+        self.ask(out, VALUE, 0, key);
+        out.told(2, range.map(|range| vec![range.start as u64, range.len() as u64]));
+        self.ask(out, NUMBER, 0, key);
+        out.told(4, text.and_then(reference::number).map(number_fields));
+        self.ask(out, DOUBLE, 0, key);
+        out.told(1, text.and_then(reference::double).map(|d| vec![d.to_bits()]));
+        self.ask(out, LOCATION, 0, key);
+        out.told(7, text.and_then(reference::location).map(|l| {
+            let values = [u64::from(l.count), l.x.to_bits(), l.y.to_bits(), l.z.to_bits()];
+            [&values[..], &l.decimals.map(u64::from)].concat()
+        }));
+    }
+
+    fn integers_told(&self, out: &mut Out, row: usize, told: Result<Vec<i32>, Refusal>) {
+        self.ask(out, INTEGERS, 0, b"");
+        out.number(row as u64);
+        out.told(0, told.clone().map(|_| Vec::new()));
+        out.row(&told.map_or(vec![PAINT; row], |row| row.iter().map(|&v| v as i64 as u64).collect()));
+    }
+
+    fn bits_told(&self, out: &mut Out, row: usize, classes: usize, told: Result<(Vec<u64>, Vec<u8>), Refusal>) {
+        self.ask(out, BITS, 0, b"");
+        out.number(row as u64);
+        out.number(classes as u64);
+        out.told(0, told.clone().map(|_| Vec::new()));
+        let (row, classes) = told.unwrap_or_else(|_| (vec![PAINT; row], vec![PAINT as u8; classes]));
+        out.row(&row);
+        out.bytes(&classes);
+    }
 }
 
-/// What a part holds under a keyword: all questions that name one.
-fn keyword(out: &mut Out, buffer: &[u8], length: usize, part: i32, key: &[u8]) {
-    let there = reference::keyword(buffer, length, i64::from(part), key);
-    let range = reference::keyword_value(buffer, length, i64::from(part), key);
-    let text = &buffer[range.clone()];
-    out.ask(KEYWORD, part, 0, key);
-    out.told(1, there.map(|yes| vec![u64::from(yes)]));
-    out.ask(VALUE, part, 0, key);
-    out.told(2, there.map(|_| vec![range.start as u64, range.len() as u64]));
-    out.ask(NUMBER, part, 0, key);
-    out.told(4, there.and_then(|_| reference::number(text)).map(number_fields));
-    out.ask(DOUBLE, part, 0, key);
-    out.told(1, there.and_then(|_| reference::double(text)).map(|d| vec![d.to_bits()]));
-    out.ask(LOCATION, part, 0, key);
-    out.told(7, there.and_then(|_| reference::location(text)).map(|l| {
-        let values = [u64::from(l.count), l.x.to_bits(), l.y.to_bits(), l.z.to_bits()];
-        [&values[..], &l.decimals.map(u64::from)].concat()
-    }));
-    quick(out, buffer, length, part, key);
-}
+/// A row before a question that fills it: no sample's value and no place, so a byte that stays is told from one that is
+/// written.
+const PAINT: u64 = 0x5A5A_5A5A_5A5A_5A5A;
 
-/// The same of one trace alone (document 02, §5).
-fn quick(out: &mut Out, buffer: &[u8], length: usize, trace: i32, key: &[u8]) {
-    let there = reference::quick_keyword(buffer, length, i64::from(trace), key);
-    let range = reference::quick_value(buffer, length, i64::from(trace), key);
-    out.ask(QUICK_KEYWORD, trace, 0, key);
-    out.told(1, there.map(|yes| vec![u64::from(yes)]));
-    out.ask(QUICK_VALUE, trace, 0, key);
-    out.told(2, there.map(|_| vec![range.start as u64, range.len() as u64]));
+/// Both ways to ask about a part.
+fn both_ways(buffer: &[u8], length: usize, part: i32) -> [Asked<'_>; 2] {
+    [false, true].map(|quick| Asked { buffer, length, part, quick })
 }
 
 fn number_fields(n: Number) -> Vec<u64> {
@@ -171,10 +248,9 @@ fn number_fields(n: Number) -> Vec<u64> {
 fn all_questions(out: &mut Out, rng: &mut Rng, buffer: &[u8], length: usize) {
     out.buffer(buffer, length);
     check(out, buffer, length);
+    file_block(out, buffer, length);
     let traces = reference::file_block(buffer, length).map_or(0, |b| i32::from(b.n));
     for part in (-1..traces).chain([-2, traces, i32::MIN, i32::MAX]) {
-        blocks(out, buffer, length, part);
-        strings(out, buffer, length, part);
         let mut keys: Vec<Vec<u8>> = vec![b"".to_vec(), b"NOTE".to_vec(), b"no".to_vec(), rng.junk(5)];
         for index in 0..reference::string_count(buffer, length, i64::from(part)).unwrap_or(0) {
             if let Ok(Some(s)) = reference::string(buffer, length, i64::from(part), index) {
@@ -182,31 +258,12 @@ fn all_questions(out: &mut Out, rng: &mut Rng, buffer: &[u8], length: usize) {
                 keys.push(buffer[s.keyword.start..s.keyword.end - 1].to_vec());
             }
         }
-        for key in keys {
-            keyword(out, buffer, length, part, &key);
+        for asked in both_ways(buffer, length, part) {
+            asked.block(out);
+            asked.strings(out);
+            keys.iter().for_each(|key| asked.keyword(out, key));
         }
     }
-}
-
-/// A row before a samples question: no sample's value, so a byte that stays is told from one that is written.
-const PAINT: u64 = 0x5A5A_5A5A_5A5A_5A5A;
-
-fn integers(out: &mut Out, part: i32, row: usize, expected: Result<Vec<i32>, Refusal>) {
-    out.ask(INTEGERS, part, 0, b"");
-    out.number(row as u64);
-    out.told(0, expected.clone().map(|_| Vec::new()));
-    let left = expected.map_or(vec![PAINT; row], |row| row.iter().map(|&v| v as i64 as u64).collect());
-    out.row(&left);
-}
-
-fn bits(out: &mut Out, part: i32, row: usize, classes: usize, expected: Result<(Vec<u64>, Vec<u8>), Refusal>) {
-    out.ask(BITS, part, 0, b"");
-    out.number(row as u64);
-    out.number(classes as u64);
-    out.told(0, expected.clone().map(|_| Vec::new()));
-    let (row, classes) = expected.unwrap_or_else(|_| (vec![PAINT; row], vec![PAINT as u8; classes]));
-    out.row(&row);
-    out.bytes(&classes);
 }
 
 /// A value that a line of a sheet may hold.
@@ -227,9 +284,12 @@ fn damaged_files(out: &mut Out, rng: &mut Rng) {
             let case = damaged(rng, way);
             out.buffer(&case.buffer, case.length);
             check(out, &case.buffer, case.length);
-            blocks(out, &case.buffer, case.length, 0);
-            strings(out, &case.buffer, case.length, -1);
-            keyword(out, &case.buffer, case.length, 0, b"DELAY");
+            file_block(out, &case.buffer, case.length);
+            for asked in both_ways(&case.buffer, case.length, 0) {
+                asked.block(out);
+                Asked { part: if asked.quick { 0 } else { -1 }, ..asked }.strings(out);
+                asked.keyword(out, b"DELAY");
+            }
         }
     }
 }
@@ -255,12 +315,36 @@ fn broken_files(out: &mut Out, rng: &mut Rng) {
 fn one_trace(out: &mut Out, rng: &mut Rng) {
     for _ in 0..3000 {
         let case = quick_case(rng);
-        let Ok(trace) = i32::try_from(case.trace) else { continue };
+        let Ok(part) = i32::try_from(case.trace) else { continue };
         out.buffer(&case.buffer, case.length);
-        out.ask(QUICK_KEYWORD, trace, 0, &case.key);
-        out.told(1, case.expected.clone().map(|found| vec![u64::from(found.is_some())]));
-        out.ask(QUICK_VALUE, trace, 0, &case.key);
-        out.told(2, case.expected.map(|found| found.map_or(vec![0, 0], |r| vec![r.start as u64, r.len() as u64])));
+        let asked = Asked { buffer: &case.buffer, length: case.length, part, quick: true };
+        for QuickAsked { question, expected, .. } in case.asked {
+            as_laid(out, asked, question, expected);
+        }
+    }
+}
+
+/// A question and what the layout tells it.
+fn as_laid(out: &mut Out, asked: Asked, question: Question, expected: Result<QuickTold, Refusal>) {
+    /// The value of the kind that the question asks for.
+    macro_rules! told {
+        ($kind:pat => $value:expr) => {
+            expected.map(|told| match told {
+                $kind => $value,
+                other => panic!("{other:?} is no answer to the question"),
+            })
+        };
+    }
+    match question {
+        Question::Block => asked.block_told(out, told!(QuickTold::Block(block) => block)),
+        Question::Count => asked.count_told(out, told!(QuickTold::Count(count) => count)),
+        Question::String { index } => asked.string_told(out, index as u64, told!(QuickTold::String(found) => found)),
+        Question::Strings { row } => asked.strings_told(out, row, told!(QuickTold::Strings(row) => row)),
+        Question::Keyword { key } => asked.keyword_told(out, &key, told!(QuickTold::Keyword(value) => value)),
+        Question::Integers { row } => asked.integers_told(out, row, told!(QuickTold::Integers(row) => row)),
+        Question::Bits { row, classes } => {
+            asked.bits_told(out, row, classes, told!(QuickTold::Bits(row, classes) => (row, classes)));
+        }
     }
 }
 
@@ -289,9 +373,10 @@ fn numbers(out: &mut Out, rng: &mut Rng) {
         let order = rng.between(0, 1) as u32;
         let file = reference::file_of(order, 1, &sheet, &[trace]).expect("a list that defines a file");
         out.buffer(&file, file.len());
-        for part in [-1, 0] {
-            keyword(out, &file, file.len(), part, b"DELAY");
+        for asked in both_ways(&file, file.len(), 0) {
+            asked.keyword(out, b"DELAY");
         }
+        Asked { buffer: &file, length: file.len(), part: -1, quick: false }.keyword(out, b"DELAY");
     }
 }
 
@@ -347,9 +432,12 @@ fn samples(out: &mut Out, rng: &mut Rng) {
         let case = sample_case(rng);
         let Ok(part) = i32::try_from(case.trace) else { continue };
         out.buffer(&case.buffer, case.length);
-        match case.question {
-            SampleQuestion::Integers { row, expected } => integers(out, part, row, expected),
-            SampleQuestion::Bits { row, classes, expected } => bits(out, part, row, classes, expected),
+        // The file keeps the rules, so both ways are told the same, a trace that is not there included.
+        for asked in both_ways(&case.buffer, case.length, part) {
+            match &case.question {
+                SampleQuestion::Integers { row, expected } => asked.integers_told(out, *row, expected.clone()),
+                SampleQuestion::Bits { row, classes, expected } => asked.bits_told(out, *row, *classes, expected.clone()),
+            }
         }
     }
 }

@@ -16,7 +16,7 @@ use Rattle.refusal.specs.declared.Refusal.{Refusal}
 use Rattle.refusal.specs.declared.Verdict.{Verdict}
 use Rattle.refusal.specs.declared.Verdict.the-variants.{Accepted, Refused}
 use Rattle.image.specs.Image.{checkOf}
-use Rattle.reader.specs.Questions.{integersAnswer, bitsAnswer, integersLeft, patternsLeft, classesLeft}
+use Rattle.reader.specs.Questions.{stringsAnswer, stringsLeft, integersAnswer, bitsAnswer, integersLeft, patternsLeft, classesLeft}
 use Rattle.reader.specs.Answers.{integers-kept, bits-kept}
 use Rattle.refusal.specs.declared.Written.the-variants as written
 use Rattle.layout.specs.Layout.{startSize, Trace}
@@ -27,7 +27,7 @@ use Rattle.start.specs.StartShown.{not-refused, start-refused}
 use Rattle.writer.specs.Shown.{add-refused}
 use Rattle.refusal.specs.FirstRow.{NoneMet, Met, firstOf, refused-by-the-first, accepted-where-none-is-met}
 use Rattle.demands.specs.FileRows.{checkRows, check-answers-first}
-use Rattle.demands.specs.QuestionRows.{integersAskedRows, bitsAskedRows, integers-answer-first, bits-answer-first}
+use Rattle.demands.specs.QuestionRows.{stringsAskedRows, strings-answer-first, integersAskedRows, bitsAskedRows, integers-answer-first, bits-answer-first}
 use Rattle.demands.specs.WriterRows.{startRows, addRows, start-answers-first, addition-answers-first}
 
 -- ---- "input that meets rows of the refusal table gets the first of them in its order, with its place; no other input
@@ -82,6 +82,14 @@ pub addition-accepts-where-none : (xs : List ℕ) (n : ℕ) (x : Trace) → (add
 addition-accepts-where-none xs n x = writes (addRows xs n x) (newLength (take n xs) n x) (addAnswer xs n x) (addition-answers-first xs n x) .1
 
 -- Rules out a row of samples that is refused for another reason, or filled where it must not be.
+pub strings-refused-by-the-first : (xs : List ℕ) (n : ℕ) (z : ℤ) (s : ℕ) (r : Refusal)
+    → (stringsAnswer Strict xs n z s ≡ Refused r) ↔ Met (stringsAskedRows Strict xs n z s) r
+strings-refused-by-the-first xs n z s r = rw (strings-answer-first Strict xs n z s) (refused-by-the-first (stringsAskedRows Strict xs n z s) r)
+
+pub strings-accepted-where-none : (xs : List ℕ) (n : ℕ) (z : ℤ) (s : ℕ)
+    → (stringsAnswer Strict xs n z s ≡ Accepted) ↔ NoneMet (stringsAskedRows Strict xs n z s)
+strings-accepted-where-none xs n z s = rw (strings-answer-first Strict xs n z s) (accepted-where-none-is-met (stringsAskedRows Strict xs n z s))
+
 pub integers-refused-by-the-first : (xs : List ℕ) (n : ℕ) (z : ℤ) (s : ℕ) (r : Refusal)
     → (integersAnswer Strict xs n z s ≡ Refused r) ↔ Met (integersAskedRows Strict xs n z s) r
 integers-refused-by-the-first xs n z s r = rw (integers-answer-first Strict xs n z s) (refused-by-the-first (integersAskedRows Strict xs n z s) r)
@@ -107,6 +115,11 @@ refused-start-changes-nothing = start-refused
 
 pub refused-addition-changes-nothing : (xs : List ℕ) (n : ℕ) (x : Trace) (r : Refusal) → addAnswer xs n x ≡ written.Refused r → addLeft xs n x ≡ xs
 refused-addition-changes-nothing = add-refused
+
+pub refused-strings-change-nothing : (xs : List ℕ) (n : ℕ) (z : ℤ) (row : List ℕ) (r : Refusal) → stringsAnswer Strict xs n z (length row) ≡ Refused r
+    → stringsLeft Strict xs n z row ≡ row
+unfolding stringsLeft
+refused-strings-change-nothing xs n z row r e = rw e
 
 pub refused-integers-change-nothing : (xs : List ℕ) (n : ℕ) (z : ℤ) (row : List ℤ) (r : Refusal) → integersAnswer Strict xs n z (length row) ≡ Refused r
     → integersLeft Strict xs n z row ≡ row

@@ -502,6 +502,24 @@ pub quick-refuses-by-the-first : (xs : List ℕ) (n : ℕ) (z : ℤ) (key : List
 quick-refuses-by-the-first xs n z key r =
     rw (quick-answers-first xs n z key) (refused-by-the-first (quickRows xs n z (stringsRows (byKey key) (take n xs) (traceNumber z))) r)
 
+-- "After a refusal nothing has changed" (document 01): each lent row is as it was. Rules out a row that is filled before the
+-- last row is judged.
+pub refused-strings-change-nothing : (xs : List ℕ) (n : ℕ) (z : ℤ) (lent : List ℕ) (r : Refusal) → quickStrings xs n z (length lent) ≡ Refused r
+    → quickStringsLeft xs n z lent ≡ lent
+unfolding quickStringsLeft
+refused-strings-change-nothing xs n z lent r e = rw e
+
+pub refused-integers-change-nothing : (xs : List ℕ) (n : ℕ) (z : ℤ) (lent : List ℤ) (r : Refusal) → quickIntegers xs n z (length lent) ≡ Refused r
+    → quickIntegersLeft xs n z lent ≡ lent
+unfolding quickIntegersLeft
+refused-integers-change-nothing xs n z lent r e = rw e
+
+pub refused-bits-change-nothing : (xs : List ℕ) (n : ℕ) (z : ℤ) (lent classes : List ℕ) (r : Refusal)
+    → quickBits xs n z (length lent) (length classes) ≡ Refused r
+    → (quickPatternsLeft xs n z lent classes ≡ lent) × (quickClassesLeft xs n z lent classes ≡ classes)
+unfolding quickPatternsLeft quickClassesLeft
+refused-bits-change-nothing xs n z lent classes r e = (rw e, rw e)
+
 -- "It is asked of traces only": -1, the file, and every other number below 0 is 18, behind 1 to 7, for every question of the
 -- family. Rules out the file's own value for -1.
 pub traces-only : {A : Type 0} (bad : Refusal → A) (mk : List ℕ → ℕ → A) (xs : List ℕ) (n j : ℕ) → badLength (length xs) n ≡ false

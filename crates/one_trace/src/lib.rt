@@ -15,6 +15,16 @@ ghost use Prim.Native.Nat.{_+_, _*_, _≤_, _<_};
 ghost use lib.ListN.{length};
 ghost use Rattle.one_trace.specs.Alone.{ownOf, namedOf, blockAlone};
 
+// An answer, handed on arm by arm: a copy of the whole would be one of single bytes.
+fn told(a: TraceAnswer) -> TraceAnswer
+    ensures { λ r. ⌜ r ≡ a ⌝ }
+{
+    match a {
+        TraceAnswer::Refused(r) => TraceAnswer::Refused(r),
+        TraceAnswer::Is(x) => TraceAnswer::Is(x),
+    }
+}
+
 // Rows 8 to 13 of the trace k of an image whose pointer room has m bytes; and its block.
 fn own(f: &[u8], high: bool, m: usize, k: u16) -> TraceAnswer
     requires { ⌜ (36 + 4 * k ≤ length (now f)) × (32 + m ≤ length (now f)) ⌝ }
@@ -26,7 +36,7 @@ fn own(f: &[u8], high: bool, m: usize, k: u16) -> TraceAnswer
         Verdict::Refused(r) => TraceAnswer::Refused(r),
         Verdict::Accepted => {
             let e = p + 32;
-            block::block_rows(&f[p..e], high, f.len(), k, p)
+            told(block::block_rows(&f[p..e], high, f.len(), k, p))
         }
     }
 }

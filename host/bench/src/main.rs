@@ -1,6 +1,8 @@
 //! The proved archive beside plain Rust and beside a copy of the same bytes, on the
 //! same buffers in one run. Usage: `seg2_bench [ROUNDS]`.
 
+mod everything;
+
 use seg2::calls;
 use seg2_bench::files::{file, file_of_one, file_with, started, trace_sheet, unnumbered_sheet};
 use seg2_bench::time::{least, Work};
@@ -35,6 +37,7 @@ fn main() {
     values(rounds);
     each_trace(rounds);
     one_trace(rounds);
+    everything::table(rounds);
     samples(rounds);
     searches(rounds);
     additions(rounds);
@@ -242,12 +245,23 @@ fn values(rounds: usize) {
     }
 }
 
-/// A full question makes the check of the whole file first, so a question for each trace
-/// grows with the square of their number.
+/// Fewer rounds where one takes long.
+fn fewer(rounds: usize, traces: usize) -> usize {
+    match traces > 1_000 {
+        true => rounds.div_ceil(8),
+        false => rounds,
+    }
+}
+
+/// A full question makes the check of the whole file first, so such a question for each trace
+/// grows with the square of their number. The listing makes one check, one more for each of
+/// the two questions on the file's own strings, and asks the traces quickly.
 fn each_trace(rounds: usize) {
-    println!("\nA value of each trace: one question, and that times the traces. Opened and walked: Rust's way through all blocks and strings.\n");
-    println!("| traces | one question us | for each trace ms | opened and walked ms |");
-    println!("|---|---|---|---|");
+    println!("\nA value of each trace: one question that makes the check, and that times the traces. Opened and listed: all blocks and strings by Rust's wrapper, as `./seg2 list` goes.\n");
+    println!(
+        "| traces | one question us | for each trace ms | opened and listed ms | ns a trace |"
+    );
+    println!("|---|---|---|---|---|");
     for traces in [24, 240, 2_000, 16_000] {
         let mut bytes = file(0, traces, 500);
         let part = traces as i32 / 2;
@@ -255,21 +269,23 @@ fn each_trace(rounds: usize) {
         let ask: Work<Vec<u8>> = &|file| {
             black_box(value(file, part, black_box(b"STACK")));
         };
-        let walk: Work<Vec<u8>> = &|file| {
+        let list: Work<Vec<u8>> = &|file| {
             let open = seg2::File::open(file).expect("a file");
-            assert!(open.walk().count() > traces);
+            let mut strings = open.strings().count();
+            for trace in open.traces() {
+                black_box(trace.block());
+                strings += trace.strings().map(black_box).count();
+            }
+            assert_eq!(strings, 7 + 7 * traces);
         };
-        let rounds = if traces > 1_000 {
-            rounds.div_ceil(8)
-        } else {
-            rounds
-        };
-        let [a, b] = least(&mut bytes, rounds, [ask, walk]);
+        let [a, b] = least(&mut bytes, fewer(rounds, traces), [ask, list]);
+        let each = traces as f64;
         println!(
-            "| {traces} | {:.1} | {:.2} | {:.3} |",
+            "| {traces} | {:.1} | {:.2} | {:.3} | {:.0} |",
             a / 1e3,
-            a * traces as f64 / 1e6,
-            b / 1e6
+            a * each / 1e6,
+            b / 1e6,
+            b / each
         );
     }
 }

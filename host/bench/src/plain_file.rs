@@ -9,7 +9,7 @@ pub type Refused = (u32, i32, usize);
 const MOST: usize = 67_108_864;
 const KEY: u8 = 1;
 const VALUE: u8 = 2;
-const BLANK: u8 = 4;
+pub(crate) const BLANK: u8 = 4;
 
 /// What a character may be used for.
 const CLASS: [u8; 256] = {
@@ -30,7 +30,7 @@ const CLASS: [u8; 256] = {
     class
 };
 
-fn is(class: u8, c: u8) -> bool {
+pub(crate) fn is(class: u8, c: u8) -> bool {
     CLASS[usize::from(c)] & class != 0
 }
 
@@ -56,7 +56,7 @@ pub struct Checked<'a> {
     channels: bool,
 }
 
-fn two<const HIGH: bool>(bytes: [u8; 2]) -> usize {
+pub(crate) fn two<const HIGH: bool>(bytes: [u8; 2]) -> usize {
     usize::from(match HIGH {
         true => u16::from_be_bytes(bytes),
         false => u16::from_le_bytes(bytes),
@@ -169,7 +169,7 @@ pub(crate) fn pointer<const HIGH: bool>(
 fn trace<const HIGH: bool>(found: &mut Checked, k: usize, end: usize) -> Result<usize, Refused> {
     let part = k as i32;
     let p = pointer::<HIGH>(found, k, end)?;
-    let (b, d) = fixed::<HIGH>(found.file, part, p)?;
+    let Fixed { b, d, .. } = fixed::<HIGH>(found.file, part, p)?;
     let channel = strings::<HIGH>(found, part, p + 32, p + b)?;
     if k == 0 {
         found.channels = channel.is_some();
@@ -180,13 +180,17 @@ fn trace<const HIGH: bool>(found: &mut Checked, k: usize, end: usize) -> Result<
     Ok(p + b + d)
 }
 
-/// Rows 9 to 13 of the block at p; B and D.
+/// What the fixed part of a block tells.
+pub(crate) struct Fixed {
+    pub b: usize,
+    pub d: usize,
+    pub s: usize,
+    pub code: u8,
+}
+
+/// Rows 9 to 13 of the block at p.
 #[inline(always)]
-pub(crate) fn fixed<const HIGH: bool>(
-    file: &[u8],
-    part: i32,
-    p: usize,
-) -> Result<(usize, usize), Refused> {
+pub(crate) fn fixed<const HIGH: bool>(file: &[u8], part: i32, p: usize) -> Result<Fixed, Refused> {
     let fixed: [u8; 32] = at(file, p);
     let b = two::<HIGH>([fixed[2], fixed[3]]);
     let d = four::<HIGH>([fixed[4], fixed[5], fixed[6], fixed[7]]);
@@ -200,17 +204,18 @@ pub(crate) fn fixed<const HIGH: bool>(
     if d % 4 != 0 || p + b + d > file.len() {
         return Err((11, part, p + 4));
     }
-    let needed = match fixed[12] {
+    let code = fixed[12];
+    let needed = match code {
         1 => 2 * s,
         2 | 4 => 4 * s,
         3 => 10 * s / 4,
         5 => 8 * s,
         _ => return Err((12, part, p + 12)),
     };
-    if fixed[12] == 3 && s % 4 != 0 || needed > d {
+    if code == 3 && s % 4 != 0 || needed > d {
         return Err((13, part, p + 8));
     }
-    Ok((b, d))
+    Ok(Fixed { b, d, s, code })
 }
 
 const CHANNEL: &[u8] = b"CHANNEL_NUMBER";
@@ -351,16 +356,28 @@ pub fn value(
             break;
         }
         let body = &rest[2..offset - found.string.len()];
-        let letters = body.iter().position(|&c| is(BLANK, c));
-        let letters = letters.unwrap_or(body.len());
+        let letters = letters_of(body);
         if &body[..letters] == key {
-            let gap = body[letters..].iter().position(|&c| !is(BLANK, c));
-            let from = gap.map_or(body.len(), |gap| letters + gap);
+            let from = value_in(body, letters);
             return Ok((end - rest.len() + 2 + from, body.len() - from));
         }
         rest = &rest[offset..];
     }
     Ok((0, 0))
+}
+
+/// How many letters the keyword of a checked string has.
+#[inline(always)]
+pub(crate) fn letters_of(body: &[u8]) -> usize {
+    let blank = body.iter().position(|&c| is(BLANK, c));
+    blank.unwrap_or(body.len())
+}
+
+/// Where its value begins.
+#[inline(always)]
+pub(crate) fn value_in(body: &[u8], letters: usize) -> usize {
+    let gap = body[letters..].iter().position(|&c| !is(BLANK, c));
+    gap.map_or(body.len(), |gap| letters + gap)
 }
 
 /// A number of 4 bytes in the file's own order.
@@ -405,14 +422,26 @@ fn data<'a>(
 ) -> Result<(u8, &'a [u8]), Refused> {
     let (p, b) = block(found, trace)?;
     let code = found.file[p + 12];
+    let (d, s) = (long(found, p + 4), long(found, p + 8));
+    rows_fit(code, s, codes, rows)?;
+    Ok((code, &found.file[p + b..p + b + d]))
+}
+
+/// Rows 33 and 32: a code that is one of these, and rows of exactly S elements.
+#[inline(always)]
+pub(crate) fn rows_fit(
+    code: u8,
+    s: usize,
+    codes: std::ops::RangeInclusive<u8>,
+    rows: [usize; 2],
+) -> Result<(), Refused> {
     if !codes.contains(&code) {
         return Err((33, -1, 0));
     }
-    let (d, s) = (long(found, p + 4), long(found, p + 8));
-    if rows != [s, s] {
-        return Err((32, -1, 0));
+    match rows == [s, s] {
+        true => Ok(()),
+        false => Err((32, -1, 0)),
     }
-    Ok((code, &found.file[p + b..p + b + d]))
 }
 
 /// The samples of a trace of codes 1 to 3.

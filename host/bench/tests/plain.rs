@@ -1,12 +1,13 @@
 //! The plain side gives the reference's answers, and where one trace is asked for quickly
 //! the archive's: a benchmark against something that does less would say nothing.
 
-use seg2_bench::{plain, plain_file, plain_quick};
+use seg2::{calls, raw};
+use seg2_bench::{plain, plain_file, plain_number, plain_quick};
 use seg2_reference as reference;
 use seg2_reference::generate::writing::{some_integers, some_patterns};
 use seg2_reference::generate::{
-    addition_case, damaged, mutated, plain_file, sample_case, several_damages, Model, PlainTrace,
-    Rng, SampleQuestion, WAYS,
+    addition_case, damaged, location_case, mutated, number_case, plain_file, sample_case,
+    several_damages, Model, PlainTrace, Rng, SampleQuestion, WAYS,
 };
 use seg2_reference::samples::{encode_bits, encode_integers};
 use seg2_reference::worked::{CHANNEL_NUMBERS, NO_CHANNEL_NUMBERS};
@@ -86,24 +87,85 @@ fn values() {
     }
 }
 
-/// Answers of the quick question on a buffer, each beside the archive's; the rows met.
-fn quick_alike(buffer: &[u8], length: usize, key: &[u8], met: &mut BTreeSet<u32>) {
-    for trace in [-1, 0, 1, 2, 5, i32::MAX] {
-        let archive = seg2::calls::quick_value(buffer, length, trace, key);
-        let expected = match archive.number {
-            0 => Ok((archive.value_start, archive.value_length)),
+/// The archive's answer, as the plain side gives it; its row is met.
+macro_rules! expected {
+    ($met:ident, $archive:expr, $told:expr) => {{
+        let archive = $archive;
+        $met.insert(archive.number);
+        match archive.number {
+            0 => Ok($told(archive)),
             number => Err((number, archive.part, archive.place)),
-        };
-        let answer = plain_quick::value(buffer, length, trace, key);
+        }
+    }};
+}
+
+/// Traces that a file has, and others.
+const TRACES: [i32; 6] = [-1, 0, 1, 2, 5, i32::MAX];
+
+/// Answers of the quick questions on a keyword, each beside the archive's; the rows met.
+fn quick_alike(buffer: &[u8], length: usize, key: &[u8], met: &mut BTreeSet<u32>) {
+    for trace in TRACES {
         let said = key.escape_ascii();
-        assert_eq!(answer, expected, "{trace} {said}");
-        met.insert(archive.number);
+        let archive = calls::quick_value(buffer, length, trace, key);
+        let place = |a: raw::Value| (a.value_start, a.value_length);
+        let answer = plain_quick::value(buffer, length, trace, key);
+        assert_eq!(answer, expected!(met, archive, place), "{trace} {said}");
+        let archive = calls::quick_location(buffer, length, trace, key);
+        let bits = |a: raw::Location| {
+            let decimals = [a.x_decimals, a.y_decimals, a.z_decimals];
+            (a.count, [a.x, a.y, a.z].map(f64::to_bits), decimals)
+        };
+        let answer = plain_quick::location(buffer, length, trace, key).map(by_bits);
+        assert_eq!(answer, expected!(met, archive, bits), "{trace} {said}");
+    }
+}
+
+/// A location whose doubles are compared by their bits, so that -0 is not 0.
+fn by_bits((count, values, decimals): plain_number::Location) -> (u32, [u64; 3], [u32; 3]) {
+    (count, values.map(f64::to_bits), decimals)
+}
+
+/// Answers of the other quick questions, rows included, of the right length and of others.
+fn trace_alike(buffer: &[u8], length: usize, met: &mut BTreeSet<u32>) {
+    for trace in TRACES {
+        let archive = calls::quick_trace_block(buffer, length, trace);
+        let block = expected!(met, archive, |a: raw::Trace| {
+            let (b, d, s) = (a.block_size, a.data_size, a.sample_count);
+            (a.start, b, d, s, a.format_code)
+        });
+        assert_eq!(plain_quick::block(buffer, length, trace), block);
+        let archive = calls::quick_string_count(buffer, length, trace);
+        let count = expected!(met, archive, |a: raw::Count| a.count);
+        assert_eq!(plain_quick::string_count(buffer, length, trace), count);
+        let nothing = |_: raw::Verdict| ();
+        let (count, samples) = (count.unwrap_or(0), block.map_or(0, |block| block.3));
+        for size in [4 * count, 4 * count + 1] {
+            let (mut row, mut plainly) = (vec![7; size], vec![7; size]);
+            let archive = calls::quick_strings(buffer, length, trace, &mut row);
+            let answer = plain_quick::strings(buffer, length, trace, &mut plainly);
+            assert_eq!(answer, expected!(met, archive, nothing));
+            assert_eq!(plainly, row);
+        }
+        for size in [samples, samples + 1] {
+            let (mut row, mut plainly) = (vec![7; size], vec![7; size]);
+            let archive = calls::quick_integers(buffer, length, trace, &mut row);
+            let answer = plain_quick::integers(buffer, length, trace, &mut plainly);
+            assert_eq!(answer, expected!(met, archive, nothing));
+            assert_eq!(plainly, row);
+            let mut rows = (vec![7; size], vec![7; samples]);
+            let mut plainly = rows.clone();
+            let archive = calls::quick_bits(buffer, length, trace, &mut rows.0, &mut rows.1);
+            let (row, classes) = (&mut plainly.0, &mut plainly.1);
+            let answer = plain_quick::bits(buffer, length, trace, row, classes);
+            assert_eq!(answer, expected!(met, archive, nothing));
+            assert_eq!(plainly, rows);
+        }
     }
 }
 
 /// Document 02, §5, on files that the check accepts and on others.
 #[test]
-fn quick_values() {
+fn quick_questions() {
     let mut rng = Rng::new(806);
     let mut met = BTreeSet::new();
     for way in WAYS {
@@ -112,11 +174,13 @@ fn quick_values() {
             for key in [&b""[..], b"NOTE", b"STACK", b"~"] {
                 quick_alike(&case.buffer, case.length, key, &mut met);
             }
+            trace_alike(&case.buffer, case.length, &mut met);
         }
     }
     for _ in 0..3_000 {
         let (buffer, length) = mutated(&mut rng);
         quick_alike(&buffer, length, b"NOTE", &mut met);
+        trace_alike(&buffer, length, &mut met);
         let laid = Model::random(&mut rng).lay();
         let mut keys = vec![b"".to_vec(), b"NOTE".to_vec(), b"A B".to_vec()];
         for string in (0..i64::from(laid.file.n)).flat_map(|part| laid.strings(part)) {
@@ -127,8 +191,30 @@ fn quick_values() {
         for key in keys {
             quick_alike(&laid.buffer, laid.length, &key, &mut met);
         }
+        trace_alike(&laid.buffer, laid.length, &mut met);
     }
-    assert_eq!(met, (0..=18).collect());
+    // 21 and 22, which these values do not meet, `locations` does
+    let rows = (0..=18).chain([20, 23, 32, 33]);
+    assert_eq!(met, rows.collect());
+}
+
+/// Locations by themselves, of every kind of text, beside the reference.
+#[test]
+fn locations() {
+    let mut rng = Rng::new(807);
+    let mut met = BTreeSet::new();
+    for _ in 0..60_000 {
+        let text = match rng.one_in(2) {
+            true => location_case(&mut rng).text,
+            false => number_case(&mut rng).text,
+        };
+        let expected = reference::location(&text).map_err(told);
+        let expected = expected.map(|l| by_bits((l.count.into(), [l.x, l.y, l.z], l.decimals)));
+        let answer = plain_number::location(&text).map(by_bits);
+        assert_eq!(answer, expected, "{}", text.escape_ascii());
+        met.insert(answer.map_or_else(|refused| refused.0, |_| 0));
+    }
+    assert_eq!(met, [0, 20, 21, 22, 23].into());
 }
 
 #[test]

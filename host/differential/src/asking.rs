@@ -1,11 +1,13 @@
 //! Every question about a buffer, asked of the archive and of the reference.
 
-use crate::call::Call;
+use crate::answer::Answer;
+use crate::call::{keyword_questions, sample_questions, Call};
+use crate::lent::Rows;
 use crate::pair::{Difference, Pair};
 use seg2_reference as reference;
 use seg2_reference::generate::{quick_key, Rng};
 use seg2_reference::words::u16_at;
-use seg2_reference::{Order, StringPlace};
+use seg2_reference::{is_of_check, Order, StringPlace};
 
 /// Of parts and strings that there are many of, so many are asked for.
 const MOST: usize = 4;
@@ -68,7 +70,30 @@ fn some_of(rng: &mut Rng, count: usize) -> Vec<usize> {
     some
 }
 
-/// Every question about one part that has these strings and so many samples.
+/// A question and its quick form, with the same rows. Where the file keeps the rules, they
+/// answer alike, rows included, of every trace number from 0 on. Answers the question's own.
+pub fn ask_both(pair: &mut Pair, length: usize, call: Call) -> Result<Answer, Difference> {
+    let lent = call.fills().then(|| pair.memory().rows());
+    let full = pair.ask(length, call)?;
+    let Some(quick) = call.quick() else {
+        return Ok(full);
+    };
+    let told = call.fills().then(|| pair.memory().rows());
+    if let Some(rows) = lent {
+        pair.lend_rows(&rows);
+    }
+    let answer = pair.ask(length, quick)?;
+    let rows = call.fills().then(|| pair.memory().rows());
+    // A file that keeps the rules is refused by the question's own rows alone.
+    let kept = !is_of_check(full.number as u8) && call.part() >= Some(0);
+    match kept && (answer, rows) != (full, told) {
+        false => Ok(full),
+        true => Err(pair.differs(length, quick, format!("{answer:?} for {full:?}"))),
+    }
+}
+
+/// Every question about one part of a file that keeps the rules, which has these strings and
+/// so many samples.
 pub fn ask_part(
     pair: &mut Pair,
     length: usize,
@@ -77,12 +102,18 @@ pub fn ask_part(
     samples: usize,
     rng: &mut Rng,
 ) -> Result<(), Difference> {
-    pair.ask(length, Call::TraceBlock { trace: part })?;
-    pair.ask(length, Call::StringCount { part })?;
+    ask_both(pair, length, Call::TraceBlock { trace: part })?;
+    ask_both(pair, length, Call::StringCount { part })?;
     let mut indices = some_of(rng, strings.len());
     indices.extend([strings.len(), strings.len() + 1, usize::MAX]);
     for index in indices {
-        pair.ask(length, Call::String { part, index })?;
+        ask_both(pair, length, Call::String { part, index })?;
+    }
+    let four = 4 * strings.len();
+    let other = rng.pick(&[0, strings.len(), four + 1, four.saturating_sub(1), four + 4]);
+    for row in [four, other] {
+        pair.lend_rows(&Rows::junk(rng, 0, 0, row));
+        ask_both(pair, length, Call::Strings { part })?;
     }
     for key in keys(&pair.memory().buffer, strings, rng) {
         pair.lend_key(&key);
@@ -121,34 +152,67 @@ fn keys(buffer: &[u8], strings: &[StringPlace], rng: &mut Rng) -> Vec<Vec<u8>> {
 
 /// Every question with the keyword that is lent.
 fn ask_key(pair: &mut Pair, length: usize, part: i32) -> Result<(), Difference> {
-    for call in [
-        Call::Keyword { part },
-        Call::Value { part },
-        Call::Number { part },
-        Call::Double { part },
-        Call::Location { part },
-        Call::QuickKeyword { trace: part },
-        Call::QuickValue { trace: part },
-    ] {
-        pair.ask(length, call)?;
+    for call in keyword_questions(part) {
+        ask_both(pair, length, call)?;
     }
     Ok(())
 }
 
-/// The question of one trace (document 02, §5), which may answer where every other refuses:
-/// of traces that the file block tells of and one that it does not, each with some keys.
+/// The questions of one trace (document 02, §5), which may answer where every other refuses:
+/// of traces that the file block tells of and one that it does not.
 fn ask_quick(pair: &mut Pair, length: usize, rng: &mut Rng) -> Result<(), Difference> {
     let count = traces_told(&pair.memory().buffer, length);
     let mut traces: Vec<i32> = some_of(rng, count).iter().map(|&k| k as i32).collect();
     let n = count as i32;
     traces.push(rng.pick(&[-2, -1, -1, n, n + 1, i32::MIN, i32::MAX]));
     for trace in traces {
-        let keywords = keywords_met(&pair.memory().buffer, length, trace);
-        for _ in 0..MOST {
-            pair.lend_key(&quick_key(rng, &keywords));
-            pair.ask(length, Call::QuickKeyword { trace })?;
-            pair.ask(length, Call::QuickValue { trace })?;
-        }
+        ask_quickly(pair, length, trace, rng)?;
+    }
+    Ok(())
+}
+
+/// Each of them of one trace, with some keys, indices and rows.
+fn ask_quickly(
+    pair: &mut Pair,
+    length: usize,
+    trace: i32,
+    rng: &mut Rng,
+) -> Result<(), Difference> {
+    let part = trace;
+    let buffer = &pair.memory().buffer;
+    let keywords = keywords_met(buffer, length, trace);
+    let block = reference::quick_trace_block(buffer, length, trace.into());
+    let samples = block.map_or(3, |block| block.s as usize);
+    for i in 0..MOST {
+        pair.lend_key(&quick_key(rng, &keywords));
+        // The value as a number and so on once: they find it as these two do.
+        let calls = keyword_questions(part);
+        let calls = if i == 0 { &calls[..] } else { &calls[..2] };
+        ask_quick_forms(pair, length, calls)?;
+    }
+    // What is met first, what is met last or refused, and what would be past it.
+    let count = keywords.len();
+    let index = rng.pick(&[0, count.saturating_sub(1), count, count + 1]);
+    let more = rng.pick(&[0, 0, 1, 4]);
+    pair.lend_rows(&Rows::junk(
+        rng,
+        samples + more / 4,
+        samples,
+        4 * count + more,
+    ));
+    let calls = [
+        Call::TraceBlock { trace },
+        Call::StringCount { part },
+        Call::String { part, index },
+        Call::Strings { part },
+    ];
+    ask_quick_forms(pair, length, &calls)?;
+    ask_quick_forms(pair, length, &sample_questions(trace))
+}
+
+fn ask_quick_forms(pair: &mut Pair, length: usize, calls: &[Call]) -> Result<(), Difference> {
+    for quick in calls.iter().filter_map(|call| call.quick()) {
+        pair.ask(length, quick)?;
     }
     Ok(())
 }
@@ -183,7 +247,8 @@ fn keywords_met(buffer: &[u8], length: usize, trace: i32) -> Vec<Vec<u8>> {
     met
 }
 
-/// Rows of the right length, one less, one more and none.
+/// Rows of the right length, one less, one more and none; then one of the two rows is not the
+/// other's length.
 fn ask_samples(
     pair: &mut Pair,
     length: usize,
@@ -193,39 +258,32 @@ fn ask_samples(
 ) -> Result<(), Difference> {
     let less = samples.saturating_sub(1);
     for row in [samples, less, samples + 1, 0] {
-        lend_rows(pair, row, row, rng);
-        pair.ask(length, Call::Integers { trace })?;
-        pair.ask(length, Call::Bits { trace })?;
+        pair.lend_rows(&Rows::junk(rng, row, row, 0));
+        for call in sample_questions(trace) {
+            ask_both(pair, length, call)?;
+        }
     }
-    // One of the two rows is not the other's length.
     for (row, classes) in [(samples, samples + 1), (less, samples)] {
-        lend_rows(pair, row, classes, rng);
-        pair.ask(length, Call::Bits { trace })?;
+        pair.lend_rows(&Rows::junk(rng, row, classes, 0));
+        ask_both(pair, length, Call::Bits { trace })?;
     }
     Ok(())
-}
-
-/// Rows with something in them: a refusal has to leave it.
-pub fn lend_rows(pair: &mut Pair, row: usize, classes: usize, rng: &mut Rng) {
-    let integers: Vec<i32> = (0..row).map(|_| rng.bits() as i32).collect();
-    let patterns: Vec<u64> = (0..row).map(|_| rng.bits()).collect();
-    pair.lend_integers(&integers);
-    pair.lend_patterns(&patterns);
-    pair.lend_classes(&rng.junk(classes));
 }
 
 /// Every question once.
 fn ask_each(pair: &mut Pair, length: usize, rng: &mut Rng) -> Result<(), Difference> {
     let part = rng.pick(&[-2, -1, -1, 0, 0, 1, i32::MIN, i32::MAX]);
     pair.ask(length, Call::FileBlock)?;
-    pair.ask(length, Call::TraceBlock { trace: part })?;
-    pair.ask(length, Call::StringCount { part })?;
-    pair.ask(length, Call::String { part, index: 0 })?;
+    ask_both(pair, length, Call::TraceBlock { trace: part })?;
+    ask_both(pair, length, Call::StringCount { part })?;
+    ask_both(pair, length, Call::String { part, index: 0 })?;
     pair.lend_key(rng.pick(&[&b"STACK"[..], b"NOTE", b"", b"\xFF"]));
     ask_key(pair, length, part)?;
     let count = rng.between(0, 9);
-    lend_rows(pair, count, count, rng);
-    pair.ask(length, Call::Integers { trace: part })?;
-    pair.ask(length, Call::Bits { trace: part })?;
+    pair.lend_rows(&Rows::junk(rng, count, count, count));
+    ask_both(pair, length, Call::Strings { part })?;
+    for call in sample_questions(part) {
+        ask_both(pair, length, call)?;
+    }
     Ok(())
 }

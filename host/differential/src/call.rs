@@ -14,6 +14,7 @@ pub enum Call {
     TraceBlock { trace: i32 },
     StringCount { part: i32 },
     String { part: i32, index: usize },
+    Strings { part: i32 },
     Keyword { part: i32 },
     Value { part: i32 },
     Number { part: i32 },
@@ -21,8 +22,17 @@ pub enum Call {
     Location { part: i32 },
     Integers { trace: i32 },
     Bits { trace: i32 },
+    QuickTraceBlock { trace: i32 },
+    QuickStringCount { trace: i32 },
+    QuickString { trace: i32, index: usize },
+    QuickStrings { trace: i32 },
     QuickKeyword { trace: i32 },
     QuickValue { trace: i32 },
+    QuickNumber { trace: i32 },
+    QuickDouble { trace: i32 },
+    QuickLocation { trace: i32 },
+    QuickIntegers { trace: i32 },
+    QuickBits { trace: i32 },
     ReadNumber,
     WriteNumber(Forged),
     Start { order: u32, slots: u32 },
@@ -49,6 +59,7 @@ impl Call {
             Call::TraceBlock { .. } => "trace_block",
             Call::StringCount { .. } => "string_count",
             Call::String { .. } => "string",
+            Call::Strings { .. } => "strings",
             Call::Keyword { .. } => "keyword",
             Call::Value { .. } => "value",
             Call::Number { .. } => "number",
@@ -56,14 +67,97 @@ impl Call {
             Call::Location { .. } => "location",
             Call::Integers { .. } => "integers",
             Call::Bits { .. } => "bits",
+            Call::QuickTraceBlock { .. } => "quick_trace_block",
+            Call::QuickStringCount { .. } => "quick_string_count",
+            Call::QuickString { .. } => "quick_string",
+            Call::QuickStrings { .. } => "quick_strings",
             Call::QuickKeyword { .. } => "quick_keyword",
             Call::QuickValue { .. } => "quick_value",
+            Call::QuickNumber { .. } => "quick_number",
+            Call::QuickDouble { .. } => "quick_double",
+            Call::QuickLocation { .. } => "quick_location",
+            Call::QuickIntegers { .. } => "quick_integers",
+            Call::QuickBits { .. } => "quick_bits",
             Call::ReadNumber => "read_number",
             Call::WriteNumber(_) => "write_number",
             Call::Start { .. } => "start",
             Call::AddIntegers { .. } => "add_integers",
             Call::AddBits { .. } => "add_bits",
         }
+    }
+}
+
+/// The questions of a part that name a keyword.
+pub fn keyword_questions(part: i32) -> [Call; 5] {
+    [
+        Call::Keyword { part },
+        Call::Value { part },
+        Call::Number { part },
+        Call::Double { part },
+        Call::Location { part },
+    ]
+}
+
+/// The questions of a trace's samples.
+pub fn sample_questions(trace: i32) -> [Call; 2] {
+    [Call::Integers { trace }, Call::Bits { trace }]
+}
+
+impl Call {
+    /// Whether a question of the whole file fills rows.
+    pub fn fills(self) -> bool {
+        matches!(
+            self,
+            Call::Strings { .. } | Call::Integers { .. } | Call::Bits { .. }
+        )
+    }
+
+    /// The part or the trace that a question names.
+    pub fn part(self) -> Option<i32> {
+        match self {
+            Call::TraceBlock { trace: part }
+            | Call::StringCount { part }
+            | Call::String { part, .. }
+            | Call::Strings { part }
+            | Call::Keyword { part }
+            | Call::Value { part }
+            | Call::Number { part }
+            | Call::Double { part }
+            | Call::Location { part }
+            | Call::Integers { trace: part }
+            | Call::Bits { trace: part }
+            | Call::QuickTraceBlock { trace: part }
+            | Call::QuickStringCount { trace: part }
+            | Call::QuickString { trace: part, .. }
+            | Call::QuickStrings { trace: part }
+            | Call::QuickKeyword { trace: part }
+            | Call::QuickValue { trace: part }
+            | Call::QuickNumber { trace: part }
+            | Call::QuickDouble { trace: part }
+            | Call::QuickLocation { trace: part }
+            | Call::QuickIntegers { trace: part }
+            | Call::QuickBits { trace: part } => Some(part),
+            _ => None,
+        }
+    }
+
+    /// The question of one trace (document 02, §5) beside a question of the whole file: every
+    /// question that names a part has one.
+    pub fn quick(self) -> Option<Call> {
+        Some(match self {
+            Call::TraceBlock { trace } => Call::QuickTraceBlock { trace },
+            Call::StringCount { part } => Call::QuickStringCount { trace: part },
+            Call::String { part, index } => Call::QuickString { trace: part, index },
+            Call::Strings { part } => Call::QuickStrings { trace: part },
+            Call::Keyword { part } => Call::QuickKeyword { trace: part },
+            Call::Value { part } => Call::QuickValue { trace: part },
+            Call::Number { part } => Call::QuickNumber { trace: part },
+            Call::Double { part } => Call::QuickDouble { trace: part },
+            Call::Location { part } => Call::QuickLocation { trace: part },
+            Call::Integers { trace } => Call::QuickIntegers { trace },
+            Call::Bits { trace } => Call::QuickBits { trace },
+            _ => return None,
+        })
     }
 }
 
@@ -83,20 +177,29 @@ pub struct Places {
     pub integers: (*mut i32, usize),
     pub patterns: (*mut u64, usize),
     pub classes: (*mut u8, usize),
+    pub strings: (*mut usize, usize),
     pub text: (*mut u8, usize),
 }
 
-impl Library for Archive {
-    fn call(&self, call: Call, length: usize, lent: &mut Lent) -> Answer {
-        let places = Places {
+impl Places {
+    /// Where the pieces stand with a pattern around them.
+    pub fn of(lent: &mut Lent) -> Places {
+        Places {
             buffer: lent.buffer.place(),
             key: lent.key.place(),
             sheet: lent.sheet.place(),
             integers: lent.integers.place(),
             patterns: lent.patterns.place(),
             classes: lent.classes.place(),
+            strings: lent.strings.place(),
             text: lent.text.place(),
-        };
+        }
+    }
+}
+
+impl Library for Archive {
+    fn call(&self, call: Call, length: usize, lent: &mut Lent) -> Answer {
+        let places = Places::of(lent);
         // SAFETY: each piece lives through the call, and no two overlap.
         unsafe { Archive::call_at(call, length, &places, &mut lent.beside_answer) }
     }
@@ -116,6 +219,7 @@ impl Archive {
         let (integers, ints) = places.integers;
         let (patterns, bits) = places.patterns;
         let (classes, count) = places.classes;
+        let (strings, fours) = places.strings;
         let (text, room) = places.text;
         // SAFETY: as the caller promises.
         unsafe {
@@ -133,6 +237,9 @@ impl Archive {
                 Call::String { part, index } => answered(beside, |answer| {
                     raw::seg2_string(answer, buffer, size, length, part, index)
                 }),
+                Call::Strings { part } => {
+                    raw::seg2_strings(buffer, size, length, part, strings, fours).into()
+                }
                 Call::Keyword { part } => answered(beside, |answer| {
                     raw::seg2_keyword(answer, buffer, size, length, part, key, letters)
                 }),
@@ -155,12 +262,40 @@ impl Archive {
                     raw::seg2_bits(buffer, size, length, trace, patterns, bits, classes, count)
                         .into()
                 }
+                Call::QuickTraceBlock { trace } => answered(beside, |answer| {
+                    raw::seg2_quick_trace_block(answer, buffer, size, length, trace)
+                }),
+                Call::QuickStringCount { trace } => answered(beside, |answer| {
+                    raw::seg2_quick_string_count(answer, buffer, size, length, trace)
+                }),
+                Call::QuickString { trace, index } => answered(beside, |answer| {
+                    raw::seg2_quick_string(answer, buffer, size, length, trace, index)
+                }),
+                Call::QuickStrings { trace } => {
+                    raw::seg2_quick_strings(buffer, size, length, trace, strings, fours).into()
+                }
                 Call::QuickKeyword { trace } => answered(beside, |answer| {
                     raw::seg2_quick_keyword(answer, buffer, size, length, trace, key, letters)
                 }),
                 Call::QuickValue { trace } => answered(beside, |answer| {
                     raw::seg2_quick_value(answer, buffer, size, length, trace, key, letters)
                 }),
+                Call::QuickNumber { trace } => answered(beside, |answer| {
+                    raw::seg2_quick_number(answer, buffer, size, length, trace, key, letters)
+                }),
+                Call::QuickDouble { trace } => answered(beside, |answer| {
+                    raw::seg2_quick_double(answer, buffer, size, length, trace, key, letters)
+                }),
+                Call::QuickLocation { trace } => answered(beside, |answer| {
+                    raw::seg2_quick_location(answer, buffer, size, length, trace, key, letters)
+                }),
+                Call::QuickIntegers { trace } => {
+                    raw::seg2_quick_integers(buffer, size, length, trace, integers, ints).into()
+                }
+                Call::QuickBits { trace } => raw::seg2_quick_bits(
+                    buffer, size, length, trace, patterns, bits, classes, count,
+                )
+                .into(),
                 Call::ReadNumber => {
                     answered(beside, |answer| raw::seg2_read_number(answer, text, room))
                 }

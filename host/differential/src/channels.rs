@@ -208,6 +208,7 @@ impl Rule {
         memory.integers = other.integers;
         memory.patterns = other.patterns;
         memory.classes = other.classes;
+        memory.strings = other.strings;
         answer
     }
 
@@ -225,34 +226,16 @@ impl Rule {
 
 impl Library for Rule {
     fn call(&self, call: Call, length: usize, lent: &mut Lent) -> Answer {
-        let mut memory = Memory {
-            buffer: lent.buffer.contents().to_vec(),
-            key: lent.key.contents().to_vec(),
-            sheet: lent.sheet.contents().to_vec(),
-            integers: lent.integers.contents().to_vec(),
-            patterns: lent.patterns.contents().to_vec(),
-            classes: lent.classes.contents().to_vec(),
-            text: lent.text.contents().to_vec(),
-        };
+        let mut memory = lent.contents();
         let answer = match call {
             Call::AddIntegers { .. } | Call::AddBits { .. } => self.add(call, length, &mut memory),
             Call::Start { .. } => self.start(call, &mut memory),
             Call::ReadNumber | Call::WriteNumber(_) => expected(call, length, &mut memory),
             // It reads one trace: no channel number stands beside another (document 02, §5).
-            Call::QuickKeyword { .. } | Call::QuickValue { .. } => {
-                expected(call, length, &mut memory)
-            }
+            quick if quick.name().starts_with("quick") => expected(call, length, &mut memory),
             _ => self.ask(call, length, &mut memory),
         };
-        lent.buffer.contents_mut().copy_from_slice(&memory.buffer);
-        lent.integers
-            .contents_mut()
-            .copy_from_slice(&memory.integers);
-        lent.patterns
-            .contents_mut()
-            .copy_from_slice(&memory.patterns);
-        lent.classes.contents_mut().copy_from_slice(&memory.classes);
-        lent.text.contents_mut().copy_from_slice(&memory.text);
+        lent.hold(&memory);
         answer
     }
 }

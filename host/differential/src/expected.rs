@@ -16,6 +16,7 @@ pub fn expected(call: Call, length: usize, memory: &mut Memory) -> Answer {
         integers,
         patterns,
         classes,
+        strings,
         text,
     } = memory;
     match call {
@@ -25,53 +26,86 @@ pub fn expected(call: Call, length: usize, memory: &mut Memory) -> Answer {
             reference::trace_block(buffer, length, trace.into()),
             trace_block,
         ),
-        Call::StringCount { part } => told(
-            reference::string_count(buffer, length, part.into()),
-            |count| Answer::good([count as u64]),
-        ),
+        Call::StringCount { part } => {
+            told(reference::string_count(buffer, length, part.into()), count)
+        }
         Call::String { part, index } => told(
             reference::string(buffer, length, part.into(), index),
             string,
         ),
+        Call::Strings { part } => told(
+            reference::all_strings(buffer, length, part.into(), strings),
+            nothing,
+        ),
         Call::Keyword { part } => told(
             reference::keyword(buffer, length, part.into(), key),
-            |found| Answer::good([u64::from(found)]),
+            yes_or_no,
         ),
-        Call::Value { part } => {
-            // The value's own call answers a range for a refusal too: the refusal is the
-            // yes-or-no call's.
-            let value = reference::keyword_value(buffer, length, part.into(), key);
-            let asked = reference::keyword(buffer, length, part.into(), key);
-            told(asked, |_| place(value))
-        }
+        Call::Value { part } => told(
+            reference::keyword_string(buffer, length, part.into(), key),
+            value,
+        ),
         Call::Number { part } => of_value(buffer, length, part, key, |text| {
             told(reference::number(text), number)
         }),
         Call::Double { part } => of_value(buffer, length, part, key, |text| {
-            told(reference::double(text), |value| {
-                Answer::good([value.to_bits()])
-            })
+            told(reference::double(text), double)
         }),
         Call::Location { part } => of_value(buffer, length, part, key, |text| {
             told(reference::location(text), location)
         }),
         Call::Integers { trace } => told(
             reference::samples_as_integers(buffer, length, trace.into(), integers),
-            |()| Answer::good([]),
+            nothing,
         ),
         Call::Bits { trace } => told(
             reference::samples_as_bits(buffer, length, trace.into(), patterns, classes),
-            |()| Answer::good([]),
+            nothing,
+        ),
+        Call::QuickTraceBlock { trace } => told(
+            reference::quick_trace_block(buffer, length, trace.into()),
+            trace_block,
+        ),
+        Call::QuickStringCount { trace } => told(
+            reference::quick_string_count(buffer, length, trace.into()),
+            count,
+        ),
+        Call::QuickString { trace, index } => told(
+            reference::quick_string(buffer, length, trace.into(), index),
+            string,
+        ),
+        Call::QuickStrings { trace } => told(
+            reference::quick_strings(buffer, length, trace.into(), strings),
+            nothing,
         ),
         Call::QuickKeyword { trace } => told(
             reference::quick_keyword(buffer, length, trace.into(), key),
-            |found| Answer::good([u64::from(found)]),
+            yes_or_no,
         ),
-        Call::QuickValue { trace } => {
-            let value = reference::quick_value(buffer, length, trace.into(), key);
-            let asked = reference::quick_keyword(buffer, length, trace.into(), key);
-            told(asked, |_| place(value))
-        }
+        Call::QuickValue { trace } => told(
+            reference::quick_search(buffer, length, trace.into(), key).answer,
+            value,
+        ),
+        Call::QuickNumber { trace } => told(
+            reference::quick_number(buffer, length, trace.into(), key),
+            number,
+        ),
+        Call::QuickDouble { trace } => told(
+            reference::quick_double(buffer, length, trace.into(), key),
+            double,
+        ),
+        Call::QuickLocation { trace } => told(
+            reference::quick_location(buffer, length, trace.into(), key),
+            location,
+        ),
+        Call::QuickIntegers { trace } => told(
+            reference::quick_integers(buffer, length, trace.into(), integers),
+            nothing,
+        ),
+        Call::QuickBits { trace } => told(
+            reference::quick_bits(buffer, length, trace.into(), patterns, classes),
+            nothing,
+        ),
         Call::ReadNumber => told(reference::number(text), number),
         Call::WriteNumber(given) => told(reference::write_number(text, given.number()), new_length),
         Call::Start { order, slots } => told(
@@ -100,6 +134,19 @@ pub(crate) fn told<T>(answer: Result<T, Refusal>, good: impl FnOnce(T) -> Answer
     }
 }
 
+/// What is answered stands in lent rows.
+pub(crate) fn nothing(_: ()) -> Answer {
+    Answer::good([])
+}
+
+pub(crate) fn count(count: usize) -> Answer {
+    Answer::good([count as u64])
+}
+
+pub(crate) fn yes_or_no(found: bool) -> Answer {
+    Answer::good([u64::from(found)])
+}
+
 fn file_block(block: reference::FileBlock) -> Answer {
     Answer::good([
         u64::from(block.order == Order::High),
@@ -110,7 +157,7 @@ fn file_block(block: reference::FileBlock) -> Answer {
     ])
 }
 
-fn trace_block(trace: reference::Trace) -> Answer {
+pub(crate) fn trace_block(trace: reference::Trace) -> Answer {
     Answer::good([
         u64::from(trace.p),
         u64::from(trace.b),
@@ -120,17 +167,21 @@ fn trace_block(trace: reference::Trace) -> Answer {
     ])
 }
 
-fn string(string: Option<StringPlace>) -> Answer {
-    let Some(StringPlace { keyword, value }) = string else {
+pub(crate) fn string(string: Option<StringPlace>) -> Answer {
+    let Some(string) = string else {
         return Answer::good([]);
     };
-    Answer::good([
-        1,
-        keyword.start as u64,
-        keyword.len() as u64,
-        value.start as u64,
-        value.len() as u64,
-    ])
+    let [key, key_size, value, size] = string.numbers().map(|n| n as u64);
+    Answer::good([1, key, key_size, value, size])
+}
+
+/// The value of a found string; for a no the empty part at the buffer's start.
+fn value_range(found: Option<StringPlace>) -> Range<usize> {
+    found.map_or(0..0, |string| string.value)
+}
+
+fn value(found: Option<StringPlace>) -> Answer {
+    place(value_range(found))
 }
 
 /// A value's start and length.
@@ -148,7 +199,11 @@ pub fn number(number: Number) -> Answer {
     ])
 }
 
-fn location(location: Location) -> Answer {
+pub(crate) fn double(value: f64) -> Answer {
+    Answer::good([value.to_bits()])
+}
+
+pub(crate) fn location(location: Location) -> Answer {
     let [x, y, z] = [location.x, location.y, location.z].map(f64::to_bits);
     let [of_x, of_y, of_z] = location.decimals.map(u64::from);
     Answer::good([u64::from(location.count), x, y, z, of_x, of_y, of_z])
@@ -188,9 +243,8 @@ fn of_value(
     key: &[u8],
     answer: impl FnOnce(&[u8]) -> Answer,
 ) -> Answer {
-    let asked = reference::keyword(buffer, length, part.into(), key);
-    let value = reference::keyword_value(buffer, length, part.into(), key);
-    told(asked, |_| answer(&buffer[value]))
+    let found = reference::keyword_string(buffer, length, part.into(), key);
+    told(found, |found| answer(&buffer[value_range(found)]))
 }
 
 /// The reference takes codes of 8 bits: a wider one is as little a code as 255 is.

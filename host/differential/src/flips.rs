@@ -1,22 +1,20 @@
 //! The bytes that a question of one trace looks at (document 02, §5), tried out: a byte
-//! beside them changes no answer, whatever it becomes.
+//! beside them changes no answer and no lent row, whatever it becomes.
 
-use crate::answer::Answer;
-use crate::call::{Call, Library};
+use crate::call::Library;
 use crate::pair::{Difference, Pair};
+use crate::questions::{Question, Told};
 use seg2_reference::generate::Rng;
-use seg2_reference::quick_search;
 
 /// What each byte is changed by, one after the other.
 const MASKS: [u8; 2] = [0xFF, 0x01];
 
-/// A question of one trace.
+/// Questions of one trace of a file.
 #[derive(Clone, Copy, Debug)]
-pub struct Question<'a> {
+pub struct Trial<'a> {
     pub buffer: &'a [u8],
     pub length: usize,
-    pub trace: i32,
-    pub key: &'a [u8],
+    pub questions: &'a [Question],
 }
 
 /// How many bytes were changed.
@@ -33,7 +31,7 @@ pub struct Flips {
 }
 
 impl Flips {
-    pub fn add(&mut self, other: Flips) {
+    pub fn add(&mut self, other: &Flips) {
         self.beside += other.beside;
         self.behind += other.behind;
         self.read += other.read;
@@ -41,96 +39,105 @@ impl Flips {
     }
 }
 
-impl Question<'_> {
+/// A question with its answer on the file as it is.
+struct Asked<'a> {
+    question: &'a Question,
     /// For each byte of the buffer, whether the question looks at it.
-    fn looks_at(&self) -> Vec<bool> {
-        let trace = self.trace.into();
-        let search = quick_search(self.buffer, self.length, trace, self.key);
-        let mut looks_at = vec![false; self.buffer.len()];
-        for part in search.read {
-            looks_at[part].fill(true);
-        }
-        looks_at
-    }
+    looks_at: Vec<bool>,
+    told: Told,
+}
 
-    fn pair<'a>(&self, library: &'a dyn Library) -> Pair<'a> {
-        let mut pair = Pair::new(library, self.length as u64, self.buffer);
-        pair.lend_key(self.key);
-        pair
-    }
-
-    /// Both calls, on both sides.
-    fn ask(&self, pair: &mut Pair) -> Result<[Answer; 2], Difference> {
-        let trace = self.trace;
-        Ok([
-            pair.ask(self.length, Call::QuickKeyword { trace })?,
-            pair.ask(self.length, Call::QuickValue { trace })?,
-        ])
-    }
-
-    /// Both calls have to answer as before.
-    fn ask_again(
-        &self,
-        pair: &mut Pair,
-        told: [Answer; 2],
-        changed: &str,
-    ) -> Result<(), Difference> {
-        let answers = self.ask(pair)?;
-        if answers == told {
+impl Asked<'_> {
+    /// It has to answer as before.
+    fn ask_again(&self, pair: &mut Pair, length: usize, changed: &str) -> Result<(), Difference> {
+        let told = self.question.ask(pair, length)?;
+        if told == self.told {
             return Ok(());
         }
-        let trace = self.trace;
-        let what = format!("{answers:?} for {told:?}, {changed}");
-        Err(pair.differs(self.length, Call::QuickValue { trace }, what))
+        let what = format!("{told:?} for {:?}, {changed}", self.told);
+        Err(pair.differs(length, self.question.quick(), what))
+    }
+}
+
+impl<'a> Trial<'a> {
+    /// Each question on the file as it is.
+    fn asked(&self, pair: &mut Pair) -> Result<Vec<Asked<'a>>, Difference> {
+        let ask = |question: &'a Question| {
+            let mut looks_at = vec![false; self.buffer.len()];
+            for part in question.read(self.buffer, self.length) {
+                looks_at[part].fill(true);
+            }
+            Ok(Asked {
+                question,
+                looks_at,
+                told: question.ask(pair, self.length)?,
+            })
+        };
+        self.questions.iter().map(ask).collect()
+    }
+
+    fn pair<'b>(&self, library: &'b dyn Library) -> Pair<'b> {
+        Pair::new(library, self.length as u64, self.buffer)
     }
 
     /// Each byte of the buffer changed, one at a time: beside what is read no answer
-    /// changes, and of what is read archive and reference go on alike.
-    pub fn each_byte(&self, library: &dyn Library) -> Result<Flips, Difference> {
-        let looks_at = self.looks_at();
+    /// changes, and of what is read archive and reference go on alike. Answers the bytes
+    /// changed for each question.
+    pub fn each_byte(&self, library: &dyn Library) -> Result<Vec<Flips>, Difference> {
         let mut pair = self.pair(library);
-        let told = self.ask(&mut pair)?;
-        let mut flips = Flips::default();
+        let asked = self.asked(&mut pair)?;
+        let mut flips = vec![Flips::default(); asked.len()];
         let mut bytes = self.buffer.to_vec();
         for at in 0..bytes.len() {
             for mask in MASKS {
                 bytes[at] ^= mask;
                 pair.lend_buffer(&bytes);
                 bytes[at] ^= mask;
-                if looks_at[at] {
-                    flips.read += 1;
-                    flips.telling += u64::from(self.ask(&mut pair)? != told);
-                    continue;
-                }
-                self.ask_again(&mut pair, told, &format!("byte {at} changed"))?;
-                match at < self.length {
-                    true => flips.beside += 1,
-                    false => flips.behind += 1,
+                for (asked, flips) in asked.iter().zip(&mut flips) {
+                    if asked.looks_at[at] {
+                        let told = asked.question.ask(&mut pair, self.length)?;
+                        flips.read += 1;
+                        flips.telling += u64::from(told != asked.told);
+                        continue;
+                    }
+                    asked.ask_again(&mut pair, self.length, &format!("byte {at} changed"))?;
+                    match at < self.length {
+                        true => flips.beside += 1,
+                        false => flips.behind += 1,
+                    }
                 }
             }
         }
         Ok(flips)
     }
 
-    /// All bytes beside what is read changed at once: each by a mask, and to junk. Answers
-    /// how many there are.
-    pub fn all_bytes(&self, library: &dyn Library, rng: &mut Rng) -> Result<usize, Difference> {
-        let looks_at = self.looks_at();
+    /// All bytes beside what a question reads changed at once: each by a mask, and to junk.
+    /// Answers how many there are, for each question.
+    pub fn all_bytes(
+        &self,
+        library: &dyn Library,
+        rng: &mut Rng,
+    ) -> Result<Vec<usize>, Difference> {
         let mut pair = self.pair(library);
-        let told = self.ask(&mut pair)?;
+        let asked = self.asked(&mut pair)?;
         let masks = MASKS.map(|mask| vec![mask; self.buffer.len()]);
         let junk: Vec<u8> = self.buffer.iter().map(|_| rng.byte()).collect();
-        for masks in masks.into_iter().chain([junk]) {
-            let beside = masks.iter().zip(&looks_at);
-            let changed = beside
-                .zip(self.buffer)
-                .map(|((mask, read), byte)| match read {
-                    true => *byte,
-                    false => byte ^ mask,
-                });
-            pair.lend_buffer(&changed.collect::<Vec<u8>>());
-            self.ask_again(&mut pair, told, "all other bytes changed")?;
+        let masks: Vec<Vec<u8>> = masks.into_iter().chain([junk]).collect();
+        let mut counts = Vec::new();
+        for asked in &asked {
+            for masks in &masks {
+                let beside = masks.iter().zip(&asked.looks_at);
+                let changed = beside
+                    .zip(self.buffer)
+                    .map(|((mask, read), byte)| match read {
+                        true => *byte,
+                        false => byte ^ mask,
+                    });
+                pair.lend_buffer(&changed.collect::<Vec<u8>>());
+                asked.ask_again(&mut pair, self.length, "all other bytes changed")?;
+            }
+            counts.push(asked.looks_at.iter().filter(|read| !**read).count());
         }
-        Ok(looks_at.iter().filter(|read| !**read).count())
+        Ok(counts)
     }
 }

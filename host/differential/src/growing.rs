@@ -4,9 +4,10 @@
 //! defines; after each addition every earlier string and sample is read back.
 
 use crate::answer::Answer;
-use crate::asking::lend_rows;
+use crate::asking::ask_both;
 use crate::call::Call;
 use crate::case::{Base, Given, Start};
+use crate::lent::Rows;
 use crate::pair::{Difference, Pair};
 use seg2_reference as reference;
 use seg2_reference::generate::Rng;
@@ -208,14 +209,14 @@ fn read_samples(
     count: usize,
     rng: &mut Rng,
 ) -> Result<Row, Difference> {
-    lend_rows(pair, count, count, rng);
+    pair.lend_rows(&Rows::junk(rng, count, count, 0));
     Ok(match code {
         1..=3 => {
-            pair.ask(length, Call::Integers { trace })?;
+            ask_both(pair, length, Call::Integers { trace })?;
             Row::Integers(pair.memory().integers.clone())
         }
         _ => {
-            pair.ask(length, Call::Bits { trace })?;
+            ask_both(pair, length, Call::Bits { trace })?;
             Row::Bits(pair.memory().patterns.clone())
         }
     })
@@ -241,13 +242,14 @@ fn read_back(
             let what = format!("{count:?} for {} strings", expected.strings.len());
             return Err(pair.differs(length, call, what));
         }
-        let mut places: Vec<[u64; 2]> = Vec::new();
+        let mut places: Vec<[usize; 4]> = Vec::new();
         for (index, (key, value)) in expected.strings.iter().enumerate() {
             // "A keyword question answers the first" (document 02, §1)
             let first = expected.strings.iter().position(|(k, _)| k == key);
             let first = first.and_then(|i| places.get(i)).copied();
             places.push(read_string(pair, length, part, index, (key, value), first)?);
         }
+        read_row(pair, length, part, &places.concat(), rng)?;
         let Some(samples) = &expected.samples else {
             continue;
         };
@@ -263,31 +265,51 @@ fn read_back(
     Ok(())
 }
 
+/// All strings in one row, as they are by their indices.
+fn read_row(
+    pair: &mut Pair,
+    length: usize,
+    part: i32,
+    row: &[usize],
+    rng: &mut Rng,
+) -> Result<(), Difference> {
+    pair.lend_rows(&Rows::junk(rng, 0, 0, row.len()));
+    let call = Call::Strings { part };
+    match part {
+        -1 => pair.ask(length, call)?,
+        _ => ask_both(pair, length, call)?,
+    };
+    match pair.memory().strings == row {
+        true => Ok(()),
+        false => Err(pair.differs(length, call, format!("another row than {row:?}"))),
+    }
+}
+
 /// A string by its index, and the value of its keyword, which is its own where no string
-/// before it has the keyword. Answers where its value stands.
+/// before it has the keyword. Answers where its keyword and its value stand.
 fn read_string(
     pair: &mut Pair,
     length: usize,
     part: i32,
     index: usize,
     (key, value): (&[u8], &[u8]),
-    first: Option<[u64; 2]>,
-) -> Result<[u64; 2], Difference> {
+    first: Option<[usize; 4]>,
+) -> Result<[usize; 4], Difference> {
     let call = Call::String { part, index };
-    let values = pair.ask(length, call)?.values.map(|v| v as usize);
+    let values = ask_both(pair, length, call)?.values.map(|v| v as usize);
     let [found, at, letters, start, size, ..] = values;
+    let own = [at, letters, start, size];
     pair.lend_key(key);
-    let same = pair.ask(length, Call::Value { part })?;
     // The file keeps the rules, so one trace alone says the same (document 02, §5).
-    let quick = pair.ask(length, Call::QuickValue { trace: part })?;
+    let same = ask_both(pair, length, Call::Value { part })?;
+    let [_, _, first, first_size] = first.unwrap_or(own);
     let buffer = &pair.memory().buffer;
     let right = found == 1
         && &buffer[at..at + letters] == key
         && &buffer[start..start + size] == value
-        && same == Answer::good(first.unwrap_or([start as u64, size as u64]))
-        && (part < 0 || quick == same);
+        && same == Answer::good([first as u64, first_size as u64]);
     match right {
-        true => Ok([start as u64, size as u64]),
+        true => Ok(own),
         false => Err(pair.differs(length, call, "another string than was given".into())),
     }
 }

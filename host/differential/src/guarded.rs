@@ -7,7 +7,7 @@
 use crate::answer::Answer;
 use crate::call::{Archive, Call, Library, Places};
 use crate::lent::{Frame, Lent, Pattern};
-use seg2_reference::quick_search;
+use crate::questions::{Question, Told};
 use std::cell::Cell;
 use std::ffi::c_void;
 use std::ops::Range;
@@ -76,7 +76,7 @@ impl Drop for Pages {
 
 /// The archive with each lent piece at an end of its own pages.
 pub struct Guarded {
-    pages: [Pages; 7],
+    pages: [Pages; 8],
     at_end: bool,
 }
 
@@ -127,6 +127,7 @@ impl Library for Guarded {
             patterns: self.lend(4, &lent.patterns),
             classes: self.lend(5, &lent.classes),
             text: self.lend(6, &lent.text),
+            strings: self.lend(7, &lent.strings),
         };
         // SAFETY: each piece has its own pages.
         let answer = unsafe { Archive::call_at(call, length, &places, &mut lent.beside_answer) };
@@ -137,6 +138,7 @@ impl Library for Guarded {
         take_back(places.patterns, &mut lent.patterns);
         take_back(places.classes, &mut lent.classes);
         take_back(places.text, &mut lent.text);
+        take_back(places.strings, &mut lent.strings);
         answer
     }
 }
@@ -162,25 +164,37 @@ impl Sparse {
         self.closed.get()
     }
 
-    /// A call on an image that fills the buffer, with this key: what the question of this
-    /// trace looks at stands on open pages.
-    pub fn call(&self, call: Call, image: &[u8], trace: i32, key: &[u8]) -> Answer {
+    /// A question of one trace of an image that fills the buffer: what it looks at stands on
+    /// open pages.
+    pub fn ask(&self, question: &Question, image: &[u8]) -> Told {
+        let read = question.read(image, image.len());
+        self.call(question.quick(), question, image, &read)
+    }
+
+    /// A call with what a question is lent, where only the pages with these bytes are open.
+    pub fn call(
+        &self,
+        call: Call,
+        question: &Question,
+        image: &[u8],
+        open: &[Range<usize>],
+    ) -> Told {
         let mut lent = Lent::new(0);
-        lent.key.lend(key);
+        lent.key.lend(&question.key);
+        lent.integers.lend(&question.rows.integers);
+        lent.patterns.lend(&question.rows.patterns);
+        lent.classes.lend(&question.rows.classes);
+        lent.strings.lend(&question.rows.strings);
         let places = Places {
             buffer: (self.lay(image), image.len()),
-            key: lent.key.place(),
-            sheet: lent.sheet.place(),
-            integers: lent.integers.place(),
-            patterns: lent.patterns.place(),
-            classes: lent.classes.place(),
-            text: lent.text.place(),
+            ..Places::of(&mut lent)
         };
-        let search = quick_search(image, image.len(), trace.into(), key);
-        self.close(image.len(), &search.read);
+        self.close(image.len(), open);
         // SAFETY: each piece has its own place. Bytes of the buffer without rights are not
         // to be touched, which is what is tried: the machine does not give them out.
-        unsafe { Archive::call_at(call, image.len(), &places, &mut lent.beside_answer) }
+        let answer =
+            unsafe { Archive::call_at(call, image.len(), &places, &mut lent.beside_answer) };
+        (answer, lent.contents().rows())
     }
 
     /// The image at the start of open pages.

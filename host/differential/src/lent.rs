@@ -1,6 +1,7 @@
 //! Lent memory inside larger pieces, so that a byte written before or behind what
 //! was lent is seen.
 
+use seg2_reference::generate::Rng;
 use std::ops::Range;
 
 /// Elements before and behind what is lent; bytes get up to 15 more in front, so that
@@ -37,6 +38,13 @@ impl Pattern for u64 {
         (index as u64)
             .wrapping_mul(0x9E37_79B9_7F4A_7C15)
             .wrapping_sub(seed)
+    }
+}
+
+impl Pattern for usize {
+    const ANYWHERE: bool = false;
+    fn at(index: usize, seed: u64) -> usize {
+        u64::at(index, seed) as usize
     }
 }
 
@@ -130,8 +138,43 @@ pub struct Memory {
     pub integers: Vec<i32>,
     pub patterns: Vec<u64>,
     pub classes: Vec<u8>,
+    /// Where strings stand, four numbers each.
+    pub strings: Vec<usize>,
     /// What a number is read from, or written to.
     pub text: Vec<u8>,
+}
+
+/// The rows that questions fill.
+#[derive(Clone, Debug, Default, PartialEq, Eq)]
+pub struct Rows {
+    pub integers: Vec<i32>,
+    pub patterns: Vec<u64>,
+    pub classes: Vec<u8>,
+    pub strings: Vec<usize>,
+}
+
+impl Rows {
+    /// Rows for so many samples, classes and numbers of strings, with something in them: a
+    /// refusal has to leave it.
+    pub fn junk(rng: &mut Rng, samples: usize, classes: usize, strings: usize) -> Rows {
+        Rows {
+            integers: (0..samples).map(|_| rng.bits() as i32).collect(),
+            patterns: (0..samples).map(|_| rng.bits()).collect(),
+            classes: rng.junk(classes),
+            strings: (0..strings).map(|_| rng.bits() as usize).collect(),
+        }
+    }
+}
+
+impl Memory {
+    pub fn rows(&self) -> Rows {
+        Rows {
+            integers: self.integers.clone(),
+            patterns: self.patterns.clone(),
+            classes: self.classes.clone(),
+            strings: self.strings.clone(),
+        }
+    }
 }
 
 /// The same, each piece inside a larger one.
@@ -143,6 +186,7 @@ pub struct Lent {
     pub integers: Frame<i32>,
     pub patterns: Frame<u64>,
     pub classes: Frame<u8>,
+    pub strings: Frame<usize>,
     pub text: Frame<u8>,
     /// Something was written beside an answer's place.
     pub beside_answer: bool,
@@ -158,8 +202,37 @@ impl Lent {
             patterns: Frame::new(seed >> 32, &[]),
             classes: Frame::new(seed >> 40, &[]),
             text: Frame::new(seed >> 48, &[]),
+            strings: Frame::new(seed >> 56, &[]),
             beside_answer: false,
         }
+    }
+
+    /// What is lent, without what stands around it.
+    pub fn contents(&self) -> Memory {
+        Memory {
+            buffer: self.buffer.contents().to_vec(),
+            key: self.key.contents().to_vec(),
+            sheet: self.sheet.contents().to_vec(),
+            integers: self.integers.contents().to_vec(),
+            patterns: self.patterns.contents().to_vec(),
+            classes: self.classes.contents().to_vec(),
+            strings: self.strings.contents().to_vec(),
+            text: self.text.contents().to_vec(),
+        }
+    }
+
+    /// What is lent becomes this: as many elements in each piece as there are.
+    pub fn hold(&mut self, memory: &Memory) {
+        self.buffer.contents_mut().copy_from_slice(&memory.buffer);
+        self.key.contents_mut().copy_from_slice(&memory.key);
+        self.sheet.contents_mut().copy_from_slice(&memory.sheet);
+        let integers = self.integers.contents_mut();
+        integers.copy_from_slice(&memory.integers);
+        let patterns = self.patterns.contents_mut();
+        patterns.copy_from_slice(&memory.patterns);
+        self.classes.contents_mut().copy_from_slice(&memory.classes);
+        self.strings.contents_mut().copy_from_slice(&memory.strings);
+        self.text.contents_mut().copy_from_slice(&memory.text);
     }
 
     /// The first piece whose contents are not these, or around which something was
@@ -175,6 +248,7 @@ impl Lent {
             .or_else(|| self.integers.fault("row of integers", &expected.integers))
             .or_else(|| self.patterns.fault("row of bits", &expected.patterns))
             .or_else(|| self.classes.fault("row of classes", &expected.classes))
+            .or_else(|| self.strings.fault("row of strings", &expected.strings))
             .or_else(|| self.text.fault("text of a number", &expected.text))
     }
 }

@@ -17,6 +17,7 @@
 //! - [`run`]: many cases from a seed.
 //! - [`shrink`]: a smaller case with a difference.
 //! - `guarded`: lent memory beside pages that cannot be touched (Linux).
+//! - [`questions`]: the questions of one trace as one table.
 //! - [`flips`]: bytes changed that a question of one trace does not look at.
 //! - [`spoiled`], [`channels`], [`quick`]: libraries with one fault, which the comparison
 //!   has to notice.
@@ -35,6 +36,7 @@ pub mod guarded;
 pub mod lent;
 pub mod numbering;
 pub mod pair;
+pub mod questions;
 pub mod quick;
 pub mod run;
 pub mod shrink;

@@ -3,7 +3,7 @@
 use crate::answer::Answer;
 use crate::call::{Call, Library};
 use crate::expected::expected;
-use crate::lent::{Lent, Memory};
+use crate::lent::{Lent, Memory, Rows};
 use seg2_reference::ALL;
 use std::fmt;
 
@@ -114,6 +114,19 @@ impl<'a> Pair<'a> {
     pub fn lend_classes(&mut self, row: &[u8]) {
         self.memory.classes = row.to_vec();
         self.lent.classes.lend(row);
+    }
+
+    pub fn lend_strings(&mut self, row: &[usize]) {
+        self.memory.strings = row.to_vec();
+        self.lent.strings.lend(row);
+    }
+
+    /// Every row that a question fills.
+    pub fn lend_rows(&mut self, rows: &Rows) {
+        self.lend_integers(&rows.integers);
+        self.lend_patterns(&rows.patterns);
+        self.lend_classes(&rows.classes);
+        self.lend_strings(&rows.strings);
     }
 
     pub fn lend_text(&mut self, text: &[u8]) {

@@ -21,6 +21,7 @@ pub enum Fault {
     Integers(At),
     Patterns(At),
     Classes(At),
+    Strings(At),
     Text(At),
     /// Nothing is written and the answer given all the same.
     Nothing,
@@ -60,6 +61,7 @@ impl Library for Spoiled {
             Fault::Integers(at) => change(&mut lent.integers, at, |value| value ^ 1),
             Fault::Patterns(at) => change(&mut lent.patterns, at, |value| value ^ (1 << 63)),
             Fault::Classes(at) => change(&mut lent.classes, at, |class| class ^ 1),
+            Fault::Strings(at) => change(&mut lent.strings, at, |value| value ^ 1),
             Fault::Text(at) => change(&mut lent.text, at, |byte| byte ^ 1),
             Fault::Nothing => *lent = before,
         }

@@ -5,8 +5,9 @@
 
 use seg2_differential::draw::{rng_of, KINDS};
 use seg2_differential::guarded::{Guarded, Sparse};
+use seg2_differential::questions::{questions, Question};
 use seg2_differential::{Archive, Call, Pair};
-use seg2_reference::generate::{plain_file, PlainTrace};
+use seg2_reference::generate::{plain_file, PlainTrace, Rng};
 use seg2_reference::Order;
 use std::os::unix::process::ExitStatusExt;
 use std::process::{Command, ExitStatus, Stdio};
@@ -61,51 +62,103 @@ fn once_more(test: &str, name: &str, word: &str) -> ExitStatus {
         .expect("a run")
 }
 
-/// A file whose traces have data of more than two of the guarded pages each.
+/// A file whose traces have data of more than two of the guarded pages each, integers and bits
+/// by turns, and strings that reach from one page to the next.
 fn wide_file() -> Vec<u8> {
-    let trace = PlainTrace {
-        strings: &[b"DELAY 0", b"STACK 10", b"NOTE x"],
-        code: 1,
-        count: 100_000,
+    let long = [&b"LINE_ID "[..], &[b'x'; 60_000]].concat();
+    let strings = [&b"DELAY 0"[..], &long, b"STACK 10", b"NOTE x"];
+    let trace = |code: u8| PlainTrace {
+        strings: &strings,
+        code,
+        count: SAMPLES as u32,
         data: &[0x5A; 200_000],
     };
-    plain_file(Order::Low, &[b"CLIENT x"], &[trace; 6])
+    plain_file(Order::Low, &[b"CLIENT x"], &[1, 4, 2, 4, 1, 2].map(trace))
 }
 
-/// Document 02, §5: the question of one trace leaves the pages of all others alone, and
-/// says what the full question does.
+const SAMPLES: usize = 50_000;
+
+/// Every question of a trace of it.
+fn wide_questions(trace: i32) -> Vec<Question> {
+    let keys: [&[u8]; 6] = [b"DELAY", b"STACK", b"NOTE", b"", b"UNITS", b"A"];
+    questions(&mut Rng::new(952), trace, &keys, 4, SAMPLES)
+}
+
+/// Document 02, §5: a question of one trace leaves the pages of all others alone, and those of
+/// its own trace that it does not look at, and says what the full question does.
 #[test]
 fn one_trace_touches_no_other() {
     let bytes = wide_file();
     let sparse = Sparse::new(bytes.len());
+    let mut pair = Pair::new(&Archive, 951, &bytes);
+    let mut asked = 0;
     for trace in 0..6 {
-        for key in [&b"DELAY"[..], b"STACK", b"NOTE", b"", b"UNITS", b"A"] {
-            let mut pair = Pair::new(&Archive, 951, &bytes);
-            pair.lend_key(key);
-            let part = trace;
-            for (quick, full) in [
-                (Call::QuickKeyword { trace }, Call::Keyword { part }),
-                (Call::QuickValue { trace }, Call::Value { part }),
-            ] {
-                let answer = sparse.call(quick, &bytes, trace, key);
-                assert_eq!(pair.ask(bytes.len(), full), Ok(answer));
-            }
+        for question in wide_questions(trace) {
+            let told = sparse.ask(&question, &bytes);
+            let full = question.ask_full(&mut pair, bytes.len());
+            assert_eq!(full, Ok(told), "{:?}", question.quick());
+            asked += 1;
         }
     }
-    // Of 18 pages and more, three at most are open: head, block and strings.
-    assert!(sparse.closed() >= 6 * 6 * 2 * 15, "{}", sparse.closed());
+    // Of 24 pages and more, seven at most are open: head, block and strings, or the data.
+    assert!(asked > 6 * 40, "{asked}");
+    assert!(sparse.closed() >= asked * 17, "{}", sparse.closed());
 }
 
-/// And a page without rights is noticed: the full question ends the program there.
+/// A question, by its place among all of a trace, and another whose pages are open.
+const TOUCHING: [(&str, Call, Call); 5] = [
+    // the full question looks at the whole file
+    (
+        "the file",
+        Call::Keyword { part: 3 },
+        Call::Keyword { part: 3 },
+    ),
+    (
+        "the strings",
+        Call::StringCount { part: 3 },
+        Call::TraceBlock { trace: 3 },
+    ),
+    (
+        "a string behind",
+        Call::String { part: 3, index: 2 },
+        Call::String { part: 3, index: 0 },
+    ),
+    (
+        "the row of strings",
+        Call::Strings { part: 3 },
+        Call::String { part: 3, index: 0 },
+    ),
+    (
+        "the data",
+        Call::Bits { trace: 3 },
+        Call::StringCount { part: 3 },
+    ),
+];
+
+/// And a page without rights is noticed: a question that is given the pages of another ends
+/// the program there.
 #[test]
 fn a_touched_page_is_noticed() {
     const WHICH: &str = "SEG2_TOUCH_A_PAGE";
-    if std::env::var_os(WHICH).is_some() {
+    let which = std::env::var(WHICH).unwrap_or_default();
+    for (name, asked, open) in TOUCHING {
+        if which.is_empty() {
+            let status = once_more("a_touched_page_is_noticed", WHICH, name);
+            assert!(status.signal().is_some(), "{name}: {status}");
+        }
+        if which != name {
+            continue;
+        }
         let bytes = wide_file();
-        let full = Call::Keyword { part: 3 };
-        Sparse::new(bytes.len()).call(full, &bytes, 3, b"STACK");
+        let all = wide_questions(3);
+        let of = |call: Call| all.iter().find(|q| q.full == call).expect("a question");
+        let read = of(open).read(&bytes, bytes.len());
+        let call = if asked == open {
+            asked
+        } else {
+            of(asked).quick()
+        };
+        Sparse::new(bytes.len()).call(call, of(asked), &bytes, &read);
         return;
     }
-    let status = once_more("a_touched_page_is_noticed", WHICH, "yes");
-    assert!(status.signal().is_some(), "{status}");
 }

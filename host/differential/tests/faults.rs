@@ -38,13 +38,15 @@ fn each_fault_is_noticed() {
     let integers: Piece = Fault::Integers;
     let patterns: Piece = Fault::Patterns;
     let classes: Piece = Fault::Classes;
+    let strings: Piece = Fault::Strings;
     let text: Piece = Fault::Text;
-    let functions: [(&str, usize, &[Piece]); 19] = [
+    let functions: [(&str, usize, &[Piece]); 29] = [
         ("check", 0, &[buffer]),
         ("file_block", 5, &[buffer]),
         ("trace_block", 5, &[buffer]),
         ("string_count", 1, &[buffer]),
         ("string", 5, &[buffer]),
+        ("strings", 0, &[buffer, strings]),
         ("keyword", 1, &[buffer, key]),
         ("value", 2, &[buffer, key]),
         ("number", 4, &[buffer, key]),
@@ -52,8 +54,17 @@ fn each_fault_is_noticed() {
         ("location", 7, &[buffer, key]),
         ("integers", 0, &[buffer, integers]),
         ("bits", 0, &[buffer, patterns, classes]),
+        ("quick_trace_block", 5, &[buffer]),
+        ("quick_string_count", 1, &[buffer]),
+        ("quick_string", 5, &[buffer]),
+        ("quick_strings", 0, &[buffer, strings]),
         ("quick_keyword", 1, &[buffer, key]),
         ("quick_value", 2, &[buffer, key]),
+        ("quick_number", 4, &[buffer, key]),
+        ("quick_double", 1, &[buffer, key]),
+        ("quick_location", 7, &[buffer, key]),
+        ("quick_integers", 0, &[buffer, integers]),
+        ("quick_bits", 0, &[buffer, patterns, classes]),
         ("read_number", 4, &[text]),
         ("write_number", 1, &[text]),
         ("start", 1, &[buffer, sheet]),
@@ -67,11 +78,13 @@ fn each_fault_is_noticed() {
     let mut tried = 0;
     for (function, values, lent) in functions {
         let mut faults = faults(values, lent);
-        if !matches!(function, "check" | "integers" | "bits") {
-            // These three answer in registers.
+        let full = function.trim_start_matches("quick_");
+        let fills = matches!(full, "integers" | "bits" | "strings");
+        if function != "check" && !fills {
+            // These answer in registers.
             faults.push(Fault::Beside);
         }
-        let writes = matches!(function, "integers" | "bits" | "start" | "write_number");
+        let writes = fills || matches!(function, "start" | "write_number");
         if writes || function.starts_with("add") {
             faults.push(Fault::Nothing);
         }

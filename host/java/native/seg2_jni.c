@@ -130,31 +130,44 @@ NATIVE(void, nativeFileBlock)(JNIEnv *env, UNUSED jclass self, jobject buffer, j
     }
 }
 
-NATIVE(void, nativeTraceBlock)(JNIEnv *env, UNUSED jclass self, jobject buffer, jint size, jlong length, jint trace, jlongArray answer) {
-    lent b;
-    if (places(env, answer, 8) && direct(env, buffer, size, 1, &b)) {
-        seg2_trace a = seg2_trace_block_of(b.at, b.size, (size_t)length, trace);
-        TELL(a, (jlong)a.start, (jlong)a.block_size, (jlong)a.data_size, (jlong)a.sample_count, a.format_code);
+/* A full question and its quick form differ in the function alone; the part of a quick one is a trace. */
+#define BLOCK_QUESTION(name, function)                                                                                                               \
+    NATIVE(void, name)(JNIEnv *env, UNUSED jclass self, jobject buffer, jint size, jlong length, jint trace, jlongArray answer) {                    \
+        lent b;                                                                                                                                      \
+        if (places(env, answer, 8) && direct(env, buffer, size, 1, &b)) {                                                                            \
+            seg2_trace a = function(b.at, b.size, (size_t)length, trace);                                                                            \
+            TELL(a, (jlong)a.start, (jlong)a.block_size, (jlong)a.data_size, (jlong)a.sample_count, a.format_code);                                  \
+        }                                                                                                                                            \
     }
-}
 
-NATIVE(void, nativeStringCount)(JNIEnv *env, UNUSED jclass self, jobject buffer, jint size, jlong length, jint part, jlongArray answer) {
-    lent b;
-    if (places(env, answer, 4) && direct(env, buffer, size, 1, &b)) {
-        seg2_count a = seg2_string_count_of(b.at, b.size, (size_t)length, part);
-        TELL(a, (jlong)a.count);
+BLOCK_QUESTION(nativeTraceBlock, seg2_trace_block_of)
+BLOCK_QUESTION(nativeQuickTraceBlock, seg2_quick_trace_block_of)
+
+#define COUNT_QUESTION(name, function)                                                                                                               \
+    NATIVE(void, name)(JNIEnv *env, UNUSED jclass self, jobject buffer, jint size, jlong length, jint part, jlongArray answer) {                     \
+        lent b;                                                                                                                                      \
+        if (places(env, answer, 4) && direct(env, buffer, size, 1, &b)) {                                                                            \
+            seg2_count a = function(b.at, b.size, (size_t)length, part);                                                                             \
+            TELL(a, (jlong)a.count);                                                                                                                 \
+        }                                                                                                                                            \
     }
-}
 
-NATIVE(void, nativeString)(JNIEnv *env, UNUSED jclass self, jobject buffer, jint size, jlong length, jint part, jlong index, jlongArray answer) {
-    lent b;
-    if (places(env, answer, 8) && direct(env, buffer, size, 1, &b)) {
-        struct seg2_string a = seg2_string_of(b.at, b.size, (size_t)length, part, (size_t)index);
-        TELL(a, a.found, (jlong)a.key_start, (jlong)a.key_length, (jlong)a.value_start, (jlong)a.value_length);
+COUNT_QUESTION(nativeStringCount, seg2_string_count_of)
+COUNT_QUESTION(nativeQuickStringCount, seg2_quick_string_count_of)
+
+#define STRING_QUESTION(name, function)                                                                                                              \
+    NATIVE(void, name)(JNIEnv *env, UNUSED jclass self, jobject buffer, jint size, jlong length, jint part, jlong index, jlongArray answer) {        \
+        lent b;                                                                                                                                      \
+        if (places(env, answer, 8) && direct(env, buffer, size, 1, &b)) {                                                                            \
+            struct seg2_string a = function(b.at, b.size, (size_t)length, part, (size_t)index);                                                      \
+            TELL(a, a.found, (jlong)a.key_start, (jlong)a.key_length, (jlong)a.value_start, (jlong)a.value_length);                                  \
+        }                                                                                                                                            \
     }
-}
 
-/* The questions about a keyword differ in their answer alone. The part of a quick one is a trace. */
+STRING_QUESTION(nativeString, seg2_string_of)
+STRING_QUESTION(nativeQuickString, seg2_quick_string_of)
+
+/* The questions about a keyword differ in their answer alone. */
 #define KEYWORD_QUESTION(name, function, kind, count, ...)                                                                                           \
     NATIVE(void, name)(JNIEnv *env, UNUSED jclass self, jobject buffer, jint size, jlong length, jint part, jbyteArray key, jlongArray answer) {     \
         lent b, k;                                                                                                                                   \
@@ -173,6 +186,10 @@ KEYWORD_QUESTION(nativeLocation, seg2_location_of, seg2_location, 10, a.count, b
                  a.z_decimals)
 KEYWORD_QUESTION(nativeQuickKeyword, seg2_quick_keyword_of, seg2_keyword, 4, a.found)
 KEYWORD_QUESTION(nativeQuickValue, seg2_quick_value_of, seg2_value, 5, (jlong)a.value_start, (jlong)a.value_length)
+KEYWORD_QUESTION(nativeQuickNumber, seg2_quick_number_of, seg2_number, 7, a.minus, a.power, (jlong)a.coefficient, a.decimals)
+KEYWORD_QUESTION(nativeQuickDouble, seg2_quick_double_of, seg2_double, 4, bits_of(a.value))
+KEYWORD_QUESTION(nativeQuickLocation, seg2_quick_location_of, seg2_location, 10, a.count, bits_of(a.x), bits_of(a.y), bits_of(a.z), a.x_decimals,
+                 a.y_decimals, a.z_decimals)
 
 /* ---- a number and its text */
 
@@ -200,53 +217,68 @@ NATIVE(void, nativeWriteNumber)(JNIEnv *env, UNUSED jclass self, jbyteArray text
     }
 }
 
-/* ---- samples. An array goes through a copy, as a text does; a direct buffer's memory is written itself. */
+/* ---- rows: of samples, and of places of strings. An array goes through a copy, as a text does; a direct buffer's memory is written itself. */
 
-NATIVE(void, nativeIntegersArray)(JNIEnv *env, UNUSED jclass self, jobject buffer, jint size, jlong length, jint trace, jintArray row, jlongArray answer) {
-    lent b;
-    if (row == NULL) {
-        misuse(env, "the row is null");
-    } else if (places(env, answer, 3) && direct(env, buffer, size, 1, &b)) {
-        size_t count = (size_t)(*env)->GetArrayLength(env, row);
-        jint *at = (*env)->GetIntArrayElements(env, row, NULL);
-        if (at != NULL) {
-            seg2_verdict v = seg2_integers(b.at, b.size, (size_t)length, trace, at, count);
-            (*env)->ReleaseIntArrayElements(env, row, at, handed_back(v.number));
-            tell_verdict(env, answer, v);
-        }
+#define ARRAY_QUESTION(name, function, element, Element, kind)                                                                                       \
+    NATIVE(void, name)(JNIEnv *env, UNUSED jclass self, jobject buffer, jint size, jlong length, jint part, element##Array row,                      \
+                       jlongArray answer) {                                                                                                          \
+        lent b;                                                                                                                                      \
+        if (row == NULL) {                                                                                                                           \
+            misuse(env, "the row is null");                                                                                                          \
+        } else if (places(env, answer, 3) && direct(env, buffer, size, 1, &b)) {                                                                     \
+            size_t count = (size_t)(*env)->GetArrayLength(env, row);                                                                                 \
+            element *at = (*env)->Get##Element##ArrayElements(env, row, NULL);                                                                       \
+            if (at != NULL) {                                                                                                                        \
+                seg2_verdict v = function(b.at, b.size, (size_t)length, part, (kind *)at, count);                                                    \
+                (*env)->Release##Element##ArrayElements(env, row, at, handed_back(v.number));                                                        \
+                tell_verdict(env, answer, v);                                                                                                        \
+            }                                                                                                                                        \
+        }                                                                                                                                            \
     }
-}
 
-NATIVE(void, nativeIntegersBuffer)(JNIEnv *env, UNUSED jclass self, jobject buffer, jint size, jlong length, jint trace, jobject row, jint count,
-                                   jlongArray answer) {
-    lent b, r;
-    if (places(env, answer, 3) && direct(env, buffer, size, 1, &b) && direct(env, row, count, sizeof(int32_t), &r) && apart(env, b, r)) {
-        tell_verdict(env, answer, seg2_integers(b.at, b.size, (size_t)length, trace, r.at, (size_t)count));
-    }
-}
+ARRAY_QUESTION(nativeIntegersArray, seg2_integers, jint, Int, int32_t)
+ARRAY_QUESTION(nativeQuickIntegersArray, seg2_quick_integers, jint, Int, int32_t)
+ARRAY_QUESTION(nativeStrings, seg2_strings, jlong, Long, size_t)
+ARRAY_QUESTION(nativeQuickStrings, seg2_quick_strings, jlong, Long, size_t)
 
-NATIVE(void, nativeBits)(JNIEnv *env, UNUSED jclass self, jobject buffer, jint size, jlong length, jint trace, jlongArray row, jbyteArray classes,
-                         jlongArray answer) {
-    lent b;
-    if (row == NULL || classes == NULL) {
-        misuse(env, "a row is null");
-    } else if (places(env, answer, 3) && direct(env, buffer, size, 1, &b)) {
-        size_t count = (size_t)(*env)->GetArrayLength(env, row);
-        size_t class_count = (size_t)(*env)->GetArrayLength(env, classes);
-        jlong *at = (*env)->GetLongArrayElements(env, row, NULL);
-        if (at != NULL) {
-            jbyte *class_at = (*env)->GetByteArrayElements(env, classes, NULL);
-            if (class_at == NULL) {
-                (*env)->ReleaseLongArrayElements(env, row, at, JNI_ABORT);
-            } else {
-                seg2_verdict v = seg2_bits(b.at, b.size, (size_t)length, trace, (uint64_t *)at, count, (uint8_t *)class_at, class_count);
-                (*env)->ReleaseByteArrayElements(env, classes, class_at, handed_back(v.number));
-                (*env)->ReleaseLongArrayElements(env, row, at, handed_back(v.number));
-                tell_verdict(env, answer, v);
-            }
-        }
+#define BUFFER_QUESTION(name, function)                                                                                                              \
+    NATIVE(void, name)(JNIEnv *env, UNUSED jclass self, jobject buffer, jint size, jlong length, jint trace, jobject row, jint count,                \
+                       jlongArray answer) {                                                                                                          \
+        lent b, r;                                                                                                                                   \
+        if (places(env, answer, 3) && direct(env, buffer, size, 1, &b) && direct(env, row, count, sizeof(int32_t), &r) && apart(env, b, r)) {        \
+            tell_verdict(env, answer, function(b.at, b.size, (size_t)length, trace, r.at, (size_t)count));                                           \
+        }                                                                                                                                            \
     }
-}
+
+BUFFER_QUESTION(nativeIntegersBuffer, seg2_integers)
+BUFFER_QUESTION(nativeQuickIntegersBuffer, seg2_quick_integers)
+
+#define BITS_QUESTION(name, function)                                                                                                                \
+    NATIVE(void, name)(JNIEnv *env, UNUSED jclass self, jobject buffer, jint size, jlong length, jint trace, jlongArray row, jbyteArray classes,     \
+                       jlongArray answer) {                                                                                                          \
+        lent b;                                                                                                                                      \
+        if (row == NULL || classes == NULL) {                                                                                                        \
+            misuse(env, "a row is null");                                                                                                            \
+        } else if (places(env, answer, 3) && direct(env, buffer, size, 1, &b)) {                                                                     \
+            size_t count = (size_t)(*env)->GetArrayLength(env, row);                                                                                 \
+            size_t class_count = (size_t)(*env)->GetArrayLength(env, classes);                                                                       \
+            jlong *at = (*env)->GetLongArrayElements(env, row, NULL);                                                                                \
+            if (at != NULL) {                                                                                                                        \
+                jbyte *class_at = (*env)->GetByteArrayElements(env, classes, NULL);                                                                  \
+                if (class_at == NULL) {                                                                                                              \
+                    (*env)->ReleaseLongArrayElements(env, row, at, JNI_ABORT);                                                                       \
+                } else {                                                                                                                             \
+                    seg2_verdict v = function(b.at, b.size, (size_t)length, trace, (uint64_t *)at, count, (uint8_t *)class_at, class_count);         \
+                    (*env)->ReleaseByteArrayElements(env, classes, class_at, handed_back(v.number));                                                 \
+                    (*env)->ReleaseLongArrayElements(env, row, at, handed_back(v.number));                                                           \
+                    tell_verdict(env, answer, v);                                                                                                    \
+                }                                                                                                                                    \
+            }                                                                                                                                        \
+        }                                                                                                                                            \
+    }
+
+BITS_QUESTION(nativeBits, seg2_bits)
+BITS_QUESTION(nativeQuickBits, seg2_quick_bits)
 
 /* ---- writing */
 

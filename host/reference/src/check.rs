@@ -56,6 +56,11 @@ impl Trace {
         u64::from(self.p) + u64::from(self.b)
     }
 
+    /// "Data occupies D bytes from p+B."
+    pub(crate) fn data_range(&self) -> Range<usize> {
+        self.data_start() as usize..self.end() as usize
+    }
+
     /// Where the data ends: p+B+D, exact, never modulo 2^32.
     pub fn end(&self) -> u64 {
         self.data_start() + u64::from(self.d)
@@ -112,7 +117,7 @@ pub(crate) fn image(buffer: &[u8], length: usize) -> Result<&[u8], Refusal> {
 /// The fixed part of the file block, checked.
 pub(crate) struct Head<'a> {
     image: &'a [u8],
-    order: Order,
+    pub order: Order,
     m: u16,
     pub n: u16,
     terminators: Terminators,

@@ -36,10 +36,14 @@ pub use check::{check, check_for_addition, File, Trace, MAXIMUM_LENGTH};
 pub use listing::{listing, listing_program, LISTING_MAXIMUM};
 pub use number::{double, location, number, write_number, Location, Number};
 pub use questions::{
-    file_block, keyword, keyword_value, note_lines, samples_as_bits, samples_as_integers, string,
-    string_count, trace_block, FileBlock,
+    all_strings, file_block, keyword, keyword_string, keyword_value, note_lines, samples_as_bits,
+    samples_as_integers, string, string_count, trace_block, FileBlock,
 };
-pub use quick::{quick_keyword, quick_search, quick_value, Search};
+pub use quick::{
+    quick_bits, quick_double, quick_integers, quick_keyword, quick_location, quick_number,
+    quick_read, quick_search, quick_string, quick_string_count, quick_strings, quick_trace_block,
+    quick_value, Question, Search,
+};
 pub use refusal::{is_of_check, Refusal, ALL};
 pub use strings::StringPlace;
 pub use words::Order;

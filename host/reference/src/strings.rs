@@ -15,6 +15,14 @@ pub struct StringPlace {
     pub value: Range<usize>,
 }
 
+impl StringPlace {
+    /// Start and length of the keyword, then of the value.
+    pub fn numbers(&self) -> [usize; 4] {
+        let StringPlace { keyword, value } = self;
+        [keyword.start, keyword.len(), value.start, value.len()]
+    }
+}
+
 /// The terminators in use, one or two characters each.
 #[derive(Clone, Debug, PartialEq, Eq)]
 pub struct Terminators {

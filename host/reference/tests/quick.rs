@@ -3,42 +3,14 @@
 
 mod common;
 
-use common::{number_of, refusal};
+use common::{
+    all_refused, broken_strings, file_of, file_of_area, number_of, offset, one_trace, pointer,
+    put_pointer, questions, quick_answer, refusal, without_end_mark, FIVE,
+};
 use seg2_reference::generate::*;
 use seg2_reference::*;
 use std::collections::{BTreeMap, BTreeSet};
 use std::ops::Range;
-
-/// A file whose traces have these strings each, and no samples.
-fn file_of(order: Order, traces: &[&[&[u8]]]) -> Vec<u8> {
-    let traces: Vec<PlainTrace> = traces.iter().map(|t| PlainTrace::of_strings(t)).collect();
-    plain_file(order, &[b"UNITS METERS"], &traces)
-}
-
-/// A file of one trace with these strings.
-fn one_trace(strings: &[&[u8]]) -> Vec<u8> {
-    file_of(Order::Low, &[strings])
-}
-
-fn four(order: Order, value: u32) -> [u8; 4] {
-    match order {
-        Order::Low => value.to_le_bytes(),
-        Order::High => value.to_be_bytes(),
-    }
-}
-
-/// Where trace k's block starts.
-fn pointer(bytes: &[u8], order: Order, k: usize) -> usize {
-    let slot: [u8; 4] = bytes[32 + 4 * k..36 + 4 * k].try_into().expect("four");
-    match order {
-        Order::Low => u32::from_le_bytes(slot) as usize,
-        Order::High => u32::from_be_bytes(slot) as usize,
-    }
-}
-
-fn put_pointer(bytes: &mut [u8], order: Order, k: usize, p: usize) {
-    bytes[32 + 4 * k..36 + 4 * k].copy_from_slice(&four(order, p as u32));
-}
 
 /// The value's text, nothing for a no; both calls have to say the same.
 fn asked_in<'a>(
@@ -115,7 +87,8 @@ fn the_buffer_may_be_longer() {
 
 // ---- rows
 
-/// Rows 1 to 7 come first, as the full check gives them, for any trace and any key.
+/// Rows 1 to 7 come first, as the full check gives them, for any trace, any key and any
+/// question. Row 1 looks at no byte, the others look at the first 32.
 #[test]
 fn rows_1_to_7() {
     let mut rng = Rng::new(501);
@@ -125,6 +98,14 @@ fn rows_1_to_7() {
             for trace in [-1, 0, 1, 9_999, i64::MIN, i64::MAX] {
                 let answer = asked_in(&case.buffer, case.length, trace, b"STACK");
                 assert_eq!(answer, Err(case.expected), "{}", way.name);
+                let head = Some(0..32).filter(|_| way.number != 1);
+                all_refused(
+                    &case.buffer,
+                    case.length,
+                    trace,
+                    case.expected,
+                    head.as_slice(),
+                );
             }
         }
     }
@@ -150,9 +131,11 @@ fn row_18() {
     let of_32_bits = [i32::MIN, i32::MAX].map(i64::from);
     for trace in none.into_iter().chain(of_32_bits) {
         let search = quick_search(&bytes, bytes.len(), trace, b"STACK");
-        assert_eq!(search.answer, Err(refusal(18, -1, 0)));
+        let no = refusal(18, -1, 0);
+        assert_eq!(search.answer, Err(no));
         let head = 0..32;
-        assert_eq!(search.read, [head]);
+        assert_eq!(search.read, std::slice::from_ref(&head));
+        all_refused(&bytes, bytes.len(), trace, no, &[head]);
     }
     assert_eq!(
         full(&bytes, bytes.len(), -1, b"UNITS"),
@@ -170,6 +153,10 @@ fn row_18_between_7_and_8() {
     bytes[32..40].fill(0xFF);
     for (trace, number) in [(-1, 18), (2, 18), (0, 8), (1, 8)] {
         assert_eq!(number_of(&asked(&bytes, trace, b"STACK")), number);
+        for question in questions(1, 0) {
+            let told = quick_answer(&bytes, bytes.len(), trace, &question);
+            assert_eq!(number_of(&told), number);
+        }
     }
     // 7 comes before it: the image ends inside the pointer room.
     let cut = asked_in(&whole, 39, 2, b"STACK");
@@ -190,8 +177,10 @@ fn row_8() {
             for bad in [p + 1, p + 2, p + 3, 0, 4, 40, 43, last + 4, 0xFFFF_FFFC] {
                 let mut bytes = whole.clone();
                 put_pointer(&mut bytes, order, k, bad);
-                let no = Err(refusal(8, k as i64, 32 + 4 * k));
-                assert_eq!(asked(&bytes, k as i64, b"STACK"), no, "{bad}");
+                let no = refusal(8, k as i64, 32 + 4 * k);
+                assert_eq!(asked(&bytes, k as i64, b"STACK"), Err(no), "{bad}");
+                let read = [0..32, 32 + 4 * k..36 + 4 * k];
+                all_refused(&bytes, bytes.len(), k as i64, no, &read);
                 // No other trace's pointer is looked at.
                 let other = (k as i64 + 1) % 3;
                 assert_eq!(asked(&bytes, other, b"STACK"), Ok(Some(&b"1"[..])));
@@ -201,6 +190,9 @@ fn row_8() {
                 let mut bytes = whole.clone();
                 put_pointer(&mut bytes, order, k, good);
                 assert_eq!(number_of(&asked(&bytes, k as i64, b"STACK")), 9, "{good}");
+                let read = [0..32, 32 + 4 * k..36 + 4 * k, good..good + 32];
+                let no = refusal(9, k as i64, good);
+                all_refused(&bytes, bytes.len(), k as i64, no, &read);
             }
         }
     }
@@ -254,12 +246,21 @@ fn rows_9_to_13() {
             let mut bytes = whole.clone();
             bytes[p + at..p + at + with.len()].copy_from_slice(with);
             let search = quick_search(&bytes, bytes.len(), k as i64, b"STACK");
-            assert_eq!(search.answer, Err(refusal(number, k as i64, p + at)));
-            assert_eq!(search.read, [0..32, 32 + 4 * k..36 + 4 * k, p..p + 32]);
+            let no = refusal(number, k as i64, p + at);
+            let read = [0..32, 32 + 4 * k..36 + 4 * k, p..p + 32];
+            assert_eq!(search.answer, Err(no));
+            assert_eq!(search.read, read);
+            all_refused(&bytes, bytes.len(), k as i64, no, &read);
             assert!(check(&bytes, bytes.len()).is_err());
             for other in (0..3).filter(|&other| other != k) {
                 let answer = asked(&bytes, other as i64, b"STACK");
                 assert_eq!(answer, Ok(Some(&b"1"[..])));
+                // Of code 1, so bits are refused, and nothing else.
+                let refused = questions(1, 0).into_iter().filter(|question| {
+                    quick_answer(&bytes, bytes.len(), other as i64, question).is_err()
+                });
+                let bits = [Question::Bits { row: 0, classes: 0 }];
+                assert!(refused.eq(bits));
             }
         }
     }
@@ -277,9 +278,6 @@ fn rows_9_to_13() {
 
 // ---- strings: found, passed, and what stands behind
 
-/// Five strings with room between their keywords.
-const FIVE: [&[u8]; 5] = [b"B 1", b"D 22", b"F 333", b"H 4", b"J 5"];
-
 /// How many of the five a search for the key reads: to the one that is found or passed.
 fn reads(key: &[u8]) -> usize {
     let words = FIVE.map(|text| &text[..1]);
@@ -289,60 +287,30 @@ fn reads(key: &[u8]) -> usize {
     }
 }
 
-/// Where the i-th string of the five starts, counted from the area's start.
-fn offset(i: usize) -> usize {
-    FIVE[..i].iter().map(|text| text.len() + 3).sum()
-}
-
 const KEYS: [&[u8]; 14] = [
     b"", b"A", b"B", b"C", b"D", b"E", b"F", b"FF", b"G", b"H", b"I", b"J", b"K", b"NOTE",
 ];
-
-/// The i-th string of the five breaks a row: bytes at a place counted from its offset.
-fn broken_by(number: u8, i: usize) -> Vec<(usize, Vec<u8>)> {
-    let end = FIVE[i].len() + 2;
-    match number {
-        14 => vec![(0, vec![3, 0]), (0, vec![1, 0]), (0, vec![0xFF, 0])],
-        15 => vec![(end, vec![b'x']), (end, vec![10])],
-        16 => vec![
-            (2, vec![b'b']),
-            (2, vec![b' ']),
-            (4, vec![10]),
-            (4, vec![200]),
-        ],
-        // as the one before, or less than it
-        _ => vec![(2, vec![b'A']), (2, vec![FIVE[i - 1][0]])],
-    }
-}
 
 /// A string before the found or passed one, that one itself, and none behind it.
 #[test]
 fn strings_are_judged_up_to_the_last_that_is_read() {
     let whole = file_of(Order::Low, &[&[], &FIVE]);
-    let start = pointer(&whole, Order::Low, 1) + 32;
     let (mut refused, mut answered) = (0, 0);
-    for number in 14..=17 {
-        for i in usize::from(number == 17)..5 {
-            for (at, with) in broken_by(number, i) {
-                let mut bytes = whole.clone();
-                let place = start + offset(i);
-                bytes[place + at..place + at + with.len()].copy_from_slice(&with);
-                let no = Err(refusal(number, 1, place));
-                assert_eq!(check(&bytes, bytes.len()).map(|_| ()), no);
-                for key in KEYS {
-                    let answer = asked(&bytes, 1, key);
-                    if i < reads(key) {
-                        assert_eq!(answer, no.map(|()| None), "{number} {i}");
-                        refused += 1;
-                    } else {
-                        assert_eq!(answer, full(&whole, whole.len(), 1, key));
-                        answered += 1;
-                    }
-                }
-                // Trace 0 has no part in it.
-                assert_eq!(asked(&bytes, 0, b"A"), Ok(None));
+    for (number, i, bytes, place) in broken_strings(&whole, 1) {
+        let no = Err(refusal(number, 1, place));
+        assert_eq!(check(&bytes, bytes.len()).map(|_| ()), no);
+        for key in KEYS {
+            let answer = asked(&bytes, 1, key);
+            if i < reads(key) {
+                assert_eq!(answer, no.map(|()| None), "{number} {i}");
+                refused += 1;
+            } else {
+                assert_eq!(answer, full(&whole, whole.len(), 1, key));
+                answered += 1;
             }
         }
+        // Trace 0 has no part in it.
+        assert_eq!(asked(&bytes, 0, b"A"), Ok(None));
     }
     assert!(refused > 200 && answered > 200, "{refused} {answered}");
 }
@@ -498,11 +466,6 @@ fn the_first_of_several() {
     assert_eq!(number_of(&asked(&bytes, 0, b"T")), 17);
 }
 
-/// A low-first file of one trace with these bytes for its area.
-fn file_of_area(area: &[u8]) -> Vec<u8> {
-    common::file(&[0], &[0x0A], &[0; 4], &common::trace(area, 1, 0, &[]))
-}
-
 /// "An empty area is an empty list"; an end mark ends it, whatever follows.
 #[test]
 fn ends_of_areas() {
@@ -526,14 +489,7 @@ fn ends_of_areas() {
 #[test]
 fn no_end_mark() {
     for left in [0, 1] {
-        // The last value is so long that just so many bytes of the area are left.
-        let last = [&b"UNITS "[..], &vec![b'm'; 5 - left]].concat();
-        let mut area = [b"STACK 1", &last[..]]
-            .map(|text| common::string(text, &[0]))
-            .concat();
-        let place = 72 + area.len();
-        area.extend(vec![9; left]);
-        let bytes = file_of_area(&area);
+        let (bytes, place) = without_end_mark(left);
         let no = Err(refusal(14, 0, place));
         assert_eq!(check(&bytes, bytes.len()).map(|_| ()), no);
         for key in [&b"V"[..], b"NOTE", b"\xFF"] {
@@ -627,6 +583,14 @@ fn accepted_files_answer_as_the_full_question() {
     assert!(yes > 5_000 && no > 5_000, "{yes} {no}");
 }
 
+/// The keyword of a question, if it is a keyword's.
+fn key_of(asked: &QuickAsked) -> Option<&[u8]> {
+    match &asked.question {
+        Question::Keyword { key } => Some(key),
+        _ => None,
+    }
+}
+
 /// Cases whose answer and whose bytes the layout tells.
 #[test]
 fn generated_questions() {
@@ -637,15 +601,21 @@ fn generated_questions() {
     for _ in 0..60_000 {
         let case = quick_case(&mut rng);
         let (buffer, length) = (&case.buffer[..], case.length);
-        let search = quick_search(buffer, length, case.trace, &case.key);
-        let found = search.answer.map(|string| string.map(|s| s.value));
-        assert_eq!(found, case.expected, "{}", case.name);
-        assert_eq!(search.read, case.read, "{}", case.name);
-        *met.entry(number_of(&found)).or_insert(0) += 1;
-        *names.entry(case.name).or_insert(0) += 1;
-        yes += usize::from(matches!(found, Ok(Some(_))));
-        no += usize::from(matches!(found, Ok(None)));
-        apart += usize::from(found.is_ok() && check(buffer, length).is_err());
+        for asked in &case.asked {
+            let Some(key) = key_of(asked) else {
+                continue;
+            };
+            let search = quick_search(buffer, length, case.trace, key);
+            let found = search.answer.map(|string| string.map(|s| s.value));
+            let told = found.clone().map(QuickTold::Keyword);
+            assert_eq!(told, asked.expected, "{}", case.name);
+            assert_eq!(search.read, asked.read, "{}", case.name);
+            *met.entry(number_of(&found)).or_insert(0) += 1;
+            *names.entry(case.name).or_insert(0) += 1;
+            yes += usize::from(matches!(found, Ok(Some(_))));
+            no += usize::from(matches!(found, Ok(None)));
+            apart += usize::from(found.is_ok() && check(buffer, length).is_err());
+        }
     }
     // Every row but 34, and every way of damage, often.
     assert!(met.keys().copied().eq(0..=18), "{met:?}");
@@ -666,7 +636,7 @@ fn generated_questions() {
 }
 
 /// "Two inputs .. that agree on these bytes get the same answer, refusals and places
-/// included": any byte beside them changed, one at a time and all at once.
+/// included": any byte beside them changed, one at a time and all at once, of every question.
 #[test]
 fn other_bytes_change_nothing() {
     let mut rng = Rng::new(504);
@@ -676,27 +646,35 @@ fn other_bytes_change_nothing() {
         if case.buffer.len() > 700 {
             continue;
         }
-        let search = |bytes: &[u8]| quick_search(bytes, case.length, case.trace, &case.key);
-        let told = search(&case.buffer);
-        let read: BTreeSet<usize> = told.read.iter().cloned().flatten().collect();
-        let mut bytes = case.buffer.clone();
-        for at in 0..bytes.len() {
-            for mask in [0xFF, 0x01] {
-                bytes[at] ^= mask;
-                let same = search(&bytes) == told;
-                bytes[at] ^= mask;
-                assert!(same || read.contains(&at), "{} at {at}", case.name);
-                outside += usize::from(!read.contains(&at));
-                inside += usize::from(!same);
+        for asked in &case.asked {
+            let answer = |bytes: &[u8]| {
+                let (length, trace) = (case.length, case.trace);
+                let told = quick_answer(bytes, length, trace, &asked.question);
+                let read = quick_read(bytes, length, trace, &asked.question);
+                let search = key_of(asked).map(|key| quick_search(bytes, length, trace, key));
+                (told, read, search)
+            };
+            let told = answer(&case.buffer);
+            let read: BTreeSet<usize> = told.1.iter().cloned().flatten().collect();
+            let mut bytes = case.buffer.clone();
+            for at in 0..bytes.len() {
+                for mask in [0xFF, 0x01] {
+                    bytes[at] ^= mask;
+                    let same = answer(&bytes) == told;
+                    bytes[at] ^= mask;
+                    assert!(same || read.contains(&at), "{} at {at}", case.name);
+                    outside += usize::from(!read.contains(&at));
+                    inside += usize::from(!same);
+                }
             }
+            let mut other = rng.junk(bytes.len());
+            for &at in &read {
+                other[at] = bytes[at];
+            }
+            assert_eq!(answer(&other), told);
         }
-        let mut other = rng.junk(bytes.len());
-        for &at in &read {
-            other[at] = bytes[at];
-        }
-        assert_eq!(search(&other), told);
     }
-    assert!(outside > 50_000 && inside > 5_000, "{outside} {inside}");
+    assert!(outside > 300_000 && inside > 30_000, "{outside} {inside}");
 }
 
 /// Whatever comes: an answer, and of the full check's refusals none behind the asked trace.

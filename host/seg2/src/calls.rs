@@ -29,22 +29,27 @@ pub fn file_block(buffer: &[u8], length: usize) -> raw::File {
     answered(|a| unsafe { raw::seg2_file_block(a, buffer.as_ptr(), buffer.len(), length) })
 }
 
-pub fn trace_block(buffer: &[u8], length: usize, trace: i32) -> raw::Trace {
-    // SAFETY: a place for the answer; pointer and size of one slice
-    answered(|a| unsafe { raw::seg2_trace_block(a, buffer.as_ptr(), buffer.len(), length, trace) })
+// A full question and its quick form have the same arguments and the same answer; the part of a quick one is a trace.
+
+/// The questions of a part differ in their answer, and one of them is asked by an index.
+macro_rules! part_question {
+    ($name:ident, $exported:ident, $answer:ident $(, $index:ident)?) => {
+        pub fn $name(buffer: &[u8], length: usize, part: i32 $(, $index: usize)?) -> raw::$answer {
+            let (bytes, size) = (buffer.as_ptr(), buffer.len());
+            // SAFETY: a place for the answer; pointer and size of one slice
+            answered(|a| unsafe { raw::$exported(a, bytes, size, length, part $(, $index)?) })
+        }
+    };
 }
 
-pub fn string_count(buffer: &[u8], length: usize, part: i32) -> raw::Count {
-    // SAFETY: a place for the answer; pointer and size of one slice
-    answered(|a| unsafe { raw::seg2_string_count(a, buffer.as_ptr(), buffer.len(), length, part) })
-}
+part_question!(trace_block, seg2_trace_block, Trace);
+part_question!(string_count, seg2_string_count, Count);
+part_question!(string, seg2_string, Text, index);
+part_question!(quick_trace_block, seg2_quick_trace_block, Trace);
+part_question!(quick_string_count, seg2_quick_string_count, Count);
+part_question!(quick_string, seg2_quick_string, Text, index);
 
-pub fn string(buffer: &[u8], length: usize, part: i32, index: usize) -> raw::Text {
-    // SAFETY: a place for the answer; pointer and size of one slice
-    answered(|a| unsafe { raw::seg2_string(a, buffer.as_ptr(), buffer.len(), length, part, index) })
-}
-
-/// The keyword questions differ in their answer alone. The part of a quick one is a trace.
+/// The keyword questions differ in their answer alone.
 macro_rules! keyword_question {
     ($name:ident, $exported:ident, $answer:ident) => {
         pub fn $name(buffer: &[u8], length: usize, part: i32, key: &[u8]) -> raw::$answer {
@@ -63,27 +68,53 @@ keyword_question!(double, seg2_double, Double);
 keyword_question!(location, seg2_location, Location);
 keyword_question!(quick_keyword, seg2_quick_keyword, Keyword);
 keyword_question!(quick_value, seg2_quick_value, Value);
+keyword_question!(quick_number, seg2_quick_number, Number);
+keyword_question!(quick_double, seg2_quick_double, Double);
+keyword_question!(quick_location, seg2_quick_location, Location);
 
-pub fn integers(buffer: &[u8], length: usize, trace: i32, row: &mut [i32]) -> raw::Verdict {
-    let (bytes, size) = (buffer.as_ptr(), buffer.len());
-    let (to, count) = (row.as_mut_ptr(), row.len());
-    // SAFETY: pointer and size of two slices, the second lent for writing
-    unsafe { raw::seg2_integers(bytes, size, length, trace, to, count) }
+/// The questions that fill one row differ in its elements alone.
+macro_rules! row_question {
+    ($name:ident, $exported:ident, $element:ty) => {
+        pub fn $name(
+            buffer: &[u8],
+            length: usize,
+            part: i32,
+            row: &mut [$element],
+        ) -> raw::Verdict {
+            let (bytes, size) = (buffer.as_ptr(), buffer.len());
+            let (to, count) = (row.as_mut_ptr(), row.len());
+            // SAFETY: pointer and size of two slices, the second lent for writing
+            unsafe { raw::$exported(bytes, size, length, part, to, count) }
+        }
+    };
 }
 
-pub fn bits(
-    buffer: &[u8],
-    length: usize,
-    trace: i32,
-    row: &mut [u64],
-    classes: &mut [u8],
-) -> raw::Verdict {
-    let (bytes, size) = (buffer.as_ptr(), buffer.len());
-    let (to, count) = (row.as_mut_ptr(), row.len());
-    let (class, class_count) = (classes.as_mut_ptr(), classes.len());
-    // SAFETY: pointer and size of three slices, the last two lent for writing
-    unsafe { raw::seg2_bits(bytes, size, length, trace, to, count, class, class_count) }
+row_question!(integers, seg2_integers, i32);
+row_question!(strings, seg2_strings, usize);
+row_question!(quick_integers, seg2_quick_integers, i32);
+row_question!(quick_strings, seg2_quick_strings, usize);
+
+/// The patterns and their classes go into two rows.
+macro_rules! bits_question {
+    ($name:ident, $exported:ident) => {
+        pub fn $name(
+            buffer: &[u8],
+            length: usize,
+            trace: i32,
+            row: &mut [u64],
+            classes: &mut [u8],
+        ) -> raw::Verdict {
+            let (bytes, size) = (buffer.as_ptr(), buffer.len());
+            let (to, count) = (row.as_mut_ptr(), row.len());
+            let (class, class_count) = (classes.as_mut_ptr(), classes.len());
+            // SAFETY: pointer and size of three slices, the last two lent for writing
+            unsafe { raw::$exported(bytes, size, length, trace, to, count, class, class_count) }
+        }
+    };
 }
+
+bits_question!(bits, seg2_bits);
+bits_question!(quick_bits, seg2_quick_bits);
 
 pub fn read_number(text: &[u8]) -> raw::Number {
     // SAFETY: a place for the answer; pointer and size of one slice

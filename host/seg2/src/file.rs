@@ -1,9 +1,13 @@
 //! An accepted file and its traces. What it is asked about its strings is `Part`'s.
 
-use crate::part::Part;
-use crate::{calls, raw, Lines, Location, Number, Order, Refusal, Strings, Trace, Walk};
+use crate::part::{Part, FULL};
+use crate::{calls, raw, Lines, Location, Number, Order, Pair, Quick, Refusal, Strings, Trace};
 
 /// A view of a file that the check has accepted. It borrows the bytes and copies none.
+///
+/// What is asked of its traces reads one trace each and checks nothing else again
+/// ([`Trace`]). There is no quick form of the questions on the file's own strings: each
+/// checks the whole file, so whoever needs several asks for [`strings`](File::strings) once.
 ///
 /// ```
 /// # use seg2::{Builder, Order};
@@ -53,6 +57,7 @@ impl<'a> File<'a> {
             buffer,
             length,
             number: -1,
+            calls: &FULL,
         };
         Ok(File { part, block })
     }
@@ -159,7 +164,8 @@ impl<'a> File<'a> {
         &self.part.buffer[12..12 + self.block.line_terminator_size]
     }
 
-    /// A trace, counted from 0; 18 where there is none.
+    /// A trace, counted from 0; 18 where there is none. A quick call: it reads the trace's
+    /// block and no other.
     ///
     /// ```
     /// # use seg2::{Builder, Order};
@@ -172,13 +178,11 @@ impl<'a> File<'a> {
     /// # Ok::<(), seg2::Refusal>(())
     /// ```
     pub fn trace(&self, index: usize) -> Result<Trace<'a>, Refusal> {
-        // a file has far fewer traces than 31 bits count, so a larger index is 18 as well
-        let number = i32::try_from(index).unwrap_or(i32::MAX);
-        let block = calls::trace_block(self.part.buffer, self.part.length, number).told()?;
-        Ok(Trace::of(*self, number, block))
+        let quick = Quick::prefix(self.part.buffer, self.part.length);
+        Ok(Trace::of(*self, quick, index, quick.block(index)?))
     }
 
-    /// All traces in order. One call for each.
+    /// All traces in order. One quick call for each.
     ///
     /// ```
     /// # use seg2::{Builder, Order};
@@ -198,27 +202,6 @@ impl<'a> File<'a> {
         }
     }
 
-    /// All blocks and strings in the order of a listing, in one pass and without a call.
-    ///
-    /// It follows the pointers and offsets that the check has accepted when the file was
-    /// opened. It is tested to give what [`File::strings`], [`File::traces`] and
-    /// [`Trace::strings`] give, not proved.
-    ///
-    /// ```
-    /// # use seg2::{Builder, Order};
-    /// # let mut shot = Builder::start(Order::Low, 1, b"UNITS\tMETERS\n")?;
-    /// # shot.add_integers(b"", 1, &[1, -1, 256])?;
-    /// # let bytes = shot.finish();
-    /// use seg2::Step;
-    /// let steps: Vec<Step> = seg2::File::open(&bytes)?.walk().collect();
-    /// assert_eq!(steps[0], Step::String { keyword: b"UNITS", value: b"METERS" });
-    /// assert_eq!(steps[1], Step::Trace { index: 0, code: 1, sample_count: 3 });
-    /// # Ok::<(), seg2::Refusal>(())
-    /// ```
-    pub fn walk(&self) -> Walk<'a> {
-        Walk::of(*self)
-    }
-
     /// How many strings the file block has.
     ///
     /// ```
@@ -230,7 +213,7 @@ impl<'a> File<'a> {
     /// # Ok::<(), seg2::Refusal>(())
     /// ```
     pub fn string_count(&self) -> usize {
-        self.part.string_count()
+        self.part.string_count().unwrap_or_default()
     }
 
     /// Keyword and value of the string with this index; none past the last.
@@ -245,12 +228,12 @@ impl<'a> File<'a> {
     /// assert_eq!(file.string(2), None);
     /// # Ok::<(), seg2::Refusal>(())
     /// ```
-    pub fn string(&self, index: usize) -> Option<(&'a [u8], &'a [u8])> {
-        self.part.string(index)
+    pub fn string(&self, index: usize) -> Option<Pair<'a>> {
+        self.part.string(index).unwrap_or_default()
     }
 
-    /// Keyword and value of each string of the file block, in order. One call for each,
-    /// and one more at the end.
+    /// Keyword and value of each string of the file block, in order. Two calls, however many
+    /// strings there are.
     ///
     /// ```
     /// # use seg2::{Builder, Order};
@@ -263,7 +246,7 @@ impl<'a> File<'a> {
     /// # Ok::<(), seg2::Refusal>(())
     /// ```
     pub fn strings(&self) -> Strings<'a> {
-        self.part.strings()
+        self.part.strings().unwrap_or_default()
     }
 
     /// Whether the file block has a keyword.
@@ -278,7 +261,7 @@ impl<'a> File<'a> {
     /// # Ok::<(), seg2::Refusal>(())
     /// ```
     pub fn has(&self, keyword: &[u8]) -> bool {
-        self.part.has(keyword)
+        self.part.has(keyword).unwrap_or_default()
     }
 
     /// The value of a keyword as the buffer's own bytes; none where the keyword is
@@ -297,7 +280,7 @@ impl<'a> File<'a> {
     /// # Ok::<(), seg2::Refusal>(())
     /// ```
     pub fn value(&self, keyword: &[u8]) -> Option<&'a [u8]> {
-        self.part.value(keyword)
+        self.part.value(keyword).unwrap_or_default()
     }
 
     /// The value of a keyword as a number: 20 where it is none (so where the keyword is
@@ -388,15 +371,7 @@ impl<'a> File<'a> {
     /// # Ok::<(), seg2::Refusal>(())
     /// ```
     pub fn note(&self) -> Lines<'a> {
-        self.part.note(self.line_terminator())
-    }
-
-    /// Another part of this file.
-    pub(crate) fn part(&self, number: i32) -> Part<'a> {
-        Part {
-            number,
-            ..self.part
-        }
+        Lines::of(self.value(b"NOTE"), self.line_terminator())
     }
 }
 
@@ -423,10 +398,7 @@ impl<'a> Iterator for Traces<'a> {
     type Item = Trace<'a>;
 
     fn next(&mut self) -> Option<Trace<'a>> {
-        // past the last there would be 18, after a whole check
-        if self.next >= self.file.trace_count() {
-            return None;
-        }
+        // past the last there is 18
         let trace = self.file.trace(self.next).ok()?;
         self.next += 1;
         Some(trace)
@@ -439,3 +411,5 @@ impl<'a> Iterator for Traces<'a> {
 }
 
 impl ExactSizeIterator for Traces<'_> {}
+
+impl std::iter::FusedIterator for Traces<'_> {}

@@ -23,19 +23,16 @@
 //!
 //! # Cost
 //!
-//! The exported functions behind [`File`] and [`Trace`] check the whole file before they
-//! answer, so every question of these two does, and every item of their iterators. A
-//! check looks at each block and each string once, not at the samples. Each doc comment
-//! says how many calls it makes; where it says nothing it makes one. What needs no call is
-//! free: it was learned when the file or the trace was opened. A [`Number`] is read from a
-//! text and written as one without a file.
+//! [`File::open`] checks the whole file once: it looks at each block and each string, not
+//! at the samples. After that every question on a [`Trace`] is a quick one, which reads this
+//! trace and no other, so what is asked of all traces takes time in proportion to their
+//! number. The file's own strings have no quick form: each question of [`File`] on them
+//! checks the whole file again. Each doc comment says how many calls it makes; where it says
+//! nothing it makes one. What needs no call is free: it was learned when the file or the
+//! trace was opened. A [`Number`] is read from a text and written as one without a file.
 //!
-//! To show one value of a file of thousands of traces there is [`Quick`]: it reads one
-//! trace and checks no more than it reads, so its cost does not grow with the file.
-//!
-//! So all strings of a file of some hundred traces take as many checks as there are
-//! strings. [`File::walk`] lists them in one pass; it is the only part of this crate that
-//! reads a file by itself.
+//! To show something of one trace without any check of the file there is [`Quick`]: it
+//! reads that trace and judges what it reads.
 //!
 //! # Threads and stack
 //!
@@ -54,16 +51,14 @@ mod quick;
 pub mod raw;
 mod refusal;
 mod trace;
-mod walk;
 mod write;
 
 pub use file::{File, Traces};
 pub use number::{Location, Number};
-pub use part::{Lines, Strings};
+pub use part::{Lines, Pair, Strings};
 pub use quick::Quick;
 pub use refusal::{numbers, text, Place, Refusal};
-pub use trace::{Bits, Class, Trace};
-pub use walk::{Step, Walk};
+pub use trace::{Bits, Block, Class, Trace};
 pub use write::{add_bits, add_integers, start, Builder};
 
 /// A file is at most this many bytes long.

@@ -128,3 +128,17 @@ pub struct Location {
     /// How many digits stood after the point of z.
     pub z_decimals: u32,
 }
+
+impl Location {
+    pub(crate) fn of(answer: raw::Location) -> Location {
+        Location {
+            count: answer.count,
+            x: answer.x,
+            y: answer.y,
+            z: answer.z,
+            x_decimals: answer.x_decimals,
+            y_decimals: answer.y_decimals,
+            z_decimals: answer.z_decimals,
+        }
+    }
+}

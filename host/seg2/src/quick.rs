@@ -1,27 +1,28 @@
 //! One trace, quickly (document 02, §5): questions that read one trace of a file which
 //! nobody has checked, and judge what they read.
 
-use crate::{calls, Lines, Refusal};
+use crate::part::{Part, QUICK};
+use crate::{calls, code, Bits, Block, Lines, Location, Number, Pair, Refusal, Strings};
 
 /// A file that was **not checked**, to be asked about one trace at a time. It borrows the
 /// bytes, copies none, and is free to make.
 ///
-/// Each question reads the file block's first 32 bytes, the trace's pointer, the first 32
-/// bytes of its block, and its strings in order until the keyword is found or passed: a
-/// greater one stands there, or NOTE. NOTE itself is sought to the end. All else is not
-/// looked at: the strings behind, the other traces, the file's own strings, the samples.
-/// The cost is that of one block, however many traces there are.
+/// Each question reads the file block's first 32 bytes, the trace's pointer and the first 32
+/// bytes of its block. A question on strings reads the trace's strings in order, each whole,
+/// as far as it needs them; one on samples the trace's data. All else is not looked at: the
+/// strings behind, the other traces, the file's own strings; no data where strings are asked
+/// for, and no string where samples are. The cost is that of one trace, however many there
+/// are.
 ///
 /// So it may answer where [`File::open`](crate::File::open) refuses the file, for
 /// something that was not read. Of the file as a whole it says nothing:
-/// [`check`](crate::check) does. On a file that the check accepts it answers as
-/// [`Trace::has`](crate::Trace::has), [`Trace::value`](crate::Trace::value) and
-/// [`Trace::note`](crate::Trace::note) do.
+/// [`check`](crate::check) does. On a file that the check accepts it answers as a
+/// [`Trace`](crate::Trace) does, which asks the same questions.
 ///
 /// Refusals are those of what was read: 1 to 7, then 18 where there is no such trace, 8 (a
 /// pointer that is no multiple of 4, leads into the pointer room, or leaves no room for a
-/// block; it may lead into another trace), 9 to 13, then 14 to 17 string by string, the
-/// found or passed one too. 34 is never given: it would need another trace.
+/// block; it may lead into another trace), 9 to 13, for strings 14 to 17 one by one, then
+/// those of the question. 34 is never given: it would need another trace.
 ///
 /// ```
 /// # use seg2::{Builder, Order};
@@ -80,7 +81,73 @@ impl<'a> Quick<'a> {
         Quick { buffer, length }
     }
 
-    /// Whether a trace, counted from 0, has a keyword. Any bytes may be asked for.
+    /// The block of a trace, counted from 0. No string and no data is read.
+    ///
+    /// ```
+    /// # use seg2::{Builder, Order};
+    /// # let mut shot = Builder::start(Order::Low, 1, b"")?;
+    /// # shot.add_integers(b"STACK\t4\n", 1, &[7])?;
+    /// # let bytes = shot.finish();
+    /// let quick = seg2::Quick::new(&bytes);
+    /// assert_eq!(quick.block(0)?.sample_count, 1);
+    /// assert_eq!(quick.block(1).unwrap_err().number, 18);
+    /// # Ok::<(), seg2::Refusal>(())
+    /// ```
+    pub fn block(&self, trace: usize) -> Result<Block, Refusal> {
+        let answer = calls::quick_trace_block(self.buffer, self.length, number(trace));
+        Ok(Block::of(answer.told()?))
+    }
+
+    /// How many strings a trace has: all of them are read.
+    ///
+    /// ```
+    /// # use seg2::{Builder, Order};
+    /// # let mut shot = Builder::start(Order::Low, 1, b"")?;
+    /// # shot.add_integers(b"DELAY\t0\nSTACK\t4\n", 1, &[7])?;
+    /// # let bytes = shot.finish();
+    /// assert_eq!(seg2::Quick::new(&bytes).string_count(0)?, 2);
+    /// # Ok::<(), seg2::Refusal>(())
+    /// ```
+    pub fn string_count(&self, trace: usize) -> Result<usize, Refusal> {
+        self.part(trace).string_count()
+    }
+
+    /// Keyword and value of a trace's string with this index; none past the last. The
+    /// strings up to it are read, itself too.
+    ///
+    /// ```
+    /// # use seg2::{Builder, Order};
+    /// # let mut shot = Builder::start(Order::Low, 1, b"")?;
+    /// # shot.add_integers(b"DELAY\t0\nSTACK\t4\n", 1, &[7])?;
+    /// # let bytes = shot.finish();
+    /// let quick = seg2::Quick::new(&bytes);
+    /// assert_eq!(quick.string(0, 1)?, Some((&b"STACK"[..], &b"4"[..])));
+    /// assert_eq!(quick.string(0, 2)?, None);
+    /// # Ok::<(), seg2::Refusal>(())
+    /// ```
+    pub fn string(&self, trace: usize, index: usize) -> Result<Option<Pair<'a>>, Refusal> {
+        self.part(trace).string(index)
+    }
+
+    /// Keyword and value of each string of a trace, in order: all of them are read. Two
+    /// calls, however many strings there are.
+    ///
+    /// ```
+    /// # use seg2::{Builder, Order};
+    /// # let mut shot = Builder::start(Order::Low, 1, b"")?;
+    /// # shot.add_integers(b"DELAY\t0\nSTACK\t4\n", 1, &[7])?;
+    /// # let bytes = shot.finish();
+    /// let values: Vec<&[u8]> = seg2::Quick::new(&bytes).strings(0)?.map(|(_, value)| value).collect();
+    /// assert_eq!(values, [&b"0"[..], b"4"]);
+    /// # Ok::<(), seg2::Refusal>(())
+    /// ```
+    pub fn strings(&self, trace: usize) -> Result<Strings<'a>, Refusal> {
+        self.part(trace).strings()
+    }
+
+    /// Whether a trace, counted from 0, has a keyword. The strings are read until it is
+    /// found or passed: until a greater one stands there, or NOTE. NOTE itself is sought to
+    /// the end. Any bytes may be asked for.
     ///
     /// ```
     /// # use seg2::{Builder, Order};
@@ -95,13 +162,12 @@ impl<'a> Quick<'a> {
     /// # Ok::<(), seg2::Refusal>(())
     /// ```
     pub fn has(&self, trace: usize, keyword: &[u8]) -> Result<bool, Refusal> {
-        let answer = calls::quick_keyword(self.buffer, self.length, number(trace), keyword);
-        Ok(answer.told()?.found == 1)
+        self.part(trace).has(keyword)
     }
 
     /// The value of a trace's keyword as the buffer's own bytes, the first where it stands
-    /// several times; none where the keyword is missing.
-    /// [`Number::read`](crate::Number::read) takes it as a number.
+    /// several times; none where the keyword is missing. Strings are read as far as by
+    /// [`has`](Quick::has).
     ///
     /// ```
     /// # use seg2::{Builder, Order};
@@ -109,17 +175,59 @@ impl<'a> Quick<'a> {
     /// # shot.add_integers(b"DELAY\t-0.020\nLINE_ID\t\n", 1, &[7])?;
     /// # let bytes = shot.finish();
     /// let quick = seg2::Quick::new(&bytes);
+    /// assert_eq!(quick.value(0, b"DELAY")?, Some(&b"-0.020"[..]));
     /// assert_eq!(quick.value(0, b"LINE_ID")?, Some(&b""[..]));
     /// assert_eq!(quick.value(0, b"STACK")?, None);
-    /// let delay = quick.value(0, b"DELAY")?.unwrap_or_default();
-    /// assert_eq!(seg2::Number::read(delay)?.decimals, 3);
     /// # Ok::<(), seg2::Refusal>(())
     /// ```
     pub fn value(&self, trace: usize, keyword: &[u8]) -> Result<Option<&'a [u8]>, Refusal> {
-        let answer = calls::quick_value(self.buffer, self.length, number(trace), keyword).told()?;
-        // a no is start 0, where no value stands: not even an empty one is in the first 32 bytes
-        let end = answer.value_start + answer.value_length;
-        Ok((answer.value_start > 0).then(|| &self.buffer[answer.value_start..end]))
+        self.part(trace).value(keyword)
+    }
+
+    /// That value as a number: 20 or 21 as [`File::number`](crate::File::number).
+    ///
+    /// ```
+    /// # use seg2::{Builder, Order};
+    /// # let mut shot = Builder::start(Order::Low, 1, b"")?;
+    /// # shot.add_integers(b"DELAY\t-0.020\n", 1, &[7])?;
+    /// # let bytes = shot.finish();
+    /// let quick = seg2::Quick::new(&bytes);
+    /// assert_eq!(quick.number(0, b"DELAY")?.decimals, 3);
+    /// assert_eq!(quick.number(0, b"STACK").unwrap_err().number, 20);
+    /// # Ok::<(), seg2::Refusal>(())
+    /// ```
+    pub fn number(&self, trace: usize, keyword: &[u8]) -> Result<Number, Refusal> {
+        self.part(trace).number(keyword)
+    }
+
+    /// That value as a double: 20 to 22 as [`File::double`](crate::File::double).
+    ///
+    /// ```
+    /// # use seg2::{Builder, Order};
+    /// # let mut shot = Builder::start(Order::Low, 1, b"")?;
+    /// # shot.add_integers(b"DELAY\t-0.020\n", 1, &[7])?;
+    /// # let bytes = shot.finish();
+    /// assert_eq!(seg2::Quick::new(&bytes).double(0, b"DELAY")?, -0.02);
+    /// # Ok::<(), seg2::Refusal>(())
+    /// ```
+    pub fn double(&self, trace: usize, keyword: &[u8]) -> Result<f64, Refusal> {
+        self.part(trace).double(keyword)
+    }
+
+    /// That value as a location: 23, then 20 to 22, as
+    /// [`File::location`](crate::File::location).
+    ///
+    /// ```
+    /// # use seg2::{Builder, Order};
+    /// # let mut shot = Builder::start(Order::Low, 1, b"")?;
+    /// # shot.add_integers(b"RECEIVER_LOCATION\t4.5\n", 1, &[7])?;
+    /// # let bytes = shot.finish();
+    /// let at = seg2::Quick::new(&bytes).location(0, b"RECEIVER_LOCATION")?;
+    /// assert_eq!((at.count, at.x, at.x_decimals), (1, 4.5, 1));
+    /// # Ok::<(), seg2::Refusal>(())
+    /// ```
+    pub fn location(&self, trace: usize, keyword: &[u8]) -> Result<Location, Refusal> {
+        self.part(trace).location(keyword)
     }
 
     /// The lines of a trace's NOTE; none at all where it has none.
@@ -138,6 +246,137 @@ impl<'a> Quick<'a> {
     pub fn note(&self, trace: usize) -> Result<Lines<'a>, Refusal> {
         let value = self.value(trace, b"NOTE")?;
         Ok(Lines::of(value, self.line_terminator()))
+    }
+
+    /// The samples of codes 1 to 3; 33 for the others. Two calls: the block, then the
+    /// samples.
+    ///
+    /// ```
+    /// # use seg2::{Builder, Order};
+    /// # let mut shot = Builder::start(Order::Low, 1, b"")?;
+    /// # shot.add_integers(b"", 2, &[1, -1, 256])?;
+    /// # let bytes = shot.finish();
+    /// assert_eq!(seg2::Quick::new(&bytes).integers(0)?, [1, -1, 256]);
+    /// # Ok::<(), seg2::Refusal>(())
+    /// ```
+    pub fn integers(&self, trace: usize) -> Result<Vec<i32>, Refusal> {
+        self.integers_of(trace, self.block(trace)?)
+    }
+
+    pub(crate) fn integers_of(&self, trace: usize, block: Block) -> Result<Vec<i32>, Refusal> {
+        let mut row = vec![0; block.sample_count];
+        self.integers_into(trace, &mut row)?;
+        Ok(row)
+    }
+
+    /// The samples of codes 1 to 3 into a row of exactly S elements: 33 for another code,
+    /// 32 for another length. A refusal leaves the row as it was.
+    ///
+    /// ```
+    /// # use seg2::{Builder, Order};
+    /// # let mut shot = Builder::start(Order::Low, 1, b"")?;
+    /// # shot.add_integers(b"", 1, &[7, 8])?;
+    /// # let bytes = shot.finish();
+    /// let quick = seg2::Quick::new(&bytes);
+    /// let mut row = [0; 3];
+    /// assert_eq!(quick.integers_into(0, &mut row).unwrap_err().number, 32);
+    /// assert!(quick.integers_into(0, &mut row[..2]).is_ok());
+    /// assert_eq!(row, [7, 8, 0]);
+    /// # Ok::<(), seg2::Refusal>(())
+    /// ```
+    pub fn integers_into(&self, trace: usize, row: &mut [i32]) -> Result<(), Refusal> {
+        calls::quick_integers(self.buffer, self.length, number(trace), row).told()?;
+        Ok(())
+    }
+
+    /// The bit patterns of codes 4 and 5 with their classes; 33 for the others. Two calls:
+    /// the block, then the samples.
+    ///
+    /// ```
+    /// # use seg2::{Builder, Order};
+    /// # let mut shot = Builder::start(Order::Low, 1, b"")?;
+    /// # shot.add_bits(b"", 4, &[0x3F80_0000, 0x7F80_0000])?;
+    /// # let bytes = shot.finish();
+    /// let bits = seg2::Quick::new(&bytes).bits(0)?;
+    /// assert_eq!(bits.patterns, [0x3F80_0000, 0x7F80_0000]);
+    /// assert_eq!(bits.classes, [2, 3]);
+    /// # Ok::<(), seg2::Refusal>(())
+    /// ```
+    pub fn bits(&self, trace: usize) -> Result<Bits, Refusal> {
+        self.bits_of(trace, self.block(trace)?)
+    }
+
+    pub(crate) fn bits_of(&self, trace: usize, block: Block) -> Result<Bits, Refusal> {
+        let mut bits = Bits {
+            patterns: vec![0; block.sample_count],
+            classes: vec![0; block.sample_count],
+        };
+        self.bits_into(trace, &mut bits.patterns, &mut bits.classes)?;
+        Ok(bits)
+    }
+
+    /// The bit patterns of codes 4 and 5 and their classes into two rows of exactly S
+    /// elements: 33 for another code, 32 for another length of either. A refusal leaves
+    /// both rows as they were.
+    ///
+    /// ```
+    /// # use seg2::{Builder, Order};
+    /// # let mut shot = Builder::start(Order::Low, 1, b"")?;
+    /// # shot.add_bits(b"", 5, &[0x8000_0000_0000_0000])?;
+    /// # let bytes = shot.finish();
+    /// let (mut row, mut classes) = ([7], [7]);
+    /// seg2::Quick::new(&bytes).bits_into(0, &mut row, &mut classes)?;
+    /// assert_eq!((row, classes), ([0x8000_0000_0000_0000], [0]));
+    /// # Ok::<(), seg2::Refusal>(())
+    /// ```
+    pub fn bits_into(
+        &self,
+        trace: usize,
+        row: &mut [u64],
+        classes: &mut [u8],
+    ) -> Result<(), Refusal> {
+        calls::quick_bits(self.buffer, self.length, number(trace), row, classes).told()?;
+        Ok(())
+    }
+
+    /// The samples of any code as doubles, as [`Trace::doubles`](crate::Trace::doubles) has
+    /// them. Two calls: the block, then the samples.
+    ///
+    /// ```
+    /// # use seg2::{Builder, Order};
+    /// # let mut shot = Builder::start(Order::Low, 2, b"")?;
+    /// # shot.add_integers(b"", 1, &[-7])?;
+    /// # shot.add_bits(b"", 4, &[u64::from(0.5_f32.to_bits())])?;
+    /// # let bytes = shot.finish();
+    /// let quick = seg2::Quick::new(&bytes);
+    /// assert_eq!((quick.doubles(0)?, quick.doubles(1)?), (vec![-7.0], vec![0.5]));
+    /// # Ok::<(), seg2::Refusal>(())
+    /// ```
+    pub fn doubles(&self, trace: usize) -> Result<Vec<f64>, Refusal> {
+        self.doubles_of(trace, self.block(trace)?)
+    }
+
+    pub(crate) fn doubles_of(&self, trace: usize, block: Block) -> Result<Vec<f64>, Refusal> {
+        if block.is_integers() {
+            let integers = self.integers_of(trace, block)?.into_iter();
+            return Ok(integers.map(f64::from).collect());
+        }
+        let patterns = self.bits_of(trace, block)?.patterns.into_iter();
+        Ok(match block.code {
+            // a pattern of code 4 has 32 bits
+            code::FLOAT_32 => patterns.map(|p| f32::from_bits(p as u32).into()).collect(),
+            _ => patterns.map(f64::from_bits).collect(),
+        })
+    }
+
+    /// The trace as a part, for the questions on its strings.
+    fn part(&self, trace: usize) -> Part<'a> {
+        Part {
+            buffer: self.buffer,
+            length: self.length,
+            number: number(trace),
+            calls: &QUICK,
+        }
     }
 
     /// The characters behind the length in byte 11. To be asked behind an answer: rows 1 to 7

@@ -100,6 +100,7 @@ extern "C" {
     pub fn seg2_trace_block(answer: *mut Trace, buffer: *const u8, size: usize, length: usize, trace: i32);
     pub fn seg2_string_count(answer: *mut Count, buffer: *const u8, size: usize, length: usize, part: i32);
     pub fn seg2_string(answer: *mut Text, buffer: *const u8, size: usize, length: usize, part: i32, index: usize);
+    pub fn seg2_strings(buffer: *const u8, size: usize, length: usize, part: i32, row: *mut usize, row_size: usize) -> Verdict;
     pub fn seg2_keyword(answer: *mut Keyword, buffer: *const u8, size: usize, length: usize, part: i32, key: *const u8, key_size: usize);
     pub fn seg2_value(answer: *mut Value, buffer: *const u8, size: usize, length: usize, part: i32, key: *const u8, key_size: usize);
     pub fn seg2_number(answer: *mut Number, buffer: *const u8, size: usize, length: usize, part: i32, key: *const u8, key_size: usize);
@@ -107,8 +108,17 @@ extern "C" {
     pub fn seg2_location(answer: *mut Location, buffer: *const u8, size: usize, length: usize, part: i32, key: *const u8, key_size: usize);
     pub fn seg2_integers(buffer: *const u8, size: usize, length: usize, trace: i32, row: *mut i32, row_size: usize) -> Verdict;
     pub fn seg2_bits(buffer: *const u8, size: usize, length: usize, trace: i32, row: *mut u64, row_size: usize, classes: *mut u8, classes_size: usize) -> Verdict;
+    pub fn seg2_quick_trace_block(answer: *mut Trace, buffer: *const u8, size: usize, length: usize, trace: i32);
+    pub fn seg2_quick_string_count(answer: *mut Count, buffer: *const u8, size: usize, length: usize, trace: i32);
+    pub fn seg2_quick_string(answer: *mut Text, buffer: *const u8, size: usize, length: usize, trace: i32, index: usize);
+    pub fn seg2_quick_strings(buffer: *const u8, size: usize, length: usize, trace: i32, row: *mut usize, row_size: usize) -> Verdict;
     pub fn seg2_quick_keyword(answer: *mut Keyword, buffer: *const u8, size: usize, length: usize, trace: i32, key: *const u8, key_size: usize);
     pub fn seg2_quick_value(answer: *mut Value, buffer: *const u8, size: usize, length: usize, trace: i32, key: *const u8, key_size: usize);
+    pub fn seg2_quick_number(answer: *mut Number, buffer: *const u8, size: usize, length: usize, trace: i32, key: *const u8, key_size: usize);
+    pub fn seg2_quick_double(answer: *mut Double, buffer: *const u8, size: usize, length: usize, trace: i32, key: *const u8, key_size: usize);
+    pub fn seg2_quick_location(answer: *mut Location, buffer: *const u8, size: usize, length: usize, trace: i32, key: *const u8, key_size: usize);
+    pub fn seg2_quick_integers(buffer: *const u8, size: usize, length: usize, trace: i32, row: *mut i32, row_size: usize) -> Verdict;
+    pub fn seg2_quick_bits(buffer: *const u8, size: usize, length: usize, trace: i32, row: *mut u64, row_size: usize, classes: *mut u8, classes_size: usize) -> Verdict;
     pub fn seg2_read_number(answer: *mut Number, text: *const u8, size: usize);
     pub fn seg2_write_number(answer: *mut Length, text: *mut u8, size: usize, minus: u32, coefficient: u64, power: i32, decimals: u32);
     pub fn seg2_start(answer: *mut Length, buffer: *mut u8, size: usize, order: u32, slots: u32, sheet: *const u8, sheet_size: usize);

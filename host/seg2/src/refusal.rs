@@ -141,7 +141,7 @@ const TABLE: &[(u32, &str)] = &[
     (29, "a sample is outside what the format code can hold"),
     (30, "the result is longer than the buffer or than 67,108,864 bytes"),
     (31, "the pointer slots are not 1 to 16,383, or the byte order is not 0 or 1"),
-    (32, "the row's length is not the number of samples"),
+    (32, "the row's length is not the number of samples, or not four times the number of strings"),
     (33, "integers are asked of code 4 or 5, or bit patterns of code 1 to 3"),
     (34, "the trace's CHANNEL_NUMBER is not 1 to 32,767 in plain digits, or only one of this trace and trace 0 has it"),
     (35, "the sheet's CHANNEL_NUMBER is not 1 to 32,767 in plain digits, is missing where the file's traces have it, or there where they have none"),

@@ -1,10 +1,13 @@
-//! A trace of an accepted file, and its samples. What it is asked about its strings is
-//! `Part`'s.
+//! A trace of an accepted file: its block, its strings, its samples. What it is asked is
+//! `Quick`'s.
 
-use crate::part::Part;
-use crate::{calls, code, raw, File, Lines, Location, Number, Refusal, Strings};
+use crate::{code, raw, File, Lines, Location, Number, Pair, Quick, Refusal, Strings};
 
-/// A trace: its block, its strings, its samples.
+/// A trace of an accepted file: its block, its strings, its samples.
+///
+/// The check of the file was made when it was opened. So every question here is a quick one
+/// ([`Quick`]): it reads this trace and no other, however many there are, and no row of the
+/// check refuses it again; what is left are 20 to 23 of a value, 32 and 33 of samples.
 ///
 /// ```
 /// # use seg2::{Builder, Order};
@@ -20,15 +23,17 @@ use crate::{calls, code, raw, File, Lines, Location, Number, Refusal, Strings};
 #[derive(Clone, Copy, Debug)]
 pub struct Trace<'a> {
     file: File<'a>,
-    part: Part<'a>,
-    block: raw::Trace,
+    quick: Quick<'a>,
+    index: usize,
+    block: Block,
 }
 
 impl<'a> Trace<'a> {
-    pub(crate) fn of(file: File<'a>, number: i32, block: raw::Trace) -> Trace<'a> {
+    pub(crate) fn of(file: File<'a>, quick: Quick<'a>, index: usize, block: Block) -> Trace<'a> {
         Trace {
             file,
-            part: file.part(number),
+            quick,
+            index,
             block,
         }
     }
@@ -59,7 +64,22 @@ impl<'a> Trace<'a> {
     /// # Ok::<(), seg2::Refusal>(())
     /// ```
     pub fn index(&self) -> usize {
-        self.part.number as usize
+        self.index
+    }
+
+    /// Its block, as [`Quick::block`] answers it. Free.
+    ///
+    /// ```
+    /// # use seg2::{Builder, Order};
+    /// # let mut shot = Builder::start(Order::Low, 1, b"")?;
+    /// # shot.add_integers(b"", 2, &[7])?;
+    /// # let bytes = shot.finish();
+    /// let block = seg2::File::open(&bytes)?.trace(0)?.block();
+    /// assert_eq!((block.code, block.sample_count), (seg2::code::FIXED_32, 1));
+    /// # Ok::<(), seg2::Refusal>(())
+    /// ```
+    pub fn block(&self) -> Block {
+        self.block
     }
 
     /// The format code, 1 to 5, as in [`code`]. Free.
@@ -73,7 +93,7 @@ impl<'a> Trace<'a> {
     /// # Ok::<(), seg2::Refusal>(())
     /// ```
     pub fn code(&self) -> u32 {
-        self.block.format_code
+        self.block.code
     }
 
     /// S, the number of samples. Free.
@@ -144,7 +164,7 @@ impl<'a> Trace<'a> {
     /// ```
     pub fn data(&self) -> &'a [u8] {
         let from = self.block.start + self.block.block_size;
-        &self.part.buffer[from..from + self.block.data_size]
+        &self.file.bytes()[from..from + self.block.data_size]
     }
 
     /// How many strings its block has.
@@ -158,7 +178,7 @@ impl<'a> Trace<'a> {
     /// # Ok::<(), seg2::Refusal>(())
     /// ```
     pub fn string_count(&self) -> usize {
-        self.part.string_count()
+        self.quick.string_count(self.index).unwrap_or_default()
     }
 
     /// Keyword and value of the string with this index; none past the last.
@@ -173,12 +193,12 @@ impl<'a> Trace<'a> {
     /// assert_eq!(file.trace(0)?.string(1), None);
     /// # Ok::<(), seg2::Refusal>(())
     /// ```
-    pub fn string(&self, index: usize) -> Option<(&'a [u8], &'a [u8])> {
-        self.part.string(index)
+    pub fn string(&self, index: usize) -> Option<Pair<'a>> {
+        self.quick.string(self.index, index).unwrap_or_default()
     }
 
-    /// Keyword and value of each string of its block, in order. One call for each, and
-    /// one more at the end.
+    /// Keyword and value of each string of its block, in order. Two calls, however many
+    /// strings there are.
     ///
     /// ```
     /// # use seg2::{Builder, Order};
@@ -191,7 +211,7 @@ impl<'a> Trace<'a> {
     /// # Ok::<(), seg2::Refusal>(())
     /// ```
     pub fn strings(&self) -> Strings<'a> {
-        self.part.strings()
+        self.quick.strings(self.index).unwrap_or_default()
     }
 
     /// Whether its block has a keyword.
@@ -205,7 +225,7 @@ impl<'a> Trace<'a> {
     /// # Ok::<(), seg2::Refusal>(())
     /// ```
     pub fn has(&self, keyword: &[u8]) -> bool {
-        self.part.has(keyword)
+        self.quick.has(self.index, keyword).unwrap_or_default()
     }
 
     /// The value of a keyword as the buffer's own bytes; none where the keyword is
@@ -229,7 +249,7 @@ impl<'a> Trace<'a> {
     /// # Ok::<(), seg2::Refusal>(())
     /// ```
     pub fn value(&self, keyword: &[u8]) -> Option<&'a [u8]> {
-        self.part.value(keyword)
+        self.quick.value(self.index, keyword).unwrap_or_default()
     }
 
     /// The value of a keyword as a number; refusals as [`File::number`].
@@ -243,7 +263,7 @@ impl<'a> Trace<'a> {
     /// # Ok::<(), seg2::Refusal>(())
     /// ```
     pub fn number(&self, keyword: &[u8]) -> Result<Number, Refusal> {
-        self.part.number(keyword)
+        self.quick.number(self.index, keyword)
     }
 
     /// The value of a keyword as a double; refusals as [`File::double`].
@@ -257,7 +277,7 @@ impl<'a> Trace<'a> {
     /// # Ok::<(), seg2::Refusal>(())
     /// ```
     pub fn double(&self, keyword: &[u8]) -> Result<f64, Refusal> {
-        self.part.double(keyword)
+        self.quick.double(self.index, keyword)
     }
 
     /// The value of a keyword as a location; refusals as [`File::location`].
@@ -272,7 +292,7 @@ impl<'a> Trace<'a> {
     /// # Ok::<(), seg2::Refusal>(())
     /// ```
     pub fn location(&self, keyword: &[u8]) -> Result<Location, Refusal> {
-        self.part.location(keyword)
+        self.quick.location(self.index, keyword)
     }
 
     /// The lines of its NOTE; none at all where it has none.
@@ -287,7 +307,7 @@ impl<'a> Trace<'a> {
     /// # Ok::<(), seg2::Refusal>(())
     /// ```
     pub fn note(&self) -> Lines<'a> {
-        self.part.note(self.file.line_terminator())
+        Lines::of(self.value(b"NOTE"), self.file.line_terminator())
     }
 
     /// Whether its samples are read as integers (codes 1 to 3) and not as bit patterns. Free.
@@ -301,7 +321,7 @@ impl<'a> Trace<'a> {
     /// # Ok::<(), seg2::Refusal>(())
     /// ```
     pub fn is_integers(&self) -> bool {
-        code::is_integers(self.block.format_code)
+        self.block.is_integers()
     }
 
     /// The samples of codes 1 to 3; 33 for the others.
@@ -315,9 +335,7 @@ impl<'a> Trace<'a> {
     /// # Ok::<(), seg2::Refusal>(())
     /// ```
     pub fn integers(&self) -> Result<Vec<i32>, Refusal> {
-        let mut row = vec![0; self.block.sample_count];
-        self.integers_into(&mut row)?;
-        Ok(row)
+        self.quick.integers_of(self.index, self.block)
     }
 
     /// The samples of codes 1 to 3 into a row of exactly S elements: 33 for another code,
@@ -336,9 +354,7 @@ impl<'a> Trace<'a> {
     /// # Ok::<(), seg2::Refusal>(())
     /// ```
     pub fn integers_into(&self, row: &mut [i32]) -> Result<(), Refusal> {
-        let part = self.part;
-        calls::integers(part.buffer, part.length, part.number, row).told()?;
-        Ok(())
+        self.quick.integers_into(self.index, row)
     }
 
     /// The bit patterns of codes 4 and 5 with their classes; 33 for the others.
@@ -354,12 +370,7 @@ impl<'a> Trace<'a> {
     /// # Ok::<(), seg2::Refusal>(())
     /// ```
     pub fn bits(&self) -> Result<Bits, Refusal> {
-        let mut bits = Bits {
-            patterns: vec![0; self.block.sample_count],
-            classes: vec![0; self.block.sample_count],
-        };
-        self.bits_into(&mut bits.patterns, &mut bits.classes)?;
-        Ok(bits)
+        self.quick.bits_of(self.index, self.block)
     }
 
     /// The bit patterns of codes 4 and 5 and their classes into two rows of exactly S
@@ -377,9 +388,7 @@ impl<'a> Trace<'a> {
     /// # Ok::<(), seg2::Refusal>(())
     /// ```
     pub fn bits_into(&self, row: &mut [u64], classes: &mut [u8]) -> Result<(), Refusal> {
-        let part = self.part;
-        calls::bits(part.buffer, part.length, part.number, row, classes).told()?;
-        Ok(())
+        self.quick.bits_into(self.index, row, classes)
     }
 
     /// The samples of any code as doubles, for a plot. Exact but for one thing: a "not a
@@ -397,19 +406,63 @@ impl<'a> Trace<'a> {
     /// # Ok::<(), seg2::Refusal>(())
     /// ```
     pub fn doubles(&self) -> Result<Vec<f64>, Refusal> {
-        if self.is_integers() {
-            return Ok(self.integers()?.into_iter().map(f64::from).collect());
-        }
-        let patterns = self.bits()?.patterns.into_iter();
-        Ok(match self.block.format_code {
-            // a pattern of code 4 has 32 bits
-            code::FLOAT_32 => patterns.map(|p| f32::from_bits(p as u32).into()).collect(),
-            _ => patterns.map(f64::from_bits).collect(),
-        })
+        self.quick.doubles_of(self.index, self.block)
     }
 }
 
-/// Samples of codes 4 and 5: [`Trace::bits`].
+/// A trace block: [`Quick::block`] and [`Trace::block`].
+///
+/// ```
+/// # use seg2::{Builder, Order};
+/// # let mut shot = Builder::start(Order::Low, 1, b"UNITS\tMETERS\n")?;
+/// # shot.add_integers(b"STACK\t1\n", 1, &[1, -1, 256])?;
+/// # let bytes = shot.finish();
+/// let block = seg2::Quick::new(&bytes).block(0)?;
+/// assert_eq!((block.start, block.block_size, block.data_size), (56, 44, 8));
+/// assert_eq!((block.sample_count, block.code), (3, seg2::code::FIXED_16));
+/// # Ok::<(), seg2::Refusal>(())
+/// ```
+#[derive(Clone, Copy, Debug, PartialEq, Eq)]
+pub struct Block {
+    /// Where it starts in the file.
+    pub start: usize,
+    /// B, its size, strings included.
+    pub block_size: usize,
+    /// D, the size of the data behind it.
+    pub data_size: usize,
+    /// S, the number of samples.
+    pub sample_count: usize,
+    /// The format code, 1 to 5, as in [`code`].
+    pub code: u32,
+}
+
+impl Block {
+    /// Whether the samples are read as integers (codes 1 to 3) and not as bit patterns.
+    ///
+    /// ```
+    /// # use seg2::{Builder, Order};
+    /// # let mut shot = Builder::start(Order::Low, 1, b"")?;
+    /// # shot.add_bits(b"", 4, &[0x3F80_0000])?;
+    /// # let bytes = shot.finish();
+    /// assert!(!seg2::Quick::new(&bytes).block(0)?.is_integers());
+    /// # Ok::<(), seg2::Refusal>(())
+    /// ```
+    pub fn is_integers(&self) -> bool {
+        code::is_integers(self.code)
+    }
+
+    pub(crate) fn of(answer: raw::Trace) -> Block {
+        Block {
+            start: answer.start,
+            block_size: answer.block_size,
+            data_size: answer.data_size,
+            sample_count: answer.sample_count,
+            code: answer.format_code,
+        }
+    }
+}
+
+/// Samples of codes 4 and 5: [`Trace::bits`] and [`Quick::bits`].
 ///
 /// ```
 /// # use seg2::{Builder, Order};

@@ -31,10 +31,41 @@ static void told_number(const char *what, struct seg2_number a) {
     printf(" minus %u %lu E %d decimals %u\n", (unsigned)a.minus, (unsigned long)a.coefficient, (int)a.power, (unsigned)a.decimals);
 }
 
-static void told_location(struct seg2_location a) {
-    refusal("location", a.number, a.part, a.place);
+static void told_location(const char *what, struct seg2_location a) {
+    refusal(what, a.number, a.part, a.place);
     printf(" count %u %g %g %g decimals %u %u %u\n", (unsigned)a.count, a.x, a.y, a.z, (unsigned)a.x_decimals, (unsigned)a.y_decimals,
            (unsigned)a.z_decimals);
+}
+
+static void told_trace(const char *what, seg2_trace a) {
+    refusal(what, a.number, a.part, a.place);
+    printf(" p %lu B %lu D %lu S %lu code %u\n", (unsigned long)a.start, (unsigned long)a.block_size, (unsigned long)a.data_size,
+           (unsigned long)a.sample_count, (unsigned)a.format_code);
+}
+
+static void told_count(const char *what, seg2_count a) {
+    refusal(what, a.number, a.part, a.place);
+    printf(" %lu\n", (unsigned long)a.count);
+}
+
+static void told_string(const char *what, struct seg2_string a) {
+    refusal(what, a.number, a.part, a.place);
+    printf(" found %u '%.*s' '%.*s'\n", (unsigned)a.found, (int)a.key_length, (const char *)buffer + a.key_start, (int)a.value_length,
+           (const char *)buffer + a.value_start);
+}
+
+static void told_double(const char *what, struct seg2_double a) {
+    refusal(what, a.number, a.part, a.place);
+    printf(" %g\n", a.value);
+}
+
+static void told_patterns(const uint64_t *row, const uint8_t *classes) {
+    printf("row %016lX %u %016lX %u\n", (unsigned long)row[0], (unsigned)classes[0], (unsigned long)row[1], (unsigned)classes[1]);
+}
+
+/* The four places of one string. */
+static void told_places(const size_t *row) {
+    printf("places %lu %lu %lu %lu\n", (unsigned long)row[0], (unsigned long)row[1], (unsigned long)row[2], (unsigned long)row[3]);
 }
 
 static size_t told_length(const char *what, seg2_length a) {
@@ -47,6 +78,7 @@ static size_t told_length(const char *what, seg2_length a) {
 static void ask(size_t length) {
     const size_t size = sizeof buffer;
     int32_t row[3] = {7, 7, 7};
+    size_t places[4] = {7, 7, 7, 7};
     seg2_file file;
     seg2_trace trace;
     seg2_count count;
@@ -65,23 +97,21 @@ static void ask(size_t length) {
            (unsigned long)file.trace_count, (unsigned long)file.string_terminator_size, (unsigned long)file.line_terminator_size);
 
     seg2_trace_block(&trace, buffer, size, length, 0);
-    refusal("trace", trace.number, trace.part, trace.place);
-    printf(" p %lu B %lu D %lu S %lu code %u\n", (unsigned long)trace.start, (unsigned long)trace.block_size,
-           (unsigned long)trace.data_size, (unsigned long)trace.sample_count, (unsigned)trace.format_code);
+    told_trace("trace", trace);
 
     seg2_string_count(&count, buffer, size, length, -1);
-    refusal("count", count.number, count.part, count.place);
-    printf(" %lu\n", (unsigned long)count.count);
+    told_count("count", count);
 
     seg2_string(&string, buffer, size, length, -1, 0);
-    refusal("string", string.number, string.part, string.place);
-    printf(" found %u '%.*s' '%.*s'\n", (unsigned)string.found, (int)string.key_length, (const char *)buffer + string.key_start,
-           (int)string.value_length, (const char *)buffer + string.value_start);
+    told_string("string", string);
 
     string = seg2_string_of(buffer, size, length, -1, 1);
     refusal("string past the last", string.number, string.part, string.place);
     printf(" found %u %lu %lu %lu %lu\n", (unsigned)string.found, (unsigned long)string.key_start, (unsigned long)string.key_length,
            (unsigned long)string.value_start, (unsigned long)string.value_length);
+
+    told_verdict("strings", seg2_strings(buffer, size, length, -1, places, 4));
+    told_places(places);
 
     seg2_keyword(&keyword, buffer, size, length, 0, bytes("STACK"), 5);
     refusal("keyword", keyword.number, keyword.part, keyword.place);
@@ -100,11 +130,10 @@ static void ask(size_t length) {
     told_number("number", number);
 
     seg2_double(&twice, buffer, size, length, 0, bytes("STACK"), 5);
-    refusal("double", twice.number, twice.part, twice.place);
-    printf(" %g\n", twice.value);
+    told_double("double", twice);
 
     seg2_location(&location, buffer, size, length, 0, bytes("STACK"), 5);
-    told_location(location);
+    told_location("location", location);
 
     told_verdict("integers", seg2_integers(buffer, size, length, 0, row, 3));
     printf("row %d %d %d\n", (int)row[0], (int)row[1], (int)row[2]);
@@ -116,6 +145,7 @@ static void ask_wrongly(size_t length) {
     int32_t row[4] = {7, 7, 7, 7};
     uint64_t patterns[3] = {7, 7, 7};
     uint8_t classes[3] = {7, 7, 7};
+    size_t places[8] = {7, 7, 7, 7, 7, 7, 7, 7};
     struct seg2_value value;
     struct seg2_number number = seg2_number_of(buffer, size, length, -1, bytes("UNITS"), 5);
     struct seg2_double twice = seg2_double_of(buffer, size, length, -1, bytes("UNITS"), 5);
@@ -138,6 +168,9 @@ static void ask_wrongly(size_t length) {
     told_verdict("no such trace", seg2_integers(buffer, size, length, 1, row, 3));
     told_verdict("bits of code 1", seg2_bits(buffer, size, length, 0, patterns, 3, classes, 3));
     printf("row %d %d %d %d, %lu %u\n", (int)row[0], (int)row[1], (int)row[2], (int)row[3], (unsigned long)patterns[0], (unsigned)classes[0]);
+    told_verdict("places for two strings", seg2_strings(buffer, size, length, -1, places, 8));
+    told_verdict("places of no part", seg2_strings(buffer, size, length, 1, places, 4));
+    told_places(places);
     printf("%s\n", memcmp(before, buffer, size) == 0 ? "unchanged" : "changed");
 }
 
@@ -147,33 +180,80 @@ static void told_quickly(const char *what, size_t length, int32_t trace, const c
     printf(" '%.*s' at %lu\n", (int)value.value_length, (const char *)buffer + value.value_start, (unsigned long)value.value_start);
 }
 
+/* Every quick question on a trace of integers with the one string STACK, each answer written to its place. */
+static void quickly_all(size_t length, int32_t of) {
+    const size_t size = sizeof buffer;
+    int32_t row[3] = {7, 7, 7};
+    size_t places[4] = {7, 7, 7, 7};
+    seg2_trace trace;
+    seg2_count count;
+    struct seg2_string string;
+    struct seg2_keyword keyword;
+    struct seg2_value value;
+    struct seg2_number number;
+    struct seg2_double twice;
+    struct seg2_location location;
+
+    seg2_quick_trace_block(&trace, buffer, size, length, of);
+    told_trace("quick trace", trace);
+    seg2_quick_string_count(&count, buffer, size, length, of);
+    told_count("quick count", count);
+    seg2_quick_string(&string, buffer, size, length, of, 0);
+    told_string("quick string", string);
+    told_verdict("quick strings", seg2_quick_strings(buffer, size, length, of, places, 4));
+    told_places(places);
+    seg2_quick_keyword(&keyword, buffer, size, length, of, bytes("STACK"), 5);
+    refusal("quick keyword", keyword.number, keyword.part, keyword.place);
+    printf(" found %u\n", (unsigned)keyword.found);
+    seg2_quick_value(&value, buffer, size, length, of, bytes("STACK"), 5);
+    refusal("quick value", value.number, value.part, value.place);
+    printf(" '%.*s' at %lu\n", (int)value.value_length, (const char *)buffer + value.value_start, (unsigned long)value.value_start);
+    seg2_quick_number(&number, buffer, size, length, of, bytes("STACK"), 5);
+    told_number("quick number", number);
+    seg2_quick_double(&twice, buffer, size, length, of, bytes("STACK"), 5);
+    told_double("quick double", twice);
+    seg2_quick_location(&location, buffer, size, length, of, bytes("STACK"), 5);
+    told_location("quick location", location);
+    told_verdict("quick integers", seg2_quick_integers(buffer, size, length, of, row, 3));
+    printf("row %d %d %d\n", (int)row[0], (int)row[1], (int)row[2]);
+}
+
 /* document 02, section 5: one trace of a file that nobody has checked */
 static void quickly(size_t length) {
     const size_t size = sizeof buffer;
+    int32_t row[4] = {7, 7, 7, 7};
+    uint64_t patterns[3] = {7, 7, 7};
+    uint8_t classes[3] = {7, 7, 7};
+    size_t places[5] = {7, 7, 7, 7, 7};
     struct seg2_keyword keyword;
-    struct seg2_value value;
 
-    seg2_quick_keyword(&keyword, buffer, size, length, 0, bytes("STACK"), 5);
-    refusal("quick keyword", keyword.number, keyword.part, keyword.place);
-    printf(" found %u\n", (unsigned)keyword.found);
+    quickly_all(length, 0);
+    quickly_all(length, 1);
     keyword = seg2_quick_keyword_of(buffer, size, length, 0, bytes(""), 0);
     refusal("no quick keyword", keyword.number, keyword.part, keyword.place);
     printf(" found %u\n", (unsigned)keyword.found);
-    seg2_quick_value(&value, buffer, size, length, 0, bytes("STACK"), 5);
-    refusal("quick value", value.number, value.part, value.place);
-    printf(" '%.*s' at %lu\n", (int)value.value_length, (const char *)buffer + value.value_start, (unsigned long)value.value_start);
     told_quickly("a quick no", length, 0, "DELAY");
-    told_quickly("quick trace 1", length, 1, "STACK");
     told_quickly("quick trace -1", length, -1, "UNITS");
     told_quickly("quick over the buffer", size + 1, 0, "STACK");
+    told_trace("quick block of trace -1", seg2_quick_trace_block_of(buffer, size, length, -1));
+    told_count("quick count of trace -1", seg2_quick_string_count_of(buffer, size, length, -1));
+    told_string("quick string past the last", seg2_quick_string_of(buffer, size, length, 0, 1));
+    told_number("no quick number", seg2_quick_number_of(buffer, size, length, 0, bytes("DELAY"), 5));
+    told_double("no quick double", seg2_quick_double_of(buffer, size, length, 0, bytes("DELAY"), 5));
+    told_location("no quick location", seg2_quick_location_of(buffer, size, length, 0, bytes("DELAY"), 5));
+    told_verdict("a quick row of 4", seg2_quick_integers(buffer, size, length, 0, row, 4));
+    told_verdict("quick bits of code 1", seg2_quick_bits(buffer, size, length, 0, patterns, 3, classes, 3));
+    told_verdict("5 quick places", seg2_quick_strings(buffer, size, length, 0, places, 5));
+    printf("row %d %lu %u\n", (int)row[0], (unsigned long)patterns[0], (unsigned)classes[0]);
+    told_places(places);
 
-    /* a small letter in the file's own keyword is not looked at, one in the trace's is */
+    /* a small letter in the file's own keyword is not looked at, one in the trace's is, but where no string is asked for */
     buffer[38] = 'u';
     told_verdict("check", seg2_check(buffer, size, length));
-    told_quickly("quick value", length, 0, "STACK");
+    quickly_all(length, 0);
     buffer[38] = 'U';
     buffer[90] = 's';
-    told_quickly("quick value", length, 0, "STACK");
+    quickly_all(length, 0);
     buffer[90] = 'S';
     printf("%s\n", memcmp(before, buffer, size) == 0 ? "unchanged" : "changed");
 }
@@ -282,8 +362,14 @@ int main(void) {
     told_verdict("integers 3", seg2_integers(buffer, size, length, 0, row, 4));
     printf("row %d %d %d %d\n", (int)row[0], (int)row[1], (int)row[2], (int)row[3]);
     told_verdict("bits", seg2_bits(buffer, size, length, 1, patterns, 2, classes, 2));
-    printf("row %016lX %u %016lX %u\n", (unsigned long)patterns[0], (unsigned)classes[0], (unsigned long)patterns[1], (unsigned)classes[1]);
-    told_location(seg2_location_of(buffer, size, length, 0, bytes("RECEIVER_LOCATION"), 17));
+    told_patterns(patterns, classes);
+    memset(patterns, 7, sizeof patterns);
+    memset(classes, 7, sizeof classes);
+    told_verdict("quick bits", seg2_quick_bits(buffer, size, length, 1, patterns, 2, classes, 2));
+    told_patterns(patterns, classes);
+    told_count("no quick strings", seg2_quick_string_count_of(buffer, size, length, 1));
+    told_location("location", seg2_location_of(buffer, size, length, 0, bytes("RECEIVER_LOCATION"), 17));
+    told_location("quick location", seg2_quick_location_of(buffer, size, length, 0, bytes("RECEIVER_LOCATION"), 17));
     numbers_and_texts();
 
     /* a lower-case letter in trace 0's keyword, in words */

@@ -19,6 +19,8 @@ trace: 0 -1 0 p 56 B 44 D 8 S 3 code 1
 count: 0 -1 0 1
 string: 0 -1 0 found 1 'UNITS' 'METERS'
 string past the last: 0 -1 0 found 0 0 0 0 0
+strings: 0 -1 0
+places 38 5 44 6
 keyword: 0 -1 0 found 1
 no keyword: 0 -1 0 found 0
 value: 0 -1 0 'METERS' at 44
@@ -38,17 +40,74 @@ a row of 4: 32 -1 0
 no such trace: 18 -1 0
 bits of code 1: 33 -1 0
 row 7 7 7 7, 7 7
+places for two strings: 32 -1 0
+places of no part: 18 -1 0
+places 7 7 7 7
 unchanged
+quick trace: 0 -1 0 p 56 B 44 D 8 S 3 code 1
+quick count: 0 -1 0 1
+quick string: 0 -1 0 found 1 'STACK' '1'
+quick strings: 0 -1 0
+places 90 5 96 1
 quick keyword: 0 -1 0 found 1
-no quick keyword: 0 -1 0 found 0
 quick value: 0 -1 0 '1' at 96
+quick number: 0 -1 0 minus 0 1 E 0 decimals 0
+quick double: 0 -1 0 1
+quick location: 0 -1 0 count 1 1 0 0 decimals 0 0 0
+quick integers: 0 -1 0
+row 1 -1 256
+quick trace: 18 -1 0 p 0 B 0 D 0 S 0 code 0
+quick count: 18 -1 0 0
+quick string: 18 -1 0 found 0 '' ''
+quick strings: 18 -1 0
+places 7 7 7 7
+quick keyword: 18 -1 0 found 0
+quick value: 18 -1 0 '' at 0
+quick number: 18 -1 0 minus 0 0 E 0 decimals 0
+quick double: 18 -1 0 0
+quick location: 18 -1 0 count 0 0 0 0 decimals 0 0 0
+quick integers: 18 -1 0
+row 7 7 7
+no quick keyword: 0 -1 0 found 0
 a quick no: 0 -1 0 '' at 0
-quick trace 1: 18 -1 0 '' at 0
 quick trace -1: 18 -1 0 '' at 0
 quick over the buffer: 1 -1 0 '' at 0
+quick block of trace -1: 18 -1 0 p 0 B 0 D 0 S 0 code 0
+quick count of trace -1: 18 -1 0 0
+quick string past the last: 0 -1 0 found 0 '' ''
+no quick number: 20 -1 0 minus 0 0 E 0 decimals 0
+no quick double: 20 -1 0 0
+no quick location: 23 -1 0 count 0 0 0 0 decimals 0 0 0
+a quick row of 4: 32 -1 0
+quick bits of code 1: 33 -1 0
+5 quick places: 32 -1 0
+row 7 7 7
+places 7 7 7 7
 check: 16 -1 36
+quick trace: 0 -1 0 p 56 B 44 D 8 S 3 code 1
+quick count: 0 -1 0 1
+quick string: 0 -1 0 found 1 'STACK' '1'
+quick strings: 0 -1 0
+places 90 5 96 1
+quick keyword: 0 -1 0 found 1
 quick value: 0 -1 0 '1' at 96
+quick number: 0 -1 0 minus 0 1 E 0 decimals 0
+quick double: 0 -1 0 1
+quick location: 0 -1 0 count 1 1 0 0 decimals 0 0 0
+quick integers: 0 -1 0
+row 1 -1 256
+quick trace: 0 -1 0 p 56 B 44 D 8 S 3 code 1
+quick count: 16 0 88 0
+quick string: 16 0 88 found 0 '' ''
+quick strings: 16 0 88
+places 7 7 7 7
+quick keyword: 16 0 88 found 0
 quick value: 16 0 88 '' at 0
+quick number: 16 0 88 minus 0 0 E 0 decimals 0
+quick double: 16 0 88 0
+quick location: 16 0 88 count 0 0 0 0 decimals 0 0 0
+quick integers: 0 -1 0
+row 1 -1 256
 unchanged
 no slot: 24 -1 0 length 0
 no order: 31 -1 0 length 0
@@ -65,7 +124,11 @@ integers 3: 0 -1 0
 row 100000 -32768 1073709056 20
 bits: 0 -1 0
 row 7FF0000000000000 3 8000000000000000 0
+quick bits: 0 -1 0
+row 7FF0000000000000 3 8000000000000000 0
+no quick strings: 0 -1 0 0
 location: 0 -1 0 count 3 1 -2.5 3 decimals 0 1 2
+quick location: 0 -1 0 count 3 1 -2.5 3 decimals 0 1 2
 typed: 0 -1 0 minus 0 250 E -3 decimals 3
 text: 0 -1 0 length 5
 '0.250' then _
@@ -239,14 +302,41 @@ fn the_first_lines_of_c_in_the_docs_work() {
     assert_eq!(told, "accepted, 200 bytes\nMETERS\n");
 }
 
-#[test]
-fn the_lines_on_numbers_in_the_docs_work() {
-    // they stand in a program of the reader's own; the first lines have what goes before it
+/// What goes before a program of the reader's own: the first lines have it.
+fn before() -> String {
     let first = lines_of_c(0);
     let (before, _) = first.split_once("static").expect("a program");
-    let program = format!(
-        "{before}int main(void) {{\n{}return 0;\n}}\n",
-        lines_of_c(1)
-    );
+    before.to_string()
+}
+
+#[test]
+fn the_lines_on_numbers_in_the_docs_work() {
+    let (before, lines) = (before(), lines_of_c(1));
+    let program = format!("{before}int main(void) {{\n{lines}return 0;\n}}\n");
     assert_eq!(printed_by("numbers", &program), "0.250\n");
+}
+
+#[test]
+fn the_lines_on_one_trace_in_the_docs_work() {
+    let (before, value, list) = (before(), lines_of_c(2), lines_of_c(3));
+    // the page asks the last of 2,000 traces, which are two here
+    let value = value.replace(" 1999,", " 1,");
+    let program = format!(
+        "{before}{list}
+        int main(void) {{
+            static uint8_t buffer[400];
+            const size_t size = sizeof buffer;
+            const int32_t row[1] = {{1}};
+            size_t length = seg2_start_of(buffer, size, SEG2_LOW_FIRST, 2, TEXT(\"UNITS\\tMETERS\\n\")).length;
+            length = seg2_add_integers_of(buffer, size, length, TEXT(\"DELAY\\t0\\nSTACK\\t4\\n\"), SEG2_FIXED_16, row, 1).length;
+            length = seg2_add_integers_of(buffer, size, length, TEXT(\"STACK\\t8\\n\"), SEG2_FIXED_16, row, 1).length;
+            {value}
+            printf(\"%.*s\\n\", (int)stack.value_length, (const char *)buffer + stack.value_start);
+            list(buffer, size, length);
+            list(buffer, size, length - 1);
+            return 0;
+        }}\n"
+    );
+    let told = printed_by("one-trace", &program);
+    assert_eq!(told, "8\n0 DELAY=0\n0 STACK=4\n1 STACK=8\n");
 }

@@ -38,14 +38,30 @@ fn blanks(text: &[u8]) -> usize {
     text.iter().take_while(|&&c| is_separator(c)).count()
 }
 
-/// The three answers to a keyword of a part. Doubles are compared by their bits, so that
-/// -0 is not 0.
+/// The three answers to a keyword of a part.
 fn asked(bytes: &[u8], part: i32) -> Told {
     let n = bytes.len();
-    let d = calls::double(bytes, n, part, b"V");
-    let l = calls::location(bytes, n, part, b"V");
+    answers(
+        calls::number(bytes, n, part, b"V"),
+        calls::double(bytes, n, part, b"V"),
+        calls::location(bytes, n, part, b"V"),
+    )
+}
+
+/// The same of the only trace, without a check of the file.
+fn asked_quickly(bytes: &[u8]) -> Told {
+    let n = bytes.len();
+    answers(
+        calls::quick_number(bytes, n, 0, b"V"),
+        calls::quick_double(bytes, n, 0, b"V"),
+        calls::quick_location(bytes, n, 0, b"V"),
+    )
+}
+
+/// Doubles are compared by their bits, so that -0 is not 0.
+fn answers(number: raw::Number, d: raw::Double, l: raw::Location) -> Told {
     Told {
-        number: calls::number(bytes, n, part, b"V"),
+        number,
         double: (d.number, d.part, d.place, d.value.to_bits()),
         location: (
             l.number,
@@ -124,15 +140,13 @@ fn same(found: &Told, expected: &Told, text: &[u8]) {
 
 /// What the face answers to a text as a value: the reference's answers to the bytes
 /// behind the separators, in both parts. A text that no file holds is refused by 16, at
-/// the string's own place, whatever is asked.
+/// the string's own place, whatever is asked: the file's, which comes first, or by a quick
+/// question the trace's.
 fn agree(text: &[u8]) -> Told {
     let bytes = file(text);
     let value = &text[blanks(text)..];
-    let expected = match is_forbidden(text) {
-        true => {
-            let refusal = Refusal::file(16, 36);
-            expected(Err(refusal), Err(refusal), Err(refusal))
-        }
+    let or_refused = |refusal| match is_forbidden(text) {
+        true => expected(Err(refusal), Err(refusal), Err(refusal)),
         false => expected(
             reference::number(value),
             reference::double(value),
@@ -141,9 +155,13 @@ fn agree(text: &[u8]) -> Told {
     };
     let checked = reference::check(&bytes, bytes.len());
     assert_eq!(checked.is_err(), is_forbidden(text));
+    let expected = or_refused(Refusal::file(16, 36));
     for part in [-1, 0] {
         same(&asked(&bytes, part), &expected, text);
     }
+    let pointer = u32::from_le_bytes(bytes[32..36].try_into().expect("4 bytes"));
+    let in_trace = Refusal::new(16, 0, pointer as usize + 32);
+    same(&asked_quickly(&bytes), &or_refused(in_trace), text);
     by_itself(text);
     asked(&bytes, -1)
 }

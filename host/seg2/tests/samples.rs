@@ -198,7 +198,8 @@ impl Met {
 }
 
 /// Every code, also what is none, both orders, and blocks about as long as needed.
-/// After a refusal the row is as it was.
+/// After a refusal the row is as it was. The file has one trace, and only that can be
+/// wrong, so the quick question is refused alike.
 #[test]
 fn integers_read() {
     let mut rng = Rng::new(51);
@@ -215,11 +216,13 @@ fn integers_read() {
         for order in ORDERS {
             let bytes = file(order, code, count, &block);
             let mut row: Vec<i32> = (0..rows).map(|_| rng.bits() as i32).collect();
-            let mut expected = row.clone();
+            let (mut expected, mut quick) = (row.clone(), row.clone());
             let answer = calls::integers(&bytes, bytes.len(), 0, &mut row);
             let told = reference::samples_as_integers(&bytes, bytes.len(), 0, &mut expected);
             assert_eq!(answer, verdict(told), "{code} {count} {length}");
             assert_eq!(row, expected, "{code} {order:?}");
+            let quickly = calls::quick_integers(&bytes, bytes.len(), 0, &mut quick);
+            assert_eq!((quickly, quick), (answer, row), "{code} {order:?}");
             met.count(code, answer.number == 0);
         }
     }
@@ -242,11 +245,15 @@ fn bits_read() {
             let mut row: Vec<u64> = (0..rows).map(|_| rng.bits()).collect();
             let mut classes: Vec<u8> = (0..class_rows).map(|_| rng.byte()).collect();
             let mut expected = (row.clone(), classes.clone());
+            let mut quick = expected.clone();
             let answer = calls::bits(&bytes, bytes.len(), 0, &mut row, &mut classes);
             let (to, class_to) = (&mut expected.0, &mut expected.1);
             let told = reference::samples_as_bits(&bytes, bytes.len(), 0, to, class_to);
             assert_eq!(answer, verdict(told), "{code} {count} {length}");
             assert_eq!((row, classes), expected, "{code} {order:?}");
+            let (to, class_to) = (&mut quick.0, &mut quick.1);
+            let quickly = calls::quick_bits(&bytes, bytes.len(), 0, to, class_to);
+            assert_eq!((quickly, quick), (answer, expected), "{code} {order:?}");
             met.count(code, answer.number == 0);
         }
     }

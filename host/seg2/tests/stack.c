@@ -16,7 +16,7 @@
 #include <ucontext.h>
 #include <unistd.h>
 
-enum { STACK = 32 * 1024, PAINT = 0xA5, TRACES = 1500, SAMPLES = 4000, LARGE = 16 * 1024 * 1024 };
+enum { STACK = 32 * 1024, PAINT = 0xA5, TRACES = 1500, SAMPLES = 4000, STRINGS = 3500, LARGE = 16 * 1024 * 1024 };
 
 static uint8_t *region; /* the lowest byte of the stack */
 static ucontext_t caller, callee;
@@ -55,6 +55,7 @@ static int32_t integers[SAMPLES];
 static uint64_t patterns[SAMPLES];
 static uint8_t classes[SAMPLES];
 static size_t samples;
+static size_t places[4 * (STRINGS + 1)];
 static uint32_t order = SEG2_HIGH_FIRST, code_of_integers, code_of_bits;
 static int32_t part;
 static const uint8_t key[] = "NOTE";
@@ -65,11 +66,18 @@ static seg2_count count;
 static struct seg2_string string;
 static struct seg2_keyword keyword;
 static struct seg2_value value;
-static struct seg2_keyword quick_keyword;
-static struct seg2_value quick_value;
 static struct seg2_number number;
 static struct seg2_double twice;
 static struct seg2_location location;
+static seg2_verdict quick_verdict;
+static seg2_trace quick_trace;
+static seg2_count quick_count;
+static struct seg2_string quick_string;
+static struct seg2_keyword quick_keyword;
+static struct seg2_value quick_value;
+static struct seg2_number quick_number;
+static struct seg2_double quick_twice;
+static struct seg2_location quick_location;
 static seg2_length written;
 /* the number whose text has the most bytes, and its text as a user types it: every part of a number is there */
 static const uint8_t typed[] = "-1.23456789012345678E-99";
@@ -83,6 +91,7 @@ static void call_file_block(void) { seg2_file_block(&file, buffer, size, length)
 static void call_trace_block(void) { seg2_trace_block(&trace, buffer, size, length, 0); }
 static void call_string_count(void) { seg2_string_count(&count, buffer, size, length, part); }
 static void call_string(void) { seg2_string(&string, buffer, size, length, part, count.count - 1); }
+static void call_strings(void) { verdict = seg2_strings(buffer, size, length, part, places, 4 * count.count); }
 static void call_keyword(void) { seg2_keyword(&keyword, buffer, size, length, part, key, 4); }
 static void call_value(void) { seg2_value(&value, buffer, size, length, part, key, 4); }
 static void call_number(void) { seg2_number(&number, buffer, size, length, part, key, 4); }
@@ -90,8 +99,17 @@ static void call_double(void) { seg2_double(&twice, buffer, size, length, part, 
 static void call_location(void) { seg2_location(&location, buffer, size, length, part, key, 4); }
 static void call_integers(void) { verdict = seg2_integers(buffer, size, length, 0, integers, samples); }
 static void call_bits(void) { verdict = seg2_bits(buffer, size, length, 1, patterns, samples, classes, samples); }
+static void call_quick_trace_block(void) { seg2_quick_trace_block(&quick_trace, buffer, size, length, 0); }
+static void call_quick_string_count(void) { seg2_quick_string_count(&quick_count, buffer, size, length, 0); }
+static void call_quick_string(void) { seg2_quick_string(&quick_string, buffer, size, length, 0, quick_count.count - 1); }
+static void call_quick_strings(void) { quick_verdict = seg2_quick_strings(buffer, size, length, 0, places, 4 * quick_count.count); }
 static void call_quick_keyword(void) { seg2_quick_keyword(&quick_keyword, buffer, size, length, 0, key, 4); }
 static void call_quick_value(void) { seg2_quick_value(&quick_value, buffer, size, length, 0, key, 4); }
+static void call_quick_number(void) { seg2_quick_number(&quick_number, buffer, size, length, 0, key, 4); }
+static void call_quick_double(void) { seg2_quick_double(&quick_twice, buffer, size, length, 0, key, 4); }
+static void call_quick_location(void) { seg2_quick_location(&quick_location, buffer, size, length, 0, key, 4); }
+static void call_quick_integers(void) { quick_verdict = seg2_quick_integers(buffer, size, length, 0, integers, samples); }
+static void call_quick_bits(void) { quick_verdict = seg2_quick_bits(buffer, size, length, 1, patterns, samples, classes, samples); }
 static void call_read_number(void) { seg2_read_number(&read_back, typed, sizeof typed - 1); }
 static void call_write_number(void) { seg2_write_number(&text_length, text, sizeof text, 1, 123456789012345678u, -116, 17); }
 static void call_start(void) { seg2_start(&written, buffer, size, order, TRACES, sheet, sheet_size); }
@@ -111,6 +129,7 @@ static struct {
     {"seg2_trace_block", call_trace_block, 0},
     {"seg2_string_count", call_string_count, 0},
     {"seg2_string", call_string, 0},
+    {"seg2_strings", call_strings, 0},
     {"seg2_keyword", call_keyword, 0},
     {"seg2_value", call_value, 0},
     {"seg2_number", call_number, 0},
@@ -118,8 +137,17 @@ static struct {
     {"seg2_location", call_location, 0},
     {"seg2_integers", call_integers, 0},
     {"seg2_bits", call_bits, 0},
+    {"seg2_quick_trace_block", call_quick_trace_block, 0},
+    {"seg2_quick_string_count", call_quick_string_count, 0},
+    {"seg2_quick_string", call_quick_string, 0},
+    {"seg2_quick_strings", call_quick_strings, 0},
     {"seg2_quick_keyword", call_quick_keyword, 0},
     {"seg2_quick_value", call_quick_value, 0},
+    {"seg2_quick_number", call_quick_number, 0},
+    {"seg2_quick_double", call_quick_double, 0},
+    {"seg2_quick_location", call_quick_location, 0},
+    {"seg2_quick_integers", call_quick_integers, 0},
+    {"seg2_quick_bits", call_quick_bits, 0},
     {"seg2_read_number", call_read_number, 0},
     {"seg2_write_number", call_write_number, 0},
 };
@@ -170,12 +198,17 @@ static void whole(uint32_t of_integers, uint32_t of_bits, size_t traces, size_t 
     for (part = -1; part <= 0; part++) {
         for (i = 3; i < sizeof all / sizeof all[0]; i++) {
             run(i);
+            must(verdict.number == 0 && quick_verdict.number == 0, "refused");
         }
         must(count.count == strings + 1 && string.found == 1, "another number of strings");
+        must(quick_count.count == strings + 1 && quick_string.found == 1, "another number of strings, counted quickly");
+        must(places[4 * strings] == quick_string.key_start && places[4 * strings + 3] == 3, "another last string in the row");
         must(keyword.found == 1 && value.value_length == 3, "no NOTE");
         must(quick_keyword.found == 1 && quick_value.value_length == 3, "no NOTE found quickly");
         must(number.coefficient == 15 && twice.value == 1.5 && location.x == 1.5, "another number");
-        must(verdict.number == 0 && trace.sample_count == samples && file.trace_count == traces, "refused");
+        must(quick_number.coefficient == 15 && quick_twice.value == 1.5 && quick_location.x == 1.5, "another number, read quickly");
+        must(trace.sample_count == samples && file.trace_count == traces, "another block");
+        must(quick_trace.sample_count == samples && quick_trace.start == trace.start, "another block, read quickly");
         must(read_back.coefficient == 123456789012345678u && read_back.power == -116 && read_back.decimals == 17, "another number was typed");
         must(text_length.length == sizeof typed - 1 && memcmp(text, typed, sizeof text) == 0, "another text was written");
     }
@@ -249,8 +282,8 @@ int main(int words, char **word) {
         return 0;
     }
     whole(SEG2_FIXED_16, SEG2_FLOAT_32, 2, 4, 1);
-    whole(SEG2_FIXED_32, SEG2_FLOAT_64, 40, SAMPLES, 3500);
-    whole(SEG2_FLOAT_20, SEG2_FLOAT_32, 40, SAMPLES, 3500);
+    whole(SEG2_FIXED_32, SEG2_FLOAT_64, 40, SAMPLES, STRINGS);
+    whole(SEG2_FLOAT_20, SEG2_FLOAT_32, 40, SAMPLES, STRINGS);
     whole(SEG2_FLOAT_20, SEG2_FLOAT_64, TRACES, 8, 3);
     for (i = 0; i < sizeof all / sizeof all[0]; i++) {
         printf("%s %lu\n", all[i].name, (unsigned long)all[i].most);

@@ -1,29 +1,15 @@
 //! The safe wrapper beside the independent reader, on files of every kind that document
 //! 01 allows, and its own parts: lines, iterators, the builder, the words.
 
-use seg2::{Builder, File, Location, Number, Order, Refusal, Step};
+mod own;
+
+use own::{block as own_block, location, number as ours, pair, refusal as told};
+use seg2::{calls, Builder, File, Number, Order, Pair, Refusal};
 use seg2_reference as reference;
 use seg2_reference::generate::{
     addition_case, forged_number, good_sheet, number_case, plain_file, sample_case, Laid, Model,
     PlainTrace, Rng, SampleQuestion,
 };
-
-fn told(refusal: reference::Refusal) -> Refusal {
-    Refusal {
-        number: refusal.number.into(),
-        part: refusal.part.try_into().expect("a part of 32 bits"),
-        place: refusal.place.try_into().expect("a place in a buffer"),
-    }
-}
-
-fn ours(number: reference::Number) -> Number {
-    Number {
-        minus: number.minus,
-        coefficient: number.coefficient,
-        power: number.power,
-        decimals: number.decimals,
-    }
-}
 
 /// A valid file by the wrapper and by the independent reader.
 fn both(laid: &Laid) -> (File<'_>, reference::File) {
@@ -32,12 +18,11 @@ fn both(laid: &Laid) -> (File<'_>, reference::File) {
     (file, expected)
 }
 
-type Pairs<'a> = Vec<(&'a [u8], &'a [u8])>;
+type Pairs<'a> = Vec<Pair<'a>>;
 
 /// The strings of a part by the independent reader.
 fn pairs<'a>(buffer: &'a [u8], strings: &[reference::StringPlace]) -> Pairs<'a> {
-    let pair = |s: &reference::StringPlace| (&buffer[s.keyword.clone()], &buffer[s.value.clone()]);
-    strings.iter().map(pair).collect()
+    strings.iter().map(|s| pair(buffer, s)).collect()
 }
 
 #[test]
@@ -65,6 +50,7 @@ fn a_file_is_read_as_the_reference_reads_it() {
             assert_eq!(trace.data().len(), trace.data_size());
             assert_eq!(trace.sample_count(), block.s as usize);
             assert_eq!(trace.code(), u32::from(block.code));
+            assert_eq!(trace.block(), own_block(block));
             let strings = pairs(&laid.buffer, &block.strings);
             assert_eq!(trace.strings().collect::<Pairs>(), strings);
             assert_eq!(trace.string_count(), strings.len());
@@ -128,17 +114,8 @@ fn numbers_in_values_are_answered_as_the_reference_answers_them() {
                     trace.double(keyword),
                     reference::double(value).map_err(told)
                 );
-                let location = reference::location(value).map_err(told);
-                let location = location.map(|l| Location {
-                    count: l.count.into(),
-                    x: l.x,
-                    y: l.y,
-                    z: l.z,
-                    x_decimals: l.decimals[0],
-                    y_decimals: l.decimals[1],
-                    z_decimals: l.decimals[2],
-                });
-                assert_eq!(trace.location(keyword), location);
+                let expected = reference::location(value).map(location).map_err(told);
+                assert_eq!(trace.location(keyword), expected);
             }
             assert_eq!(
                 trace.number(b"missing").map_err(|r| (r.number, r.place)),
@@ -209,24 +186,97 @@ fn lines_are_parted_as_the_reference_parts_them() {
     assert!(notes > 100, "{notes}");
 }
 
+/// All strings of a part in one call: four places for each, in order, and a row of another
+/// length is 32 and left as it was. Of the file, and of traces fully and quickly.
 #[test]
-fn the_walk_meets_what_the_questions_answer() {
+fn strings_come_in_one_row() {
+    type Call = fn(&[u8], usize, i32, &mut [usize]) -> seg2::raw::Verdict;
     let mut rng = Rng::new(205);
-    for _ in 0..3000 {
+    let mut listed = 0;
+    for _ in 0..1500 {
         let laid = Model::random(&mut rng).lay();
-        let file = File::open_prefix(&laid.buffer, laid.length).expect("a valid file");
-        let step = |(keyword, value)| Step::String { keyword, value };
-        let mut expected: Vec<Step> = file.strings().map(step).collect();
-        for trace in file.traces() {
-            expected.push(Step::Trace {
-                index: trace.index(),
-                code: trace.code(),
-                sample_count: trace.sample_count(),
-            });
-            expected.extend(trace.strings().map(step));
+        let (file, expected) = both(&laid);
+        let answered = |call: Call, part: i32, strings: &[reference::StringPlace]| {
+            let places: Vec<usize> = strings.iter().flat_map(|s| s.numbers()).collect();
+            let mut row = vec![7; places.len()];
+            let answer = call(&laid.buffer, laid.length, part, &mut row);
+            assert_eq!((answer.number, answer.part, answer.place), (0, -1, 0));
+            assert_eq!(row, places);
+            for other in [places.len() + 1, places.len() + 4, places.len() / 2] {
+                let mut row = vec![7; other];
+                let answer = call(&laid.buffer, laid.length, part, &mut row);
+                // half of an empty row is the row
+                let number = if other == places.len() { 0 } else { 32 };
+                assert_eq!((answer.number, answer.part, answer.place), (number, -1, 0));
+                assert_eq!(row, vec![7; other]);
+            }
+        };
+        answered(calls::strings, -1, &expected.strings);
+        for (k, block) in expected.traces.iter().enumerate() {
+            answered(calls::strings, k as i32, &block.strings);
+            answered(calls::quick_strings, k as i32, &block.strings);
+            listed += block.strings.len();
         }
-        assert_eq!(file.walk().collect::<Vec<_>>(), expected);
+        // what the iterators say is left, and what they give behind their last
+        let mut strings = file.strings();
+        for (i, string) in pairs(&laid.buffer, &expected.strings).iter().enumerate() {
+            assert_eq!(strings.len(), expected.strings.len() - i);
+            assert_eq!(strings.next(), Some(*string));
+            assert_eq!(file.string(i), Some(*string));
+        }
+        assert_eq!(
+            (strings.next(), strings.next(), strings.len()),
+            (None, None, 0)
+        );
+        let mut traces = file.traces();
+        assert_eq!(traces.by_ref().count(), file.trace_count());
+        assert_eq!((traces.next().map(|t| t.index()), traces.len()), (None, 0));
     }
+    assert!(listed > 1000, "{listed}");
+}
+
+/// Everything of a file behind one check of it, and how many strings and samples that was.
+fn everything(bytes: &[u8]) -> (usize, usize) {
+    let file = File::open(bytes).expect("a file");
+    let (mut strings, mut samples) = (file.strings().count(), 0);
+    for trace in file.traces() {
+        strings += trace.strings().count();
+        assert_eq!(trace.string_count(), 2);
+        assert_eq!(trace.string(1), Some((&b"STACK"[..], &b"4"[..])));
+        assert!(trace.has(b"STACK") && trace.note().next().is_none());
+        assert_eq!(trace.value(b"DELAY"), Some(&b"-0.5"[..]));
+        assert_eq!(trace.number(b"STACK").map(|n| n.coefficient), Ok(4));
+        assert_eq!(trace.double(b"DELAY"), Ok(-0.5));
+        assert_eq!(trace.location(b"DELAY").map(|at| at.count), Ok(1));
+        samples += trace.integers().map_or(0, |row| row.len());
+        assert_eq!(trace.bits().map_err(|refusal| refusal.number), Err(33));
+    }
+    (strings, samples)
+}
+
+/// Each question on a trace reads that trace alone. So ten times as many traces take some ten
+/// times as long, where a check of the file for each question would take a hundred times.
+#[test]
+fn all_traces_take_time_in_proportion_to_their_number() {
+    let least = |traces: usize| {
+        let trace = || PlainTrace {
+            strings: &[b"DELAY -0.5", b"STACK 4"],
+            code: 1,
+            count: 2,
+            data: &[1, 0, 2, 0],
+        };
+        let traces: Vec<PlainTrace> = (0..traces).map(|_| trace()).collect();
+        let bytes = plain_file(reference::Order::High, &[b"UNITS METERS"], &traces);
+        let timed = |_| {
+            let began = std::time::Instant::now();
+            let met = everything(&bytes);
+            assert_eq!(met, (1 + 2 * traces.len(), 2 * traces.len()));
+            began.elapsed()
+        };
+        (0..6).map(timed).min().expect("six times")
+    };
+    let (few, many) = (least(400), least(4000));
+    assert!(many < 40 * few, "{few:?} and {many:?}");
 }
 
 #[test]

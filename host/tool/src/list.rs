@@ -5,7 +5,7 @@ use crate::json::{self, Object};
 use crate::options::Options;
 use crate::stop::Answer;
 use crate::words::Told;
-use seg2::{File, Refusal, Step};
+use seg2::{File, Pair, Refusal, Strings};
 use std::ffi::OsStr;
 
 /// One listing for each file; the worst answer is the exit status.
@@ -60,23 +60,23 @@ fn refusal_line(refusal: &Refusal) -> String {
 fn listing(out: &mut Vec<u8>, file: &File) {
     let (n, m) = (file.trace_count(), file.pointer_room());
     out.extend(format!("SEG2\t{}\t{n}\t{m}\n", order(file)).bytes());
-    let mut part = "F".to_string();
-    for step in file.walk() {
-        match step {
-            Step::Trace {
-                index,
-                code,
-                sample_count,
-            } => {
-                part = index.to_string();
-                out.extend(format!("T\t{index}\t{code}\t{sample_count}\n").bytes());
+    string_lines(out, file, "F", file.strings());
+    for trace in file.traces() {
+        let (index, code, samples) = (trace.index(), trace.code(), trace.sample_count());
+        out.extend(format!("T\t{index}\t{code}\t{samples}\n").bytes());
+        string_lines(out, file, &index.to_string(), trace.strings());
+    }
+}
+
+/// The strings of a part, each line of a NOTE by itself.
+fn string_lines(out: &mut Vec<u8>, file: &File, part: &str, strings: Strings) {
+    for (keyword, value) in strings {
+        if keyword == b"NOTE" {
+            for line in file.lines(value) {
+                string_line(out, part, keyword, line);
             }
-            Step::String { keyword, value } if keyword == b"NOTE" => {
-                for line in file.lines(value) {
-                    string_line(out, &part, keyword, line);
-                }
-            }
-            Step::String { keyword, value } => string_line(out, &part, keyword, value),
+        } else {
+            string_line(out, part, keyword, value);
         }
     }
 }
@@ -115,40 +115,27 @@ fn object(name: &OsStr, bytes: &[u8]) -> Answer {
 }
 
 fn accepted(name: &OsStr, file: &File) -> String {
-    // each part's own fields, and its strings: the file first, then its traces
-    let whole = Object::of(name)
+    let traces = file.traces().map(|trace| {
+        let object = Object::new()
+            .field("index", trace.index())
+            .field("code", trace.code())
+            .field("sample_count", trace.sample_count());
+        object.row("strings", &objects(file, trace.strings())).end()
+    });
+    Object::of(name)
         .field("accepted", true)
         .text("order", order(file))
-        .field("pointer_room", file.pointer_room());
-    let mut parts = vec![(whole, Vec::new())];
-    for step in file.walk() {
-        match (step, parts.last_mut()) {
-            (
-                Step::Trace {
-                    index,
-                    code,
-                    sample_count,
-                },
-                _,
-            ) => {
-                let trace = Object::new().field("index", index).field("code", code);
-                parts.push((trace.field("sample_count", sample_count), Vec::new()));
-            }
-            (Step::String { keyword, value }, Some((_, strings))) => {
-                strings.push(string(file, keyword, value));
-            }
-            (Step::String { .. }, None) => {}
-        }
-    }
-    let mut parts = parts
-        .into_iter()
-        .map(|(object, strings)| object.row("strings", &strings));
-    let whole = parts.next().unwrap_or_else(Object::new);
-    let traces: Vec<String> = parts.map(Object::end).collect();
-    whole.row("traces", &traces).end()
+        .field("pointer_room", file.pointer_room())
+        .row("strings", &objects(file, file.strings()))
+        .row("traces", &traces.collect::<Vec<String>>())
+        .end()
 }
 
-fn string(file: &File, keyword: &[u8], value: &[u8]) -> String {
+fn objects(file: &File, strings: Strings) -> Vec<String> {
+    strings.map(|pair| string(file, pair)).collect()
+}
+
+fn string(file: &File, (keyword, value): Pair) -> String {
     let string = Object::new()
         .bytes("keyword", keyword)
         .bytes("value", value);

@@ -1,7 +1,6 @@
 //! The office's and the crew's tool for SEG-2 shot files. Every answer about a file is
-//! the proved library's; here are words, files and lines of text. The listing's lines
-//! come from the wrapper's walk, and what is found beside a refusal from `words`; both are
-//! tested and not proved.
+//! the proved library's; here are words, files and lines of text. What is found beside a
+//! refusal comes from `words`, which is tested and not proved.
 #![deny(unsafe_code)]
 
 mod beside;

@@ -22,6 +22,7 @@ own-spec =
     (λ c. search needs)
     (λ c. omega (arith, pointed _ _ _ _ (sym (c .before .before .pointer-row .ensures) ∙ c .enum-told .given .1) .fits))
     (λ c κs. search needs)
+    (λ c κs. search needs)
     (λ c.
     let c3 = c .before .before .before in
     let c4 = c3 .before in
@@ -29,8 +30,8 @@ own-spec =
     own-bad _ (c6 .args .f .now) (c6 .args .m) (c6 .args .k) _ (c4 .pointer .ensures .0) (sym (c3 .pointer-row .ensures) ∙ c .before .row .given
     .1))
     (λ c.
-    let c4 = c .before .before .before .before in
+    let c4 = c .before .before .before .before .before in
     let c5 = c4 .before in
     let c7 = c5 .before .before in
-    own-rows _ (c7 .args .f .now) (c7 .args .m) (c7 .args .k) _ (c5 .pointer .ensures .0) (sym (c4 .pointer-row .ensures) ∙ c .before .before
-    .enum-told .given .1) (c .block-rows .ensures)))
+    own-rows _ (c7 .args .f .now) (c7 .args .m) (c7 .args .k) _ (c5 .pointer .ensures .0) (sym (c4 .pointer-row .ensures) ∙ c .before .before .before
+    .enum-told .given .1) (c .told .ensures ∙ c .before .block-rows .ensures)))

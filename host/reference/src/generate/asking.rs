@@ -129,7 +129,7 @@ fn bits_question(rng: &mut Rng, samples: Option<&SamplesModel>) -> SampleQuestio
 }
 
 /// Most often the right length.
-fn some_length(rng: &mut Rng, count: usize) -> usize {
+pub(super) fn some_length(rng: &mut Rng, count: usize) -> usize {
     let wrong = rng.pick(&[count + 1, count.saturating_sub(1)]);
     rng.pick(&[count, count, wrong])
 }

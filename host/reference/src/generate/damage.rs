@@ -93,8 +93,8 @@ pub fn damaged_image(rng: &mut Rng) -> Damaged {
 }
 
 /// The given file or image damaged in the given way, if it has what that takes.
-fn damaged_in(rng: &mut Rng, way: &Way, model: Model) -> Option<Damaged> {
-    let (laid, expected) = damaged_laid(rng, way, model)?;
+fn damaged_in(rng: &mut Rng, way: &Way, mut model: Model) -> Option<Damaged> {
+    let (laid, expected) = damaged_laid(rng, way, &mut model)?;
     Some(Damaged {
         name: way.name,
         buffer: laid.buffer,
@@ -103,8 +103,9 @@ fn damaged_in(rng: &mut Rng, way: &Way, model: Model) -> Option<Damaged> {
     })
 }
 
-/// The same with the layout, which tells where everything would stand without the damage.
-pub(super) fn damaged_laid(rng: &mut Rng, way: &Way, mut model: Model) -> Option<(Laid, Refusal)> {
+/// The same with the layout, which tells where everything would stand without the damage; the
+/// model is the one that was laid.
+pub(super) fn damaged_laid(rng: &mut Rng, way: &Way, model: &mut Model) -> Option<(Laid, Refusal)> {
     let (laid, part, place) = match way.how {
         How::Bytes(change) | How::Alone(change) => {
             let mut laid = model.lay();
@@ -113,7 +114,7 @@ pub(super) fn damaged_laid(rng: &mut Rng, way: &Way, mut model: Model) -> Option
             (laid, change.part, change.place)
         }
         How::Shape(change) => {
-            let spot = change(rng, &mut model)?;
+            let spot = change(rng, model)?;
             let laid = model.lay();
             let (part, place) = spot.find(&laid);
             (laid, part, place)

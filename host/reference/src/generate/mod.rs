@@ -32,7 +32,7 @@ pub use lay::Laid;
 pub use model::Model;
 pub use numbers::{location_case, number_case, LocationCase, NumberCase};
 pub use plain::{plain_file, PlainTrace};
-pub use quick::{quick_case, quick_key, QuickCase};
+pub use quick::{quick_case, quick_key, QuickAsked, QuickCase, QuickTold};
 pub use rng::Rng;
 pub use sheets::{good_sheet, sheet_case, SheetCase};
 pub use ways::WAYS;

@@ -16,8 +16,8 @@ import java.nio.charset.StandardCharsets;
  *
  * <p><b>Refusals are values.</b> Every answer has {@link Answer#refusal()}: null, or number, part, place and words. After a refusal the
  * answer's other fields are 0 and no lent memory has changed. Every question about a file checks the whole file first, so its refusal may
- * be any row from 1 to 17 of the table, or 34, before one of its own. {@link #quickKeyword} and {@link #quickValue} do not: they read one
- * trace, and judge what they read.
+ * be any row from 1 to 17 of the table, or 34, before one of its own. The methods with quick in their name do not: each reads one trace,
+ * and judges what it reads ({@link #quickTraceBlock}). Whoever wants much of a file asks {@link #check} once, and then the quick ones.
  *
  * <p><b>Misuse is an {@link IllegalArgumentException}</b>, before the library is called: null, a buffer that is not direct, a read-only
  * one where something is written, a row in another byte order than the machine's, or one that lies in the file's own memory.
@@ -476,10 +476,22 @@ public final class Seg2 {
     }
 
     /**
+     * All strings of a part in one call, for a listing: its time grows with the strings, where one call for each string goes through the
+     * list every time. The row has exactly four elements for each string, so 4 times {@link #stringCount}: where the keyword starts in the
+     * buffer, its length, where the value starts, its length, string behind string. It goes by way of a copy. 18 as above, 32 where the row
+     * has another length.
+     */
+    public static Verdict strings(ByteBuffer buffer, long length, int part, long[] row) {
+        long[] a = new long[3];
+        nativeStrings(lent(buffer), buffer.limit(), length, part, there(row, "row"), a);
+        return new Verdict(a);
+    }
+
+    /**
      * Whether a part has a keyword: yes, no, or the refusal. What cannot be a keyword is a no. 18 as above.
      *
      * <p>RECEIVER_GEOMETRY and SOURCE_GEOMETRY may stand several times running in a part. The questions on a keyword answer the first of
-     * them; {@link #stringCount} and {@link #string} have them all.
+     * them; {@link #string} and {@link #strings} have them all.
      */
     public static Keyword keyword(ByteBuffer buffer, long length, int part, byte[] key) {
         long[] a = new long[4];
@@ -560,10 +572,7 @@ public final class Seg2 {
      */
     public static Verdict integers(ByteBuffer buffer, long length, int trace, IntBuffer row) {
         long[] a = new long[3];
-        if (direct(row).isReadOnly()) {
-            throw new IllegalArgumentException("the row is read-only, and the samples go into it");
-        }
-        nativeIntegersBuffer(lent(buffer), buffer.limit(), length, trace, row, row.limit(), a);
+        nativeIntegersBuffer(lent(buffer), buffer.limit(), length, trace, filled(row), row.limit(), a);
         return new Verdict(a);
     }
 
@@ -581,18 +590,59 @@ public final class Seg2 {
     // ---- one trace, quickly (document 02, section 5): without the check of the whole file
 
     /**
-     * Whether a trace has a keyword: yes, no, or the refusal, without a check of the file. To show one value of a long file: what it costs
-     * does not grow with the number of traces.
+     * The block of a trace, without a check of the file: no string and no data is read. Every question on a trace has such a quick form,
+     * with the same arguments and the same answer. What it costs does not grow with the number of traces: one value of a long file is there
+     * at once, and all traces of a file take time in proportion to their number.
      *
-     * <p>Read are the file block's first 32 bytes, the trace's pointer, the first 32 bytes of its block, and its strings in order, each
-     * whole, until the keyword is found or passed: until a keyword stands there that is greater than the asked one, or NOTE. NOTE itself
-     * is sought to the end of the list. The strings behind, the other traces, the file's own strings and the samples are not looked at. So
-     * it may answer where {@link #check} refuses the file, for something that was not read. Where {@link #check} accepts the file, it
-     * answers as {@link #keyword} does, for every trace number from 0 on and every key.
+     * <p>Each reads the file block's first 32 bytes, the trace's pointer and the first 32 bytes of its block; then, where the question is on
+     * strings, the trace's strings in order, each whole, as far as its comment says; and where it is on samples, the trace's data. It looks
+     * at nothing else: not at the strings behind, the other traces or the file's own strings, at no data where it is asked for strings, and
+     * at no string where it is asked for samples. So it may answer where {@link #check} refuses the file, for something that was not read.
+     * Where {@link #check} accepts the file, it answers as the method without quick in its name, rows included, for every trace number from
+     * 0 on.
      *
-     * <p>Refusals, of what was read alone: 1 to 7, then 18 where there is no such trace ({@link #FILE} is none: the file's own strings are
-     * not asked here), 8 (a pointer that is no multiple of 4, leads into the pointer room, or leaves no room for a block; it may lead into
-     * another trace), 9 to 13, then 14 to 17 string by string, the found or passed one too. 34 is never given: it would need another trace.
+     * <p>Refusals, of what was read alone: 1 to 7, then 18 where there is no such trace ({@link #FILE} is none: the file's own strings have
+     * no quick form), 8 (a pointer that is no multiple of 4, leads into the pointer room, or leaves no room for a block; it may lead into
+     * another trace), 9 to 13, then those of the question, and for strings 14 to 17 before them, string by string. 34 is never given: it
+     * would need another trace.
+     */
+    public static TraceBlock quickTraceBlock(ByteBuffer buffer, long length, int trace) {
+        long[] a = new long[8];
+        nativeQuickTraceBlock(lent(buffer), buffer.limit(), length, trace, a);
+        return new TraceBlock(a);
+    }
+
+    /** How many strings a trace has, as {@link #stringCount}: all of them are read, and the end mark. */
+    public static Count quickStringCount(ByteBuffer buffer, long length, int trace) {
+        long[] a = new long[4];
+        nativeQuickStringCount(lent(buffer), buffer.limit(), length, trace, a);
+        return new Count(a);
+    }
+
+    /**
+     * The string of a trace with this index, as {@link #string}: read are those up to it, itself too, and where there are fewer, all of them
+     * and the end mark; then {@code found} is false, which is no refusal.
+     */
+    public static Entry quickString(ByteBuffer buffer, long length, int trace, long index) {
+        long[] a = new long[8];
+        nativeQuickString(lent(buffer), buffer.limit(), length, trace, index, a);
+        return new Entry(a, buffer);
+    }
+
+    /**
+     * All strings of a trace into a row of four elements each, as {@link #strings}: all of them are read, and the end mark. 32, behind 14 to
+     * 17, where the row has not exactly 4 times {@link #quickStringCount} elements.
+     */
+    public static Verdict quickStrings(ByteBuffer buffer, long length, int trace, long[] row) {
+        long[] a = new long[3];
+        nativeQuickStrings(lent(buffer), buffer.limit(), length, trace, there(row, "row"), a);
+        return new Verdict(a);
+    }
+
+    /**
+     * Whether a trace has a keyword, as {@link #keyword}: yes, no, or the refusal. Strings are read until the keyword is found or passed:
+     * until one stands there that is greater than the asked one, or NOTE. NOTE itself is sought to the end of the list. The found or passed
+     * string is judged too.
      */
     public static Keyword quickKeyword(ByteBuffer buffer, long length, int trace, byte[] key) {
         long[] a = new long[4];
@@ -606,10 +656,9 @@ public final class Seg2 {
     }
 
     /**
-     * The value of a trace's keyword as the buffer's own bytes, without a check of the file: what is read and what is refused is as said at
-     * {@link #quickKeyword}. Where {@link #check} accepts the file, it answers as {@link #value} does. A no is start 0 and length 0 without
-     * a refusal. {@link #readNumber} takes {@link Value#text()} as a number. The lines of a NOTE are parted by the line terminator, whose
-     * length stands in byte 11 of the file and whose characters in byte 12 on; where there is an answer, both have been judged.
+     * The value of a trace's keyword as the buffer's own bytes, as {@link #value}; the strings are read as far as by {@link #quickKeyword}. A
+     * no is start 0 and length 0 without a refusal. The lines of a NOTE are parted by the line terminator, whose length stands in byte 11 of
+     * the file and whose characters in byte 12 on; where there is an answer, both have been judged.
      */
     public static Value quickValue(ByteBuffer buffer, long length, int trace, byte[] key) {
         long[] a = new long[5];
@@ -620,6 +669,66 @@ public final class Seg2 {
     /** The same, of a keyword in a String. */
     public static Value quickValue(ByteBuffer buffer, long length, int trace, String key) {
         return quickValue(buffer, length, trace, bytesOf(key, "keyword"));
+    }
+
+    /** That value as a number: then 20 or 21, as {@link #number}. */
+    public static Decimal quickNumber(ByteBuffer buffer, long length, int trace, byte[] key) {
+        long[] a = new long[7];
+        nativeQuickNumber(lent(buffer), buffer.limit(), length, trace, there(key, "keyword"), a);
+        return new Decimal(a);
+    }
+
+    /** The same, of a keyword in a String. */
+    public static Decimal quickNumber(ByteBuffer buffer, long length, int trace, String key) {
+        return quickNumber(buffer, length, trace, bytesOf(key, "keyword"));
+    }
+
+    /** That value as a double: then 20 to 22, as {@link #doubleValue}. */
+    public static DoubleValue quickDoubleValue(ByteBuffer buffer, long length, int trace, byte[] key) {
+        long[] a = new long[4];
+        nativeQuickDouble(lent(buffer), buffer.limit(), length, trace, there(key, "keyword"), a);
+        return new DoubleValue(a);
+    }
+
+    /** The same, of a keyword in a String. */
+    public static DoubleValue quickDoubleValue(ByteBuffer buffer, long length, int trace, String key) {
+        return quickDoubleValue(buffer, length, trace, bytesOf(key, "keyword"));
+    }
+
+    /** That value as a location: then 23, and 20 to 22 value by value, as {@link #location}. */
+    public static Location quickLocation(ByteBuffer buffer, long length, int trace, byte[] key) {
+        long[] a = new long[10];
+        nativeQuickLocation(lent(buffer), buffer.limit(), length, trace, there(key, "keyword"), a);
+        return new Location(a);
+    }
+
+    /** The same, of a keyword in a String. */
+    public static Location quickLocation(ByteBuffer buffer, long length, int trace, String key) {
+        return quickLocation(buffer, length, trace, bytesOf(key, "keyword"));
+    }
+
+    /** The samples of a trace of code 1 to 3 into an array of exactly S elements, by way of a copy: 33, then 32, as {@link #integers}. */
+    public static Verdict quickIntegers(ByteBuffer buffer, long length, int trace, int[] row) {
+        long[] a = new long[3];
+        nativeQuickIntegersArray(lent(buffer), buffer.limit(), length, trace, there(row, "row"), a);
+        return new Verdict(a);
+    }
+
+    /** The same, straight into a direct buffer's memory, without a copy, as {@link #integers(ByteBuffer, long, int, IntBuffer)} has it. */
+    public static Verdict quickIntegers(ByteBuffer buffer, long length, int trace, IntBuffer row) {
+        long[] a = new long[3];
+        nativeQuickIntegersBuffer(lent(buffer), buffer.limit(), length, trace, filled(row), row.limit(), a);
+        return new Verdict(a);
+    }
+
+    /**
+     * The bit patterns of the samples of a trace of code 4 or 5 and their classes into two arrays of exactly S elements, by way of a copy:
+     * 33, then 32, as {@link #bits}.
+     */
+    public static Verdict quickBits(ByteBuffer buffer, long length, int trace, long[] row, byte[] classes) {
+        long[] a = new long[3];
+        nativeQuickBits(lent(buffer), buffer.limit(), length, trace, there(row, "row"), there(classes, "classes' row"), a);
+        return new Verdict(a);
     }
 
     // ---- a number and its text: no file is lent, so no row of its check comes first
@@ -746,6 +855,13 @@ public final class Seg2 {
         return row;
     }
 
+    private static IntBuffer filled(IntBuffer row) {
+        if (direct(row).isReadOnly()) {
+            throw new IllegalArgumentException("the row is read-only, and the samples go into it");
+        }
+        return row;
+    }
+
     /**
      * One byte a character, so that places in a sheet are indexes of the String. A character that is no ASCII becomes 80h, which neither
      * keyword nor value may hold; no encoding does this, as each has something, often '?', that it puts for what it cannot say.
@@ -788,6 +904,8 @@ public final class Seg2 {
 
     private static native void nativeString(ByteBuffer buffer, int size, long length, int part, long index, long[] answer);
 
+    private static native void nativeStrings(ByteBuffer buffer, int size, long length, int part, long[] row, long[] answer);
+
     private static native void nativeKeyword(ByteBuffer buffer, int size, long length, int part, byte[] key, long[] answer);
 
     private static native void nativeValue(ByteBuffer buffer, int size, long length, int part, byte[] key, long[] answer);
@@ -798,9 +916,23 @@ public final class Seg2 {
 
     private static native void nativeLocation(ByteBuffer buffer, int size, long length, int part, byte[] key, long[] answer);
 
+    private static native void nativeQuickTraceBlock(ByteBuffer buffer, int size, long length, int trace, long[] answer);
+
+    private static native void nativeQuickStringCount(ByteBuffer buffer, int size, long length, int trace, long[] answer);
+
+    private static native void nativeQuickString(ByteBuffer buffer, int size, long length, int trace, long index, long[] answer);
+
+    private static native void nativeQuickStrings(ByteBuffer buffer, int size, long length, int trace, long[] row, long[] answer);
+
     private static native void nativeQuickKeyword(ByteBuffer buffer, int size, long length, int trace, byte[] key, long[] answer);
 
     private static native void nativeQuickValue(ByteBuffer buffer, int size, long length, int trace, byte[] key, long[] answer);
+
+    private static native void nativeQuickNumber(ByteBuffer buffer, int size, long length, int trace, byte[] key, long[] answer);
+
+    private static native void nativeQuickDouble(ByteBuffer buffer, int size, long length, int trace, byte[] key, long[] answer);
+
+    private static native void nativeQuickLocation(ByteBuffer buffer, int size, long length, int trace, byte[] key, long[] answer);
 
     private static native void nativeReadNumber(byte[] text, long[] answer);
 
@@ -811,6 +943,12 @@ public final class Seg2 {
     private static native void nativeIntegersBuffer(ByteBuffer buffer, int size, long length, int trace, IntBuffer row, int count, long[] answer);
 
     private static native void nativeBits(ByteBuffer buffer, int size, long length, int trace, long[] row, byte[] classes, long[] answer);
+
+    private static native void nativeQuickIntegersArray(ByteBuffer buffer, int size, long length, int trace, int[] row, long[] answer);
+
+    private static native void nativeQuickIntegersBuffer(ByteBuffer buffer, int size, long length, int trace, IntBuffer row, int count, long[] answer);
+
+    private static native void nativeQuickBits(ByteBuffer buffer, int size, long length, int trace, long[] row, byte[] classes, long[] answer);
 
     private static native void nativeStart(ByteBuffer buffer, int size, int order, int slots, byte[] sheet, long[] answer);
 

@@ -240,10 +240,12 @@ public final class Seg2Test {
             refused(18, -1, 0, Seg2.number(good, 108, part, "UNITS"));
             refused(18, -1, 0, Seg2.doubleValue(good, 108, part, "UNITS"));
             refused(18, -1, 0, Seg2.location(good, 108, part, "UNITS"));
-            refused(18, -1, 0, Seg2.quickKeyword(good, 108, part, "UNITS"));
-            refused(18, -1, 0, Seg2.quickValue(good, 108, part, "UNITS"));
+            refused(18, -1, 0, Seg2.strings(good, 108, part, new long[4]));
             refused(18, -1, 0, Seg2.integers(good, 108, part, new int[3]));
             refused(18, -1, 0, Seg2.bits(good, 108, part, new long[3], new byte[3]));
+            for (Seg2.Answer answer : quickAnswers(good, 108, part, "UNITS")) {
+                refused(18, -1, 0, answer);
+            }
         }
         refused(18, -1, 0, Seg2.traceBlock(good, 108, Seg2.FILE));
         int[] row = {7, 7};
@@ -259,6 +261,23 @@ public final class Seg2Test {
         same(new byte[] {7, 7, 7}, classes);
         same(false, Seg2.string(good, 108, Seg2.FILE, -1).found);
         same(false, Seg2.string(good, 108, Seg2.FILE, Long.MAX_VALUE).found);
+    }
+
+    /** The answers of all quick methods to one trace: of its block and its samples, then of its strings. */
+    private static List<Seg2.Answer> quickAnswers(ByteBuffer b, long n, int trace, String key) {
+        List<Seg2.Answer> answers = new ArrayList<>();
+        answers.add(Seg2.quickTraceBlock(b, n, trace));
+        answers.add(Seg2.quickIntegers(b, n, trace, new int[3]));
+        answers.add(Seg2.quickIntegers(b, n, trace, direct(0, 0, 0)));
+        answers.add(Seg2.quickBits(b, n, trace, new long[3], new byte[3]));
+        answers.addAll(quickAnswersOnStrings(b, n, trace, key));
+        return answers;
+    }
+
+    private static List<Seg2.Answer> quickAnswersOnStrings(ByteBuffer b, long n, int trace, String key) {
+        return Arrays.asList(Seg2.quickStringCount(b, n, trace), Seg2.quickString(b, n, trace, Long.MAX_VALUE),
+            Seg2.quickStrings(b, n, trace, new long[4]), Seg2.quickKeyword(b, n, trace, key), Seg2.quickValue(b, n, trace, key),
+            Seg2.quickNumber(b, n, trace, key), Seg2.quickDoubleValue(b, n, trace, key), Seg2.quickLocation(b, n, trace, key));
     }
 
     /** The constants and the texts are those of the header. */
@@ -412,6 +431,107 @@ public final class Seg2Test {
         return b;
     }
 
+    /** The value of a keyword as a number, a double and a location, quickly and fully. */
+    private static void sameNumbers(ByteBuffer b, int n, int trace, String key) {
+        Seg2.Decimal number = Seg2.number(b, n, trace, key);
+        Seg2.Decimal quick = Seg2.quickNumber(b, n, trace, key);
+        same(number.refusal(), quick.refusal());
+        same(new long[] {number.minus ? 1 : 0, number.coefficient, number.power, number.decimals},
+            new long[] {quick.minus ? 1 : 0, quick.coefficient, quick.power, quick.decimals});
+        Seg2.DoubleValue value = Seg2.doubleValue(b, n, trace, key);
+        Seg2.DoubleValue quickValue = Seg2.quickDoubleValue(b, n, trace, key);
+        same(value.refusal(), quickValue.refusal());
+        same(value.value, quickValue.value);
+        Seg2.Location at = Seg2.location(b, n, trace, key);
+        Seg2.Location quickAt = Seg2.quickLocation(b, n, trace, key);
+        same(at.refusal(), quickAt.refusal());
+        same(new double[] {at.count, at.x, at.y, at.z, at.xDecimals, at.yDecimals, at.zDecimals},
+            new double[] {quickAt.count, quickAt.x, quickAt.y, quickAt.z, quickAt.xDecimals, quickAt.yDecimals, quickAt.zDecimals});
+    }
+
+    /** The strings of a trace: how many, each, and all of them in one row, quickly and fully. */
+    private static void sameStrings(ByteBuffer b, int n, int trace) {
+        Seg2.Count count = Seg2.stringCount(b, n, trace);
+        Seg2.Count quick = Seg2.quickStringCount(b, n, trace);
+        same(count.refusal(), quick.refusal());
+        same(count.count, quick.count);
+        long[] places = new long[4 * count.count];
+        long[] quickPlaces = new long[4 * count.count];
+        same(Seg2.strings(b, n, trace, places).refusal(), Seg2.quickStrings(b, n, trace, quickPlaces).refusal());
+        same(places, quickPlaces);
+        for (int i = 0; i <= count.count; i++) {
+            Seg2.Entry entry = Seg2.string(b, n, trace, i);
+            Seg2.Entry quickEntry = Seg2.quickString(b, n, trace, i);
+            same(entry.refusal(), quickEntry.refusal());
+            same(entry.found, quickEntry.found);
+            long[] four = {entry.keyStart, entry.keyLength, entry.valueStart, entry.valueLength};
+            same(four, new long[] {quickEntry.keyStart, quickEntry.keyLength, quickEntry.valueStart, quickEntry.valueLength});
+            same(i < count.count, entry.found);
+            if (entry.found) {
+                same(four, Arrays.copyOfRange(places, 4 * i, 4 * i + 4));
+            }
+        }
+    }
+
+    /** The block of a trace and its samples, quickly and fully. */
+    private static void sameSamples(ByteBuffer b, int n, int trace) {
+        Seg2.TraceBlock block = Seg2.traceBlock(b, n, trace);
+        Seg2.TraceBlock quick = Seg2.quickTraceBlock(b, n, trace);
+        same(block.refusal(), quick.refusal());
+        same(new int[] {block.start, block.blockSize, block.dataSize, block.sampleCount, block.formatCode},
+            new int[] {quick.start, quick.blockSize, quick.dataSize, quick.sampleCount, quick.formatCode});
+        int[] row = new int[block.sampleCount];
+        int[] quickRow = new int[block.sampleCount];
+        IntBuffer view = direct(new int[block.sampleCount]);
+        Seg2.Refusal refusal = Seg2.integers(b, n, trace, row).refusal();
+        same(refusal, Seg2.quickIntegers(b, n, trace, quickRow).refusal());
+        same(refusal, Seg2.quickIntegers(b, n, trace, view).refusal());
+        same(row, quickRow);
+        for (int i = 0; i < row.length; i++) {
+            same(row[i], view.get(i));
+        }
+        long[] patterns = new long[block.sampleCount];
+        long[] quickPatterns = new long[block.sampleCount];
+        byte[] classes = new byte[block.sampleCount];
+        byte[] quickClasses = new byte[block.sampleCount];
+        same(Seg2.bits(b, n, trace, patterns, classes).refusal(), Seg2.quickBits(b, n, trace, quickPatterns, quickClasses).refusal());
+        same(patterns, quickPatterns);
+        same(classes, quickClasses);
+    }
+
+    /** A row has four places for each string, in order, and exactly so many. */
+    private static void stringsInOneRow() {
+        ByteBuffer b = example();
+        long[] places = new long[4];
+        accepted(Seg2.strings(b, 108, Seg2.FILE, places));
+        same(new long[] {38, 5, 44, 6}, places);
+        accepted(Seg2.quickStrings(b, 108, 0, places));
+        same(new long[] {90, 5, 96, 1}, places);
+        ByteBuffer none = withSheet("");
+        accepted(Seg2.strings(none, none.limit(), 0, new long[0]));
+        accepted(Seg2.quickStrings(none, none.limit(), 0, new long[0]));
+        for (int size : new int[] {0, 3, 5, 8}) {
+            long[] row = new long[size];
+            Arrays.fill(row, 7);
+            refused(32, -1, 0, Seg2.strings(b, 108, Seg2.FILE, row));
+            refused(32, -1, 0, Seg2.strings(b, 108, 0, row));
+            refused(32, -1, 0, Seg2.quickStrings(b, 108, 0, row));
+            for (long left : row) {
+                same(7L, left);
+            }
+        }
+        ByteBuffer group = withSheet("RECEIVER_GEOMETRY\t-5\nRECEIVER_GEOMETRY\t0.5\nSTACK\t12\nNOTE\tone\nNOTE\ttwo\n");
+        int n = group.limit();
+        long[] row = new long[4 * Seg2.quickStringCount(group, n, 0).count];
+        accepted(Seg2.quickStrings(group, n, 0, row));
+        StringBuilder told = new StringBuilder();
+        String bytes = new String(copy(group), StandardCharsets.ISO_8859_1);
+        for (int i = 0; i < row.length; i += 2) {
+            told.append(bytes, (int) row[i], (int) (row[i] + row[i + 1])).append('|');
+        }
+        same("RECEIVER_GEOMETRY|-5|RECEIVER_GEOMETRY|0.5|STACK|12|NOTE|one\ntwo|", told.toString());
+    }
+
     /** On an accepted file the quick answers are the full ones, and the values the buffer's own bytes. */
     private static void oneTraceQuickly() {
         ByteBuffer b = threeTraces();
@@ -427,7 +547,10 @@ public final class Seg2Test {
                 Seg2.Value value = Seg2.quickValue(b, n, trace, key);
                 same(whole.refusal(), value.refusal());
                 same(new int[] {whole.start, whole.length}, new int[] {value.start, value.length});
+                sameNumbers(b, n, trace, key);
             }
+            sameStrings(b, n, trace);
+            sameSamples(b, n, trace);
         }
         same(17, b.position());
         Seg2.Value stack = Seg2.quickValue(b, n, 2, "STACK");
@@ -445,8 +568,17 @@ public final class Seg2Test {
         same(true, Seg2.quickKeyword(b, n, 0, "UNITS").found);
         same("", Seg2.quickValue(b, n, 0, "UNITS").text());
         // the file's own strings are not asked here
-        refused(18, -1, 0, Seg2.quickKeyword(b, n, Seg2.FILE, "UNITS"));
-        refused(18, -1, 0, Seg2.quickValue(b, n, Seg2.FILE, "UNITS"));
+        for (Seg2.Answer answer : quickAnswers(b, n, Seg2.FILE, "UNITS")) {
+            refused(18, -1, 0, answer);
+        }
+        int[] row = {7, 7, 7};
+        refused(32, -1, 0, Seg2.quickIntegers(b, n, 0, row));
+        long[] patterns = {7, 7};
+        byte[] classes = {7, 7};
+        refused(33, -1, 0, Seg2.quickBits(b, n, 0, patterns, classes));
+        same(new int[] {7, 7, 7}, row);
+        same(new long[] {7, 7}, patterns);
+        same(new byte[] {7, 7}, classes);
         same("4", Seg2.quickValue(b.asReadOnlyBuffer(), n, 1, "STACK").text());
     }
 
@@ -458,9 +590,21 @@ public final class Seg2Test {
         int third = Seg2.traceBlock(b, n, 2).start;
         b.put(first, (byte) 0);
         refused(9, 0, first, Seg2.check(b, n));
-        refused(9, 0, first, Seg2.quickValue(b, n, 0, "STACK"));
-        refused(9, 0, first, Seg2.quickKeyword(b, n, 0, "STACK"));
+        for (Seg2.Answer answer : quickAnswers(b, n, 0, "STACK")) {
+            refused(9, 0, first, answer);
+        }
         same("4", Seg2.quickValue(b, n, 1, "STACK").text());
+        same(4L, Seg2.quickNumber(b, n, 1, "STACK").coefficient);
+        same(4.0, Seg2.quickDoubleValue(b, n, 1, "STACK".getBytes(StandardCharsets.US_ASCII)).value);
+        same(4.0, Seg2.quickLocation(b, n, 1, "STACK").x);
+        same("STACK", Seg2.quickString(b, n, 1, 1).keyText());
+        same(true, Seg2.quickKeyword(b, n, 1, "STACK").found);
+        same(4, Seg2.quickStringCount(b, n, 1).count);
+        accepted(Seg2.quickStrings(b, n, 1, new long[16]));
+        same(2, Seg2.quickTraceBlock(b, n, 1).sampleCount);
+        accepted(Seg2.quickIntegers(b, n, 1, new int[2]));
+        accepted(Seg2.quickIntegers(b, n, 1, direct(0, 0)));
+        refused(33, -1, 0, Seg2.quickBits(b, n, 1, new long[2], new byte[2]));
         // the CHANNEL_NUMBER is no number any more: 34 is not given, and the value is told as it stands
         int channel = Seg2.quickValue(b, n, 1, "CHANNEL_NUMBER").start;
         b.put(channel, (byte) 'X');
@@ -476,6 +620,16 @@ public final class Seg2Test {
             refused(16, 1, stack - 2, Seg2.quickKeyword(b, n, 1, key));
         }
         same(true, Seg2.quickValue(b, n, 1, "STACK").refusal().toString().startsWith("refused (16) in trace 1 at byte " + (stack - 2) + ": "));
+        // so is every question that goes through the strings; one by index before it, the block and the samples are not
+        for (Seg2.Answer answer : quickAnswersOnStrings(b, n, 1, "STACK")) {
+            refused(16, 1, stack - 2, answer);
+        }
+        same("CHANNEL_NUMBER", Seg2.quickString(b, n, 1, 0).keyText());
+        refused(16, 1, stack - 2, Seg2.quickString(b, n, 1, 1));
+        same(2, Seg2.quickTraceBlock(b, n, 1).sampleCount);
+        int[] row = new int[2];
+        accepted(Seg2.quickIntegers(b, n, 1, row));
+        same(new int[] {1, 2}, row);
         // the length is told beside the buffer, and 18 comes before the pointer
         refused(1, -1, 0, Seg2.quickValue(b, n + 1, 2, "STACK"));
         refused(10, 2, third + 2, Seg2.quickValue(b, third + 32, 2, "STACK"));
@@ -705,8 +859,19 @@ public final class Seg2Test {
             misused(words, () -> Seg2.number(bad, 108, 0, key));
             misused(words, () -> Seg2.doubleValue(bad, 108, 0, key));
             misused(words, () -> Seg2.location(bad, 108, 0, key));
+            misused(words, () -> Seg2.strings(bad, 108, 0, new long[4]));
+            misused(words, () -> Seg2.quickTraceBlock(bad, 108, 0));
+            misused(words, () -> Seg2.quickStringCount(bad, 108, 0));
+            misused(words, () -> Seg2.quickString(bad, 108, 0, 0));
+            misused(words, () -> Seg2.quickStrings(bad, 108, 0, new long[4]));
             misused(words, () -> Seg2.quickKeyword(bad, 108, 0, key));
             misused(words, () -> Seg2.quickValue(bad, 108, 0, key));
+            misused(words, () -> Seg2.quickNumber(bad, 108, 0, key));
+            misused(words, () -> Seg2.quickDoubleValue(bad, 108, 0, key));
+            misused(words, () -> Seg2.quickLocation(bad, 108, 0, key));
+            misused(words, () -> Seg2.quickIntegers(bad, 108, 0, new int[3]));
+            misused(words, () -> Seg2.quickIntegers(bad, 108, 0, direct(0, 0, 0)));
+            misused(words, () -> Seg2.quickBits(bad, 108, 0, new long[3], new byte[3]));
             misused(words, () -> Seg2.integers(bad, 108, 0, new int[3]));
             misused(words, () -> Seg2.integers(bad, 108, 0, direct(0, 0, 0)));
             misused(words, () -> Seg2.bits(bad, 108, 0, new long[3], new byte[3]));
@@ -734,6 +899,9 @@ public final class Seg2Test {
         misused("keyword is null", () -> Seg2.quickKeyword(good, 108, 0, noText));
         misused("keyword is null", () -> Seg2.quickValue(good, 108, 0, none));
         misused("keyword is null", () -> Seg2.quickValue(good, 108, 0, noText));
+        misused("keyword is null", () -> Seg2.quickNumber(good, 108, 0, none));
+        misused("keyword is null", () -> Seg2.quickDoubleValue(good, 108, 0, noText));
+        misused("keyword is null", () -> Seg2.quickLocation(good, 108, 0, none));
         misused("sheet is null", () -> Seg2.start(good, 0, 1, none));
         misused("sheet is null", () -> Seg2.addIntegers(good, 108, noText, 1, new int[1]));
         misused("sheet is null", () -> Seg2.addBits(good, 108, none, 4, new long[1]));
@@ -751,6 +919,13 @@ public final class Seg2Test {
         misused("row is null", () -> Seg2.integers(good, 108, 0, noView));
         misused("row is null", () -> Seg2.bits(good, 108, 0, null, new byte[3]));
         misused("row is null", () -> Seg2.bits(good, 108, 0, new long[3], null));
+        misused("read-only", () -> Seg2.quickIntegers(good, 108, 0, direct(0, 0, 0).asReadOnlyBuffer()));
+        misused("row is null", () -> Seg2.quickIntegers(good, 108, 0, noRow));
+        misused("row is null", () -> Seg2.quickIntegers(good, 108, 0, noView));
+        misused("row is null", () -> Seg2.quickBits(good, 108, 0, null, new byte[3]));
+        misused("row is null", () -> Seg2.quickBits(good, 108, 0, new long[3], null));
+        misused("row is null", () -> Seg2.strings(good, 108, 0, null));
+        misused("row is null", () -> Seg2.quickStrings(good, 108, 0, null));
         misused("row is null", () -> Seg2.addIntegers(good, 108, "", 1, noRow));
         misused("row is null", () -> Seg2.addIntegers(good, 108, "", 1, noView));
         misused("row is null", () -> Seg2.addBits(good, 108, "", 4, null));
@@ -760,11 +935,13 @@ public final class Seg2Test {
         ByteOrder other = ByteOrder.nativeOrder() == ByteOrder.LITTLE_ENDIAN ? ByteOrder.BIG_ENDIAN : ByteOrder.LITTLE_ENDIAN;
         IntBuffer swapped = ByteBuffer.allocateDirect(12).order(other).asIntBuffer();
         misused("byte order", () -> Seg2.integers(good, 108, 0, swapped));
+        misused("byte order", () -> Seg2.quickIntegers(good, 108, 0, swapped));
         misused("byte order", () -> Seg2.addIntegers(good, 108, "", 1, swapped));
         ByteBuffer odd = ByteBuffer.allocateDirect(16);
         odd.position(1);
         IntBuffer crooked = odd.slice().order(ByteOrder.nativeOrder()).asIntBuffer();
         misused("multiple of its element's size", () -> Seg2.integers(good, 108, 0, crooked));
+        misused("multiple of its element's size", () -> Seg2.quickIntegers(good, 108, 0, crooked));
     }
 
     private static void rowsInTheFilesOwnMemory() throws Exception {
@@ -778,11 +955,15 @@ public final class Seg2Test {
         IntBuffer inside = arena.slice().order(ByteOrder.nativeOrder()).asIntBuffer();
         inside.limit(3);
         misused("own memory", () -> Seg2.integers(file, 108, 0, inside));
+        misused("own memory", () -> Seg2.quickIntegers(file, 108, 0, inside));
         misused("own memory", () -> Seg2.addIntegers(file, 108, "", 1, inside));
         arena.position(120);
         IntBuffer beside = arena.slice().order(ByteOrder.nativeOrder()).asIntBuffer();
         beside.limit(3);
         accepted(Seg2.integers(file, 108, 0, beside));
+        same(256, beside.get(2));
+        beside.put(2, 0);
+        accepted(Seg2.quickIntegers(file, 108, 0, beside));
         same(256, beside.get(2));
     }
 
@@ -815,6 +996,9 @@ public final class Seg2Test {
             same(trace + ".5", number.text());
             same("RECEIVER_LOCATION", Seg2.string(b, length, trace, 0).keyText());
             same(1, Seg2.stringCount(b, length, trace).count);
+            sameNumbers(b, length, trace, "RECEIVER_LOCATION");
+            sameStrings(b, length, trace);
+            sameSamples(b, length, trace);
             if (trace < 3) {
                 int[] row = new int[block.sampleCount];
                 accepted(Seg2.integers(b, length, trace, row));
@@ -860,6 +1044,7 @@ public final class Seg2Test {
         test("bit patterns and classes", Seg2Test::bitsAndClasses);
         test("several receivers in one group", Seg2Test::severalReceivers);
         test("channel numbers in all traces or none", Seg2Test::channelNumbers);
+        test("all strings of a part in one row", Seg2Test::stringsInOneRow);
         test("one trace, quickly", Seg2Test::oneTraceQuickly);
         test("one trace of a file that is refused", Seg2Test::quicklyOfARefusedFile);
         test("numbers, doubles and locations", Seg2Test::numbersAndLocations);
