@@ -1,5 +1,5 @@
-// What `seg2` exports on one trace, quickly, under Rattle's own name: its block, how many strings it has, the i-th, whether a
-// keyword is there, its value. Each answer crosses as `face` and `face_values` hand it over. Stands on `quick`,
+// What `seg2` exports on one trace, quickly, under Rattle's own name: its block, how many strings it has, the i-th,
+// whether a keyword is there, its value. Each answer crosses as `face` and `face_values` hand it over. Stands on `quick`,
 // `quick_strings`, `one_trace`.
 // The rules in words: docs/FORMAT.md, "One trace, quickly".
 use face::Seg2Count;

@@ -1,5 +1,5 @@
-// What `seg2` exports that fills a lent row, under Rattle's own name: the strings of a part, and of one trace, quickly, its
-// strings and its samples. Each answer crosses as `face` hands it over. Stands on `string_rows`, `quick_strings`,
+// What `seg2` exports that fills a lent row, under Rattle's own name: the strings of a part, and of one trace, quickly,
+// its strings and its samples. Each answer crosses as `face` hands it over. Stands on `string_rows`, `quick_strings`,
 // `quick_samples`.
 // The rules in words: docs/FORMAT.md, "Strings" and "One trace, quickly".
 use face::Seg2Verdict;

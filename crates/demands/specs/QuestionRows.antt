@@ -176,7 +176,8 @@ unfolding stringsLeft numbersIn numbersOf
 row-holds-each how xs n z row i s ok e =
     let f : List ℕ = take n xs in
     rw ok (ap (part (4 * i) (4 * i + 4)) (inside (areaAsked f z))
-    ∙ numbers-nth (placesAsked how f z) i s (told (firstOf (partAskedRows how xs n z)) (nthOf (placesAsked how f z) i) (sym (nth-answers-first how xs n z i) ∙ e)))
+    ∙ numbers-nth (placesAsked how f z) i s
+    (told (firstOf (partAskedRows how xs n z)) (nthOf (placesAsked how f z) i) (sym (nth-answers-first how xs n z i) ∙ e)))
   where
     inside : (w : Area) → onArea w [] (λ a e. numbersOf (placesIn how (take n xs) a e)) ≡ numbersOf (onArea w [] (λ a e. placesIn how (take n xs) a e))
     inside Outside = refl

@@ -488,7 +488,8 @@ pub integers-answer-first : (xs : List ℕ) (n : ℕ) (z : ℤ) (s : ℕ)
     → quickIntegers xs n z s ≡ firstOf (quickRows xs n z (rowsAt File 0 (integersRows (blockAt (take n xs) (traceNumber z)) s)))
 unfolding quickIntegers integersVerdict
 integers-answer-first xs n z s =
-    quickly-first (λ v. v) Refused (λ f k. integersVerdict (blockAt f k) s) (λ r. refl) xs n z _ (ruled-rows (integersRows (blockAt (take n xs) (traceNumber z)) s))
+    quickly-first (λ v. v) Refused (λ f k. integersVerdict (blockAt f k) s) (λ r. refl) xs n z _
+    (ruled-rows (integersRows (blockAt (take n xs) (traceNumber z)) s))
 
 pub bits-answer-first : (xs : List ℕ) (n : ℕ) (z : ℤ) (s c : ℕ)
     → quickBits xs n z s c ≡ firstOf (quickRows xs n z (rowsAt File 0 (bitsRows (blockAt (take n xs) (traceNumber z)) s c)))

@@ -29,15 +29,7 @@ fn write(row: &mut [usize], j: usize, p: Place, e: usize)
 }
 
 // The strings of the area from a to e of f, into a row of four numbers each.
-pub fn fill(
-    f: &[u8],
-    a: usize,
-    e: usize,
-    high: bool,
-    t: &[u8],
-    how: Manner,
-    row: &mut [usize],
-)
+pub fn fill(f: &[u8], a: usize, e: usize, high: bool, t: &[u8], how: Manner, row: &mut [usize])
     requires { ⌜ (a ≤ e) × (e ≤ length (now f)) × (length (now row)
         ≡ 4 * length (placesOf how high (now t) (part a e (now f)) a)) × (length (now row) < 18446744073709551616) ⌝ }
     ensures { λ _. ⌜ now (row .exit) ≡ numbersOf (placesOf how high (now (t .entry)) (part a e (now (f .entry))) a) ⌝ }

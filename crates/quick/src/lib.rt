@@ -17,7 +17,8 @@ ghost use lib.ListN.{length};
 ghost use Rattle.word.specs.Part.{part, PartOf};
 ghost use Rattle.terminators.specs.Terminators.{goodTerminator};
 ghost use Rattle.until.specs.Until.{lookOf};
-ghost use Rattle.quick.specs.Quick.{walkBetween, quickWalk, toldBy, quickFind, quickKeyword, quickValue, quickSpan};
+ghost use Rattle.quick.specs.Quick.{walkBetween, quickWalk, toldBy, quickFind, quickKeyword, quickValue};
+ghost use Rattle.quick.specs.Quick.{quickSpan};
 
 // The walk along the strings of the trace k of an image, which stand from a to e.
 pub fn between(f: &[u8], a: usize, e: usize, k: u16, ask: Ask, key: &[u8]) -> Walked

@@ -46,11 +46,13 @@ module _ (xs : List ℕ) (n : ℕ) (z : ℤ) where
 
     pub integers-answer : (s : ℕ) → integersVerdict x s ≡ quickIntegers xs n z s
     unfolding quickIntegers
-    integers-answer s = quick-told xs n z x e Refused (λ f k. integersVerdict (blockAt f k) s) (ap (λ (y : TraceBlock). integersVerdict y s) (own-block xs n z x e))
+    integers-answer s =
+        quick-told xs n z x e Refused (λ f k. integersVerdict (blockAt f k) s) (ap (λ (y : TraceBlock). integersVerdict y s) (own-block xs n z x e))
 
     pub bits-answer : (s c : ℕ) → bitsVerdict x s c ≡ quickBits xs n z s c
     unfolding quickBits
-    bits-answer s c = quick-told xs n z x e Refused (λ f k. bitsVerdict (blockAt f k) s c) (ap (λ (y : TraceBlock). bitsVerdict y s c) (own-block xs n z x e))
+    bits-answer s c =
+        quick-told xs n z x e Refused (λ f k. bitsVerdict (blockAt f k) s c) (ap (λ (y : TraceBlock). bitsVerdict y s c) (own-block xs n z x e))
 
     pub integers-left : (row : List ℤ) → kept (integersVerdict x (length row)) (samplesIn f x) row ≡ quickIntegersLeft xs n z row
     unfolding quickIntegersLeft

@@ -21,13 +21,7 @@ pub fn integers(buffer: &[u8], n: usize, trace: i32, row: &mut [i32]) -> Verdict
 }
 
 // The bit patterns of a trace of code 4 or 5 and their classes, into two rows of S elements.
-pub fn bits(
-    buffer: &[u8],
-    n: usize,
-    trace: i32,
-    row: &mut [u64],
-    classes: &mut [u8],
-) -> Verdict
+pub fn bits(buffer: &[u8], n: usize, trace: i32, row: &mut [u64], classes: &mut [u8]) -> Verdict
     ensures answer { λ r. ⌜ r ≡ quickBits (now (buffer .entry)) n trace (length (now (row .entry)))
         (length (now (classes .entry))) ⌝ }
     ensures row { λ _. ⌜ now (row .exit) ≡ quickPatternsLeft (now (buffer .entry)) n trace (now (row .entry))

@@ -185,7 +185,12 @@ pub extern "C" fn seg2_quick_string(buffer: &[u8], n: usize, trace: i32, index: 
 
 // All its strings, into a row of four numbers each.
 #[no_mangle]
-pub extern "C" fn seg2_quick_strings(buffer: &[u8], n: usize, trace: i32, row: &mut [usize]) -> Seg2Verdict
+pub extern "C" fn seg2_quick_strings(
+    buffer: &[u8],
+    n: usize,
+    trace: i32,
+    row: &mut [usize],
+) -> Seg2Verdict
     ensures answer { λ r. ⌜ r ≡ asVerdict (quickStrings (now (buffer .entry)) n trace (length (now (row .entry)))) ⌝ }
     ensures row { λ _. ⌜ now (row .exit) ≡ quickStringsLeft (now (buffer .entry)) n trace (now (row .entry)) ⌝ }
 {
@@ -226,7 +231,12 @@ pub extern "C" fn seg2_quick_double(buffer: &[u8], n: usize, trace: i32, key: &[
 
 // The location that its keyword's value is.
 #[no_mangle]
-pub extern "C" fn seg2_quick_location(buffer: &[u8], n: usize, trace: i32, key: &[u8]) -> Seg2Location
+pub extern "C" fn seg2_quick_location(
+    buffer: &[u8],
+    n: usize,
+    trace: i32,
+    key: &[u8],
+) -> Seg2Location
     ensures { λ r. ⌜ r ≡ asLocation (quickLocation (now (buffer .entry)) n trace (now (key .entry))) ⌝ }
 {
     call_quick_values::location(buffer, n, trace, key)
@@ -234,7 +244,12 @@ pub extern "C" fn seg2_quick_location(buffer: &[u8], n: usize, trace: i32, key: 
 
 // Its samples of code 1 to 3, into a row of as many.
 #[no_mangle]
-pub extern "C" fn seg2_quick_integers(buffer: &[u8], n: usize, trace: i32, row: &mut [i32]) -> Seg2Verdict
+pub extern "C" fn seg2_quick_integers(
+    buffer: &[u8],
+    n: usize,
+    trace: i32,
+    row: &mut [i32],
+) -> Seg2Verdict
     ensures answer { λ r. ⌜ r ≡ asVerdict (quickIntegers (now (buffer .entry)) n trace (length (now (row .entry)))) ⌝ }
     ensures row { λ _. ⌜ now (row .exit) ≡ quickIntegersLeft (now (buffer .entry)) n trace (now (row .entry)) ⌝ }
 {

@@ -237,7 +237,8 @@ module _ (high : Bool) (t u : List ℕ) (p : Part) (f : List ℕ) (a e : ℕ) (f
       go zero h = refl
       go (suc m) h = rw (some m) (from-places high t u p f e fits look (suc m) 0 a [] (rw (some m) at h))
 
-  area-key : (key : List ℕ) → toldBy (walkPlaces (byKey key) f 0 (placesOf Strict high t (part a e f) a)) ≡ there (findOf Strict f (placesOf Strict high t (part a e f) a) key)
+  area-key : (key : List ℕ) → toldBy (walkPlaces (byKey key) f 0 (placesOf Strict high t (part a e f) a))
+      ≡ there (findOf Strict f (placesOf Strict high t (part a e f) a) key)
   unfolding stringsOf placesOf placesFrom findOf walkPlaces
   area-key key = go (length (part a e f)) q
     where
@@ -314,7 +315,8 @@ module _ (xs : List ℕ) (n : ℕ) (ok : checkOf Strict Read xs n ≡ Accepted) 
   -- ---- strings
 
   -- an answer that is made of a walk, and a full one that is made of the trace's places
-  module _ {A : Type 0} (bad : Refusal → A) (mk : Walked → A) (own : List Place → A) (look : ℕ → List ℕ → Turn) (refuses : (r : Refusal) → mk (walked.Bad r) ≡ bad r) where
+  module _ {A : Type 0} (bad : Refusal → A) (mk : Walked → A) (own : List Place → A) (look : ℕ → List ℕ → Turn)
+      (refuses : (r : Refusal) → mk (walked.Bad r) ≡ bad r) where
     outside : (v : Verdict) (w : Walked) → mk (asked walked.Bad v w) ≡ asked bad v (mk w)
     outside Accepted w = refl
     outside (Refused r) w = refuses r
@@ -327,7 +329,8 @@ module _ (xs : List ℕ) (n : ℕ) (ok : checkOf Strict Read xs n ≡ Accepted) 
     on-area k false = refl
 
     strings-by : (k : ℕ)
-        → ((a e : ℕ) → e ≤ length g → areaVerdict Strict (highFirst g) (stringEnd g) (lineEnd g) g (Trace k) a e ≡ Accepted → mk (walkPlaces look g 0 (placesIn Strict g a e)) ≡ own (placesIn Strict g a e))
+        → ((a e : ℕ) → e ≤ length g → areaVerdict Strict (highFirst g) (stringEnd g) (lineEnd g) g (Trace k) a e ≡ Accepted
+        → mk (walkPlaces look g 0 (placesIn Strict g a e)) ≡ own (placesIn Strict g a e))
         → mk (quickWalk look xs n (pos k))
         ≡ asked bad (checkOf Strict Read xs n) (onArea (areaNamed g (whoseOf (pos k) (countOf g))) (bad noTrace) (λ a e. own (placesIn Strict g a e)))
     unfolding quickWalk walkIn placesIn areaVerdict whoseOf
@@ -352,12 +355,12 @@ module _ (xs : List ℕ) (n : ℕ) (ok : checkOf Strict Read xs n ≡ Accepted) 
 
   pub nth-full : (k i : ℕ) → quickNth xs n (pos k) i ≡ nthAnswer Strict xs n (pos k) i
   unfolding quickNth nthAnswer
-  nth-full k i = strings-by string.Refused toldBy (λ ss. there (nthOf ss i)) (byIndex i) (λ r. refl) k 
+  nth-full k i = strings-by string.Refused toldBy (λ ss. there (nthOf ss i)) (byIndex i) (λ r. refl) k
       (λ a e fits q. let z : i - 0 ≡ i = omega arith in rw z at (by-index g i 0 (placesIn Strict g a e) (omega arith)))
 
   pub count-full : (k : ℕ) → quickCount xs n (pos k) ≡ countAnswer Strict xs n (pos k)
   unfolding quickCount countAnswer
-  count-full k = strings-by count.Refused countedBy (λ ss. count.Is (length ss)) toEnd (λ r. refl) k 
+  count-full k = strings-by count.Refused countedBy (λ ss. count.Is (length ss)) toEnd (λ r. refl) k
       (λ a e fits q.
       let z : 0 + length (placesIn Strict g a e) ≡ length (placesIn Strict g a e) = omega arith in
       ap countedBy (to-end g 0 (placesIn Strict g a e)) ∙ ap count.Is z)

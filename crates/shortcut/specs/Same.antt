@@ -193,7 +193,8 @@ module _ (xs ys : List ℕ) (n : ℕ) (z : ℤ) (long : length xs ≡ length ys)
       (λ c3 a3.
       stage bad f g (blockCheck f k) (blockCheck g k) _ _ _ (block-same f g size p32 k slot (traceAt f k) refl (a3 .0)) (a3 .1)
       (λ c4 a4.
-      h (alike f g size p32 k slot (traceAt f k) refl (a3 .0) (headed Read f (passed-met-none (topRows f z) c2 .0)) (blocked (highFirst f) f k (traceAt f k) c4)) a4))))
+      h (alike f g size p32 k slot (traceAt f k) refl (a3 .0) (headed Read f (passed-met-none (topRows f z) c2 .0))
+      (blocked (highFirst f) f k (traceAt f k) c4)) a4))))
       ∙ sym (chain bad ys n z (mk g k))
 
   pub block-same-answer : Agree f g (bytesRead blockRead xs n z) → blockAlone xs n z ≡ blockAlone ys n z
@@ -277,7 +278,8 @@ module _ (xs ys : List ℕ) (n : ℕ) (z : ℤ) (long : length xs ≡ length ys)
     unfolding numbersIn areaNamed placesIn walkIn
     numbers-same al s c w =
         ap numbersOf
-        (places-alike (highFirst f) (stringEnd f) (lineEnd f) (Trace k) (part (a toEnd al s) (e toEnd al s) f) (part (a toEnd al s) (e toEnd al s) g) (a toEnd al s) c
+        (places-alike (highFirst f) (stringEnd f) (lineEnd f) (Trace k) (part (a toEnd al s) (e toEnd al s) f) (part (a toEnd al s) (e toEnd al s) g)
+        (a toEnd al s) c
         (part-long (a toEnd al s) (e toEnd al s) f g (al .size)) (fronts toEnd al s) w)
         ∙ rw (end-same-place toEnd al s, ← al .start, ← al .order, ← al .strings)
 
@@ -428,7 +430,8 @@ behind-named f k (Refused r) ss h = tt
 
 module _ (xs : List ℕ) (n : ℕ) (z : ℤ) where
   read-named : (own : List ℕ → ℕ → List (ℕ × ℕ))
-      → (Blocked (highFirst (take n xs)) (take n xs) (traceAt (take n xs) (traceNumber z)) → AllNamed (take n xs) (traceNumber z) (own (take n xs) (traceNumber z)))
+      → (Blocked (highFirst (take n xs)) (take n xs) (traceAt (take n xs) (traceNumber z))
+      → AllNamed (take n xs) (traceNumber z) (own (take n xs) (traceNumber z)))
       → AllNamed (take n xs) (traceNumber z) (bytesRead own xs n z)
   unfolding bytesRead
   read-named own h =
@@ -437,7 +440,11 @@ module _ (xs : List ℕ) (n : ℕ) (z : ℤ) where
       behind-named f k (firstRow xs n) _ (λ c1. (
         file-block,
         behind-named f k (firstOf (topRows f z)) _
-            (λ c2. (pointer, behind-named f k (pointerCheck f k) _ (λ c3. (trace-block, behind-named f k (blockCheck f k) _ (λ c4. h (blocked (highFirst f) f k (traceAt f k) c4)))))),
+            (λ c2. (
+              pointer,
+              behind-named f k (pointerCheck f k) _
+                  (λ c3. (trace-block, behind-named f k (blockCheck f k) _ (λ c4. h (blocked (highFirst f) f k (traceAt f k) c4)))),
+            )),
       ))
 
   pub block-named : AllNamed (take n xs) (traceNumber z) (bytesRead blockRead xs n z)

@@ -321,7 +321,8 @@ module _ (high : Bool) (t : List ℕ) where
         go (Next o k) h e again =
             let f = next-fits Strict high t u p prev l at o k h .0 in
             let b = body-alike l r n (read-front toEnd m j prev l r at q) o f in
-            let s = rest-same o (readFrom toEnd m high t u p (j + 1) (take k (drop 2 l)) (drop o l) (at + o)) l r (rw (read-next toEnd m j prev l at o k h) at q) in
+            let s = rest-same o (readFrom toEnd m high t u p (j + 1) (take k (drop 2 l)) (drop o l) (at + o)) l r
+            (rw (read-next toEnd m j prev l at o k h) at q) in
             rw (f, b, again o k (drop-long o l r n) s e)
 
     pub places-alike : (l r : List ℕ) (at c : ℕ) → length l ≡ length r → take (readOf toEnd high t u p l at) l ≡ take (readOf toEnd high t u p l at) r

@@ -40,7 +40,15 @@ pub fn fill(f: &[u8], a: usize, e: usize, c: usize, how: Manner, row: &mut [usiz
     if size != 4 * fours {
         return row_length();
     }
-    places::fill(f, a, e, head::is_high(f), terminators::string_end(f), how, row);
+    places::fill(
+        f,
+        a,
+        e,
+        head::is_high(f),
+        terminators::string_end(f),
+        how,
+        row,
+    );
     Verdict::Accepted
 }
 

@@ -193,13 +193,10 @@ fn ask_quickly(
     // What is met first, what is met last or refused, and what would be past it.
     let count = keywords.len();
     let index = rng.pick(&[0, count.saturating_sub(1), count, count + 1]);
-    let more = rng.pick(&[0, 0, 1, 4]);
-    pair.lend_rows(&Rows::junk(
-        rng,
-        samples + more / 4,
-        samples,
-        4 * count + more,
-    ));
+    // Rows that are too long now and then.
+    let [more, numbers] = rng.pick(&[[0, 0], [0, 0], [0, 1], [1, 4]]);
+    let strings = 4 * count + numbers;
+    pair.lend_rows(&Rows::junk(rng, samples + more, samples, strings));
     let calls = [
         Call::TraceBlock { trace },
         Call::StringCount { part },

@@ -14,7 +14,6 @@ use std::ops::Range;
 pub struct Question {
     /// The question of the whole file, of which this is the quick form.
     pub full: Call,
-    pub trace: i32,
     pub key: Vec<u8>,
     pub rows: Rows,
 }
@@ -47,7 +46,8 @@ impl Question {
                 key: self.key.clone(),
             },
         };
-        reference::quick_read(buffer, length, self.trace.into(), &question)
+        let trace = self.full.part().expect("a question of a part");
+        reference::quick_read(buffer, length, trace.into(), &question)
     }
 
     /// Asked quickly, alike on both sides.
@@ -80,7 +80,6 @@ pub fn questions(
     let part = trace;
     let question = |full: Call, key: &[u8], rows: Rows| Question {
         full,
-        trace,
         key: key.to_vec(),
         rows,
     };

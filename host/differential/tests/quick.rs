@@ -57,20 +57,15 @@ fn the_file_of_108_bytes() {
     }
 }
 
-/// A question without a key.
-fn question(full: Call, trace: i32, rows: Rows) -> Question {
+/// A question with these rows; a key has no say in most.
+fn question(full: Call, rows: Rows) -> Question {
     let key = b"STACK".to_vec();
-    Question {
-        full,
-        trace,
-        key,
-        rows,
-    }
+    Question { full, key, rows }
 }
 
 /// A question of that file, asked quickly and of the whole file.
 fn both_told(pair: &mut Pair, full: Call, lent: Rows, told: Told) {
-    let question = question(full, 0, lent);
+    let question = question(full, lent);
     assert_eq!(question.ask(pair, 108).as_ref(), Ok(&told), "{full:?}");
     assert_eq!(question.ask_full(pair, 108), Ok(told), "{full:?}");
 }
@@ -353,7 +348,7 @@ fn other_bytes_change_nothing() {
 /// five.
 fn asked_of(rng: &mut Rng, trace: i32, asked: &QuickAsked) -> Vec<Question> {
     let part = trace;
-    let one = |full: Call, rows: Rows| vec![question(full, trace, rows)];
+    let one = |full: Call, rows: Rows| vec![question(full, rows)];
     let none = Rows::default();
     match &asked.question {
         reference::Question::Block => one(Call::TraceBlock { trace }, none),
@@ -365,7 +360,6 @@ fn asked_of(rng: &mut Rng, trace: i32, asked: &QuickAsked) -> Vec<Question> {
         reference::Question::Keyword { key } => keyword_questions(part)
             .map(|full| Question {
                 full,
-                trace,
                 key: key.clone(),
                 rows: Rows::default(),
             })
@@ -730,7 +724,7 @@ fn wrong_ways() -> Vec<(&'static str, Vec<&'static str>, Way)> {
         ("the next trace is read", every(), Way { slot: |k| k + 1, ..RIGHT }),
         ("the trace before is read", every(), Way { slot: |k| k.saturating_sub(1), ..RIGHT }),
         ("the first trace is read", every(), Way { slot: |_| 0, ..RIGHT }),
-        ("rows 11 to 13 are not judged", [&["quick_trace_block"], &walking()[..]].concat(), Way { samples: false, ..RIGHT }),
+        ("rows 11 to 13 are not judged", every(), Way { samples: false, ..RIGHT }),
         ("34 is given", every(), Way { also: Also::Row34, ..RIGHT }),
         ("the whole file is judged", every(), Way { also: Also::File, ..RIGHT }),
         ("the file's own strings are judged", every(), Way { also: Also::FilesStrings, ..RIGHT }),

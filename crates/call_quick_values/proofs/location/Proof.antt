@@ -13,4 +13,6 @@ location-spec =
     (tie.spec
     (λ c κs. search needs)
     (λ c κs. search needs)
-    (λ c. c .location-told .ensures ∙ ap asLocation (rw (toZ-ofZ {w = w32} (c .before .before .before .before .fits .trace)) at (c .before .location .ensures))))
+    (λ c.
+    c .location-told .ensures
+    ∙ ap asLocation (rw (toZ-ofZ {w = w32} (c .before .before .before .before .fits .trace)) at (c .before .location .ensures))))

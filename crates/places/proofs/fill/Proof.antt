@@ -45,7 +45,8 @@ next : (c : tie.After-s Inv-loop μ-loop)
     let args = at-loop .before .before .before .before .args in
     let string = c .s .given .0 in
     placesFrom (args .how) (l .inv .3 .0) (args .high) (args .t .now) (part (l .at) (args .e) (args .f .now)) (l .at)
-    ≡ string .0 ∷ placesFrom (args .how) (l .inv .3 .0 - 1) (args .high) (args .t .now) (part (l .at + string .1 .0) (args .e) (args .f .now)) (l .at + string .1 .0)
+    ≡ string .0 ∷ placesFrom (args .how) (l .inv .3 .0 - 1) (args .high) (args .t .now) (part (l .at + string .1 .0) (args .e) (args .f .now))
+    (l .at + string .1 .0)
 next c =
     let at-entry-at = c .before .before in
     let at-loop-test = at-entry-at .before .before in

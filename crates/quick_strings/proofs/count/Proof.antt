@@ -21,4 +21,5 @@ count-spec =
     let start = c .before .before .before .before in
     let args = start .args in
     c .counted .ensures
-    ∙ ap countedBy (handed w32 (λ (z : ℤ). quickWalk toEnd (args .buffer .now) (args .n) z) (args .trace) (start .fits .trace .sfits) (c .before .walk .ensures))))
+    ∙ ap countedBy (handed w32 (λ (z : ℤ). quickWalk toEnd (args .buffer .now) (args .n) z) (args .trace) (start .fits .trace .sfits)
+    (c .before .walk .ensures))))

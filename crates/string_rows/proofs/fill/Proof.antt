@@ -30,12 +30,17 @@ fill-spec =
     let start = c .before .before .before .before .before .before .before in
     let args = start .args in
     let p = placed (args .how) (args .f .now) (args .a) (args .e) _ _ (c .before .before .is-high .ensures) (c .before .string-end .ensures .0) in
-    (start .pre .0, start .pre .1, omega (arith, start .pre .4, ap length p, c .before .before .before .if2 .left, c .before .before .before .before .if1 .left), omega arith))
+    let at-if2 = c .before .before .before in
+    (start .pre .0, start .pre .1, omega (arith, start .pre .4, ap length p, at-if2 .if2 .left, at-if2 .before .if1 .left), omega arith))
     (λ c. search needs)
     (λ c.
     let start = c .before .before .before .before .before .before .before .before .before .before in
     let args = start .args in
-    let p = placed (args .how) (args .f .now) (args .a) (args .e) _ _ (c .before .before .before .before .before .is-high .ensures) (c .before .before .before .before .string-end .ensures .0) in
-    let good = row-good (args .c) (length (args .row .now)) (omega (arith, c .before .before .before .before .before .before .if2 .left,
-    c .before .before .before .before .before .before .before .if1 .left)) in
+    let p = placed (args .how) (args .f .now) (args .a) (args .e) _ _ (c .before .before .before .before .before .is-high .ensures)
+    (c .before .before .before .before .string-end .ensures .0) in
+    let good = row-good (args .c) (length (args .row .now)) (omega (
+      arith,
+      c .before .before .before .before .before .before .if2 .left,
+      c .before .before .before .before .before .before .before .if1 .left,
+    )) in
     (sym good, rw good (c .before .before .fill .ensures ∙ ap numbersOf p))))

@@ -21,7 +21,8 @@ led : (c : tie.After-o2)
 led c =
     let start = c .before .before .before .before .before in
     let args = start .args in
-    sym (handed w32 (λ (z : ℤ). openedOf (args .how) (args .buffer .now) (args .n) z) (args .part) (start .fits .part .sfits) (c .before .before .open-area .ensures))
+    sym (handed w32 (λ (z : ℤ). openedOf (args .how) (args .buffer .now) (args .n) z) (args .part) (start .fits .part .sfits)
+    (c .before .before .open-area .ensures))
     ∙ c .o2 .given .1
 
 lies : (c : tie.After-o2)
