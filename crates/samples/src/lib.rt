@@ -37,8 +37,8 @@ pub fn bits(
     ensures classes { λ _. ⌜ now (classes .exit)
         ≡ classesLeft how (now (buffer .entry)) n trace (now (row .entry)) (now (classes .entry)) ⌝ }
 {
-    let a = reader::trace_block(buffer, n, trace, how);
-    match a {
+    let b = reader::trace_block(buffer, n, trace, how);
+    match b {
         TraceAnswer::Refused(r) => Verdict::Refused(r),
         TraceAnswer::Is(t) => sample_rows::bits(&buffer[..n], t, row, classes),
     }
