@@ -13,7 +13,7 @@ use lib.ListN.{length, replicate}
 use Rattle.word.specs.Tests.{never}
 use Rattle.word.specs.Word.{lowBytes, bytesOf}
 use Rattle.chars.specs.Runs.{run, all, same}
-use Rattle.text.specs.Order.{rises-first}
+use Rattle.key_order.specs.Order.{rises-first}
 use Rattle.strings.specs.Spelled.{texts}
 use Rattle.sample.specs.Needed.{needed, room}
 use Rattle.fit.specs.Unfit.{firstFrom, outside, unfitInteger, unfitIntegers}

@@ -22,7 +22,7 @@ use Rattle.refusal.specs.declared.Verdict.the-variants.{Accepted, Refused}
 use Rattle.text.specs.declared.Manner.the-variants.{Strict}
 use Rattle.chars.specs.Chars.{blank, valueChar, control, note, blank-value}
 use Rattle.chars.specs.Runs.{all, same, same-eq, same-not, Stops, all-weaker}
-use Rattle.text.specs.Order.{rises, rises-note}
+use Rattle.key_order.specs.Order.{rises, rises-note}
 use Rattle.note.specs.Note.{withEnds, Each, Characters, LineEnd, control-ends, characters-are-lines}
 use Rattle.strings.specs.Strings as Strings
 use Rattle.strings.specs.Paper.{spelled-accepted}

@@ -103,7 +103,7 @@ fn write_strings(part: &mut [u8], high: bool, t: &[u8], u: &[u8], sheet: &[u8]) 
         let e = at + n;
         let w = text::key_run(&sheet[at..e], Manner::Strict);
         let k = at + w;
-        if text::is_note(&sheet[at..k]) {
+        if key_order::is_note(&sheet[at..k]) {
             return write_note(part, high, t, u, &sheet[at..], to);
         }
         to = write_line(part, high, t, &sheet[at..e], w, to);

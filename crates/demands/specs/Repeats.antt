@@ -14,8 +14,8 @@ use Rattle.word.specs.Tests.{never}
 use Rattle.text.specs.declared.Manner.the-variants.{Strict}
 use Rattle.chars.specs.Chars.{keyChar, note}
 use Rattle.chars.specs.Runs.{run, all, same}
-use Rattle.text.specs.Order.{before, receiverGeometry, sourceGeometry, rises, repeats-two, rises-again, rises-so}
-use Rattle.text.specs.Order.{rises-later, rises-first}
+use Rattle.key_order.specs.Order.{before, receiverGeometry, sourceGeometry, rises, repeats-two, rises-again, rises-so}
+use Rattle.key_order.specs.Order.{rises-later, rises-first}
 use Rattle.note.specs.Note.{Each}
 use Rattle.strings.specs.Spelled.{Str, nthStr, valueOfKey}
 use Rattle.strings.specs.Paper.{keywords-once}

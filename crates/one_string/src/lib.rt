@@ -23,7 +23,7 @@ fn is_value(u: &[u8], k: &[u8], v: &[u8]) -> bool
     requires { ⌜ 0 < length (now u) ⌝ }
     ensures { λ r. ⌜ r ≡ valueOk (now (u .entry)) (now (k .entry)) (now (v .entry)) ⌝ }
 {
-    if text::is_note(k) {
+    if key_order::is_note(k) {
         return note::walk_lines(u, v);
     }
     chars::all(Kind::Value, v)
@@ -47,7 +47,7 @@ fn judge(b: &[u8], u: &[u8], prev: &[u8]) -> Judged
     if !is_value(u, k, &r[g..]) {
         return Judged::Wrong(Rule::Character);
     }
-    if !text::rising(prev, k) {
+    if !key_order::rising(prev, k) {
         return Judged::Wrong(Rule::KeywordOrder);
     }
     Judged::Keyword(n)

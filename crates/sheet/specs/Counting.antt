@@ -20,7 +20,7 @@ use Rattle.refusal.specs.declared.Part.the-variants.{File}
 use Rattle.refusal.specs.declared.Verdict.the-variants.{Accepted, Refused}
 use Rattle.chars.specs.Chars.{note}
 use Rattle.chars.specs.Runs.{same}
-use Rattle.text.specs.Order.{rises, rises-note}
+use Rattle.key_order.specs.Order.{rises, rises-note}
 use Rattle.sheet_line.specs.declared.Step.the-variants.{Next, Bad}
 use Rattle.sheet.specs.declared.Measured as measured
 use Rattle.sheet.specs.declared.Measured.the-variants.{Size}

@@ -17,7 +17,7 @@ use Rattle.refusal.specs.declared.Verdict.the-variants.{Accepted}
 use Rattle.strings.specs.declared.Judged.the-variants.{Keyword}
 use Rattle.chars.specs.Chars.{inLine, keyChar}
 use Rattle.chars.specs.Runs.{run, all, Stops, all-append, all-weaker, run-all, run-stops, run-append}
-use Rattle.text.specs.Order.{rises}
+use Rattle.key_order.specs.Order.{rises}
 use Rattle.sheet_line.specs.declared.Step.{Step}
 use Rattle.sheet_line.specs.declared.Step.the-variants.{Next, Bad}
 use Rattle.sheet_line.specs.SheetLine.{plain, lineLen, lineKeyLen, spaced, continues, lineJudged, lineStep}

@@ -11,7 +11,7 @@ use Rattle.refusal.specs.declared.Verdict.the-variants.{Accepted}
 use Rattle.chars.specs.Chars.{note}
 use Rattle.chars.specs.Runs.{same, same-eq}
 use Rattle.text.specs.declared.Manner.the-variants.{Strict}
-use Rattle.text.specs.Order.{rises-note}
+use Rattle.key_order.specs.Order.{rises-note}
 use Rattle.strings.specs.Spelled.{hasKey, valueOfKey}
 use Rattle.sheet_line.specs.SheetLine.{continues}
 use Rattle.sheet.specs.Lines.{Line, linesVerdict, sheetLines}

@@ -19,7 +19,7 @@ use Rattle.strings.specs.declared.Judged.{Judged}
 use Rattle.strings.specs.declared.Judged.the-variants.{Keyword, Wrong}
 use Rattle.chars.specs.Chars.{keyChar}
 use Rattle.chars.specs.Runs.{run, all}
-use Rattle.text.specs.Order.{rises}
+use Rattle.key_order.specs.Order.{rises}
 use Rattle.sheet_line.specs.declared.Step.the-variants.{Next, Bad}
 use Rattle.sheet_line.specs.SheetLine.{plain, lineLen, lineKeyLen, spaced, continues, lineRows, lineJudged, onLineJudged}
 use Rattle.sheet_line.specs.SheetLine.{lineStep}

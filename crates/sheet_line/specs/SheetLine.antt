@@ -16,7 +16,7 @@ use Rattle.strings.specs.declared.Judged.{Judged}
 use Rattle.strings.specs.declared.Judged.the-variants.{Keyword, Wrong}
 use Rattle.chars.specs.Chars.{keyChar, inLine, printed, note}
 use Rattle.chars.specs.Runs.{run, all, same}
-use Rattle.text.specs.Order.{rises}
+use Rattle.key_order.specs.Order.{rises}
 use Rattle.sheet_line.specs.declared.Step.{Step}
 use Rattle.sheet_line.specs.declared.Step.the-variants.{Next, Bad}
 

@@ -38,7 +38,7 @@ fn is_spaced(v: &[u8]) -> bool
 pub fn is_continued(prev: &[u8], k: &[u8]) -> bool
     ensures { λ r. ⌜ r ≡ continues (now (prev .entry)) (now (k .entry)) ⌝ }
 {
-    text::is_note(prev) & text::is_note(k)
+    key_order::is_note(prev) & key_order::is_note(k)
 }
 
 // Rows 25 and 26 of a line without its end; prev is the keyword before.
@@ -65,7 +65,7 @@ fn judge(l: &[u8], prev: &[u8]) -> Judged
     if is_spaced(v) & !more {
         return Judged::Wrong(Rule::SheetLine);
     }
-    if !(more | text::rising(prev, k)) {
+    if !(more | key_order::rising(prev, k)) {
         return Judged::Wrong(Rule::SheetOrder);
     }
     Judged::Keyword(n)

@@ -21,7 +21,7 @@ use Rattle.refusal.specs.declared.Refusal.{Refusal}
 use Rattle.refusal.specs.declared.Verdict.{Verdict}
 use Rattle.refusal.specs.declared.Verdict.the-variants.{Accepted, Refused}
 use Rattle.text.specs.declared.Manner.the-variants.{Strict}
-use Rattle.text.specs.Order.{before, rises, before-other, before-rises}
+use Rattle.key_order.specs.Order.{before, rises, before-other, before-rises}
 use Rattle.chars.specs.Runs.{same}
 use Rattle.strings.specs.declared.Frame.the-variants.{Text}
 use Rattle.strings.specs.declared.Judged.the-variants.{Keyword}

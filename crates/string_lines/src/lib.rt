@@ -42,7 +42,7 @@ fn put_string(out: &mut [u8], at: usize, part: Part, u: &[u8], key: &[u8], v: &[
         (linesText part (now (key .entry)) (valuesOf (now (u .entry)) (now (key .entry)) (now (v .entry)))) r
         (now (out .exit)) ⌝ }
 {
-    if text::is_note(key) {
+    if key_order::is_note(key) {
         return put_lines(out, at, part, key, u, v);
     }
     lines::put_line(out, at, part, key, v)

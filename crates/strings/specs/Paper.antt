@@ -36,7 +36,7 @@ use Rattle.text.specs.declared.Manner.{Manner}
 use Rattle.text.specs.declared.Manner.the-variants.{Strict}
 use Rattle.chars.specs.Chars.{blank, solid, solid-not-blank}
 use Rattle.chars.specs.Runs.{run, all, same, same-eq, same-refl, Stops, all-weaker, run-all, run-stops, run-append}
-use Rattle.text.specs.Order.{rises, repeats, rises-again, rises-transitive, rises-both}
+use Rattle.key_order.specs.Order.{rises, repeats, rises-again, rises-transitive, rises-both}
 use Rattle.text.specs.Manner.{openEnd, letter, letter-solid, named, follows}
 use Rattle.note.specs.Note.{LineEnd, value-accept, value-spelled}
 use Rattle.strings.specs.Strings.{offset, body, keyLen, keyOf, afterKey, gapLen, gapOf, valueOf, cut, frameRows}

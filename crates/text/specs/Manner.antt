@@ -8,7 +8,7 @@ use Prim.Native.Nat.{ℕ}
 use Rattle.text.specs.declared.Manner.{Manner}
 use Rattle.text.specs.declared.Manner.the-variants.{Strict}
 use Rattle.chars.specs.Chars.{solid, keyChar, capital, key-solid, capital-key}
-use Rattle.text.specs.Order.{rises}
+use Rattle.key_order.specs.Order.{rises}
 
 -- whether a list of strings may end where no byte of its area is left; else "Offset 0 ends the list" alone
 abbrev pub openEnd : Manner → Bool

@@ -1,6 +1,5 @@
-// Keywords (document 01, "Strings"; document 02, §1): the characters that they have, their order, NOTE, and the manner
-// of reading them.
-// Definitions in Order and Manner. Stands on `chars`, and on `word` and `refusal` for laws alone.
+// Keywords (document 01, "Strings"): the characters that they have, what they count as, what they may follow, in the
+// manner of reading. Definitions in Manner. Stands on `key_order`, `chars`, and on `word` and `refusal` for laws alone.
 // The rules in words: docs/FORMAT.md, "Strings".
 use chars::Kind;
 ghost use mathlib.Core.Path.{_≡_};
@@ -8,7 +7,6 @@ ghost use Prim.Native.Nat.{_≤_};
 ghost use lib.ListN.{length};
 ghost use Rattle.chars.specs.Chars.{note};
 ghost use Rattle.chars.specs.Runs.{run, same};
-ghost use Rattle.text.specs.Order.{less, before, repeats, rises};
 ghost use Rattle.text.specs.Manner.{openEnd, letter, named, follows, asksChannels};
 
 // The manner of reading strings: `specs/Manner.antt` has what it decides. Strict is document 01's.
@@ -40,35 +38,6 @@ pub fn key_run(s: &[u8], how: Manner) -> usize
         i += 1;
     }
     i
-}
-
-// Whether p stands before k in byte order, a prefix first.
-fn is_less(p: &[u8], k: &[u8]) -> bool
-    ensures { λ r. ⌜ r ≡ less (now (p .entry)) (now (k .entry)) ⌝ }
-{
-    let mut i: usize = 0;
-    while i < p.len() {
-        if k.len() <= i {
-            return false;
-        }
-        if p[i] < k[i] {
-            return true;
-        }
-        if k[i] < p[i] {
-            return false;
-        }
-        i += 1;
-    }
-    if i < k.len() {
-        return true;
-    }
-    false
-}
-
-pub fn is_note(k: &[u8]) -> bool
-    ensures { λ r. ⌜ r ≡ same (now (k .entry)) note ⌝ }
-{
-    chars::is_same(k, b"NOTE")
 }
 
 // Whether the keyword k counts as the asked one.
@@ -105,36 +74,6 @@ pub fn asks_channels(how: Manner) -> bool
     }
 }
 
-// Whether the keyword p comes before the keyword k: byte order, and NOTE after all others.
-pub fn is_before(p: &[u8], k: &[u8]) -> bool
-    ensures { λ r. ⌜ r ≡ before (now (p .entry)) (now (k .entry)) ⌝ }
-{
-    if is_note(p) {
-        return false;
-    }
-    if is_note(k) {
-        return true;
-    }
-    is_less(p, k)
-}
-
-// Whether the keyword k may stand several times running.
-fn is_repeating(k: &[u8]) -> bool
-    ensures { λ r. ⌜ r ≡ repeats (now (k .entry)) ⌝ }
-{
-    chars::is_same(k, b"RECEIVER_GEOMETRY") | chars::is_same(k, b"SOURCE_GEOMETRY")
-}
-
-// Whether the keyword k may follow the keyword p.
-pub fn rising(p: &[u8], k: &[u8]) -> bool
-    ensures { λ r. ⌜ r ≡ rises (now (p .entry)) (now (k .entry)) ⌝ }
-{
-    if is_before(p, k) {
-        return true;
-    }
-    chars::is_same(p, k) & is_repeating(k)
-}
-
 // Whether it may in the manner of reading.
 pub fn following(p: &[u8], k: &[u8], how: Manner) -> bool
     ensures { λ r. ⌜ r ≡ follows how (now (p .entry)) (now (k .entry)) ⌝ }
@@ -142,10 +81,10 @@ pub fn following(p: &[u8], k: &[u8], how: Manner) -> bool
     match how {
         Manner::Strict => {
             // Most keywords come later, and that is settled without a call.
-            if is_before(p, k) {
+            if key_order::is_before(p, k) {
                 return true;
             }
-            rising(p, k)
+            key_order::rising(p, k)
         }
     }
 }

@@ -17,7 +17,7 @@ use Rattle.refusal.specs.Table.{refusal}
 use Rattle.refusal.specs.Rows.{pick}
 use Rattle.chars.specs.Runs.{same}
 use Rattle.text.specs.declared.Manner.the-variants.{Strict}
-use Rattle.text.specs.Order.{before}
+use Rattle.key_order.specs.Order.{before}
 use Rattle.strings.specs.declared.Step.{Step}
 use Rattle.strings.specs.declared.Step.the-variants.{Next, Done, Bad}
 use Rattle.strings.specs.Strings.{stepOf, placeOf}

@@ -48,7 +48,7 @@ fn look(ask: Ask, key: &[u8], j: usize, k: &[u8]) -> Turn
             if chars::is_same(k, key) {
                 return Turn::Here;
             }
-            if text::is_before(key, k) {
+            if key_order::is_before(key, k) {
                 return Turn::Gone; // it is passed
             }
             Turn::On

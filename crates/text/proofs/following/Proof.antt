@@ -1,6 +1,6 @@
 -- `text::following` meets its contract. Assumes nothing.
 use mathlib.Core.Path.{sym, _∙_}
-use Rattle.text.specs.Order.{rises-later}
+use Rattle.key_order.specs.Order.{rises-later}
 use Rattle.text.specs.Manner.{one-manner}
 use borrow.Author.Needs.{needs}
 use Rattle.text.proofs.following.Statement.{statement}

@@ -1,8 +1,8 @@
--- `text::is_repeating` meets its contract. Assumes nothing.
-use Rattle.text.specs.Order.{repeats}
+-- `key_order::is_repeating` meets its contract. Assumes nothing.
+use Rattle.key_order.specs.Order.{repeats}
 use borrow.Author.Needs.{needs}
-use Rattle.text.proofs.is_repeating.Statement.{statement}
-use Rattle.text.proofs.is_repeating.Tie as tie
+use Rattle.key_order.proofs.is_repeating.Statement.{statement}
+use Rattle.key_order.proofs.is_repeating.Tie as tie
 
 pub is-repeating-spec : {M : Type 1} → statement M
 unfolding repeats

@@ -1,11 +1,11 @@
--- `text::is_less` meets its contract. The invariant: what is left compares as the whole does. Assumes nothing.
+-- `key_order::is_less` meets its contract. The invariant: what is left compares as the whole does. Assumes nothing.
 use mathlib.Core.Path.{_≡_, refl, _∙_}
 use Prim.Native.Nat.{_≤_, _-_}
 use lib.ListN.{length, drop}
-use Rattle.text.specs.Order.{less, less-short, less-below, less-above, less-next, less-longer, less-ended}
+use Rattle.key_order.specs.Order.{less, less-short, less-below, less-above, less-next, less-longer, less-ended}
 use borrow.Author.Needs.{needs}
-use Rattle.text.proofs.is_less.Statement.{statement}
-use Rattle.text.proofs.is_less.Tie as tie
+use Rattle.key_order.proofs.is_less.Statement.{statement}
+use Rattle.key_order.proofs.is_less.Tie as tie
 
 abbrev Inv-loop : tie.InvT-loop
 Inv-loop p k i₀ i = (i ≤ length p) × (less (drop i p) (drop i k) ≡ less p k)

@@ -1,9 +1,9 @@
--- `text::rising` meets its contract. Assumes nothing.
+-- `key_order::rising` meets its contract. Assumes nothing.
 use mathlib.Core.Path.{sym, _∙_}
-use Rattle.text.specs.Order.{rises}
+use Rattle.key_order.specs.Order.{rises}
 use borrow.Author.Needs.{needs}
-use Rattle.text.proofs.rising.Statement.{statement}
-use Rattle.text.proofs.rising.Tie as tie
+use Rattle.key_order.proofs.rising.Statement.{statement}
+use Rattle.key_order.proofs.rising.Tie as tie
 
 pub rising-spec : {M : Type 1} → statement M
 unfolding rises

@@ -1,9 +1,9 @@
--- `text::is_before` meets its contract. Assumes nothing.
+-- `key_order::is_before` meets its contract. Assumes nothing.
 use mathlib.Core.Path.{sym, _∙_}
-use Rattle.text.specs.Order.{before}
+use Rattle.key_order.specs.Order.{before}
 use borrow.Author.Needs.{needs}
-use Rattle.text.proofs.is_before.Statement.{statement}
-use Rattle.text.proofs.is_before.Tie as tie
+use Rattle.key_order.proofs.is_before.Statement.{statement}
+use Rattle.key_order.proofs.is_before.Tie as tie
 
 pub is-before-spec : {M : Type 1} → statement M
 unfolding before
