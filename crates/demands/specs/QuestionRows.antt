@@ -49,7 +49,9 @@ use Rattle.reader.specs.declared.CountAnswer.the-variants as count
 use Rattle.reader.specs.declared.Area.{Area}
 use Rattle.reader.specs.declared.Area.the-variants.{Outside, From}
 use Rattle.word.specs.Part.{part}
-use Rattle.places.specs.Numbers.{fourOf, numbersOf, numbers-nth}
+use Rattle.places.specs.Numbers.{numbersOf, numbers-nth}
+use Rattle.face_values.specs.declared.Seg2String.{Seg2String}
+use Rattle.face_values.specs.FaceValues.{asString}
 use Rattle.reader.specs.declared.StringAnswer.the-variants as string
 use Rattle.reader.specs.declared.KeywordAnswer.the-variants as keyword
 use Rattle.reader.specs.Questions.{noTrace, whoseOf, isTrace, areaNamed, areaAsked, onArea, onTrace, fileAnswer, traceAnswer}
@@ -168,14 +170,17 @@ strings-answer-first how xs n z s =
     go Accepted c = refl
     go (Refused r) c = refl
 
--- "four numbers a string": the i-th four are those that the question for the i-th string answers. Rules out another order, a
--- place of another string, and a row whose strings are not those of the part.
+-- "four numbers a string": the i-th four are those of C's answer to the question for the i-th string, starts and lengths.
+-- Rules out another order, a place of another string, and a row whose strings are not those of the part.
+abbrev pub fourIn : Seg2String → List ℕ
+fourIn s = s .«key_start» ∷ s .«key_length» ∷ s .«value_start» ∷ s .«value_length» ∷ []
+
 pub row-holds-each : (how : Manner) (xs : List ℕ) (n : ℕ) (z : ℤ) (row : List ℕ) (i : ℕ) (s : Place) → stringsAnswer how xs n z (length row) ≡ Accepted
-    → nthAnswer how xs n z i ≡ string.There s → part (4 * i) (4 * i + 4) (stringsLeft how xs n z row) ≡ fourOf s
-unfolding stringsLeft numbersIn numbersOf
+    → nthAnswer how xs n z i ≡ string.There s → part (4 * i) (4 * i + 4) (stringsLeft how xs n z row) ≡ fourIn (asString (nthAnswer how xs n z i))
+unfolding stringsLeft numbersIn numbersOf asString
 row-holds-each how xs n z row i s ok e =
     let f : List ℕ = take n xs in
-    rw ok (ap (part (4 * i) (4 * i + 4)) (inside (areaAsked f z))
+    rw (e, ok) (ap (part (4 * i) (4 * i + 4)) (inside (areaAsked f z))
     ∙ numbers-nth (placesAsked how f z) i s
     (told (firstOf (partAskedRows how xs n z)) (nthOf (placesAsked how f z) i) (sym (nth-answers-first how xs n z i) ∙ e)))
   where

@@ -68,7 +68,7 @@ use Rattle.until.specs.declared.Turn.the-variants.{Here, Gone, On}
 use Rattle.until.specs.declared.Walked.{Walked}
 use Rattle.until.specs.declared.Walked.the-variants as walked
 use Rattle.until.specs.Until.{byKey, byIndex, toEnd, onTurn, walkFrom, walkOf}
-use Rattle.until.specs.Counted.{counted, never-at}
+use Rattle.quick.specs.QuickLaws.{never-string, all-counted}
 use Rattle.one_trace.specs.Alone.{aloneOf, blockAlone}
 use Rattle.quick.specs.Quick.{quickly, walkIn, toldBy, countedBy, quickWalk, quickFind, quickNth, quickCount, quickStrings, quickStringsLeft}
 use Rattle.quick.specs.Quick.{quickKeyword, quickValue, quickSpan, quickRead, quickNumber, quickDouble, quickLocation}
@@ -83,7 +83,8 @@ use Rattle.shortcut.specs.Same.{AllNamed, block-named, strings-named, integers-
 use Rattle.face.specs.Face.{asVerdict, asTrace, asCount}
 use Rattle.face_values.specs.FaceValues.{asString, asKeyword, asValue, asNumber, asDouble, asLocation}
 use Rattle.demands.specs.FileRows.{text-first, ends-first, pick-first, pointerTest, block-first, head-first}
-use Rattle.demands.specs.QuestionRows.{ruled-rows}
+use Rattle.demands.specs.QuestionRows.{fourIn, ruled-rows}
+use Rattle.shortcut.specs.Row.{row-holds}
 
 -- ---- "On every file that the full check accepts, the answer equals the full one": every question, as it crosses, and each
 -- lent row, of every trace number from 0 on (those past the last are 18 in both). Rules out a walk that ends too early or
@@ -414,15 +415,6 @@ count-answers-first xs n z = counted-refusal (quickWalk toEnd xs n z) ∙ walk-a
 abbrev pub rowOf32 : List ℕ → ℕ → ℕ → Verdict
 rowOf32 f k s = row (not (eqb s (4 * length (placesIn Strict f (traceAt f k + 32) (dataAt (highFirst f) f (traceAt f k)))))) RowLength File 0
 
-no-string : (f : List ℕ) (k : ℕ) (s : Place) → walkIn toEnd f k ≡ walked.At s → ⊥
-unfolding walkIn
-no-string f k s h = never-at (highFirst f) (stringEnd f) (lineEnd f) (Trace k) _ _ s h
-
-as-many : (f : List ℕ) (k c : ℕ) → walkIn toEnd f k ≡ walked.Over c
-    → c ≡ length (placesIn Strict f (traceAt f k + 32) (dataAt (highFirst f) f (traceAt f k)))
-unfolding walkIn placesIn
-as-many f k c h = counted (highFirst f) (stringEnd f) (lineEnd f) (Trace k) _ _ c h
-
 pub strings-answer-first : (xs : List ℕ) (n : ℕ) (z : ℤ) (s : ℕ)
     → quickStrings xs n z s
     ≡ firstOf (quickRows xs n z (stringsRows toEnd (take n xs) (traceNumber z) ++ (rowOf32 (take n xs) (traceNumber z) s ∷ [])))
@@ -444,9 +436,16 @@ strings-answer-first xs n z s =
     outside (Refused r) w = refl
 
     own : (w : Walked) → walkIn toEnd f k ≡ w → stringsVerdict (countedBy w) s ≡ andThen (walkRefusal w) (rowOf32 f k s)
-    own (walked.At p) h = absurd (no-string f k p h)
-    own (walked.Over c) h = rw (as-many f k c h)
+    own (walked.At p) h = absurd (never-string f k p h)
+    own (walked.Over c) h = rw (all-counted f k c h)
     own (walked.Bad r) h = refl
+
+-- and the i-th four numbers of the row are those of C's answer to the quick question for the i-th string, on any file. Rules
+-- out a row of strings that were not judged.
+pub quick-row-holds-each : (xs : List ℕ) (n : ℕ) (z : ℤ) (lent : List ℕ) (i : ℕ) (s : Place) → quickStrings xs n z (length lent) ≡ Accepted
+    → quickNth xs n z i ≡ string.There s → part (4 * i) (4 * i + 4) (quickStringsLeft xs n z lent) ≡ fourIn (asString (quickNth xs n z i))
+unfolding asString
+quick-row-holds-each xs n z lent i s v h = row-holds xs n z lent i s v h ∙ sym (rw h)
 
 -- 20 to 23 behind the search's rows: those of the value
 read-first : {A : Type 0} (refuses : A → Verdict) (bad : Refusal → A) (read : List ℕ → A) → ((r : Refusal) → refuses (bad r) ≡ Refused r)

@@ -31,15 +31,17 @@ use Rattle.image.specs.Keeps.{traceAt}
 use Rattle.until.specs.declared.Turn.{Turn}
 use Rattle.until.specs.declared.Walked.{Walked}
 use Rattle.until.specs.declared.Walked.the-variants as walked
-use Rattle.until.specs.Until.{byKey}
+use Rattle.until.specs.Until.{byKey, toEnd}
+use Rattle.until.specs.Counted.{counted, never-at}
 use Rattle.until.specs.Turns.{EndsIn, walk-in}
 use Rattle.reader.specs.declared.Area.the-variants.{From}
 use Rattle.reader.specs.declared.Whose.the-variants.{One}
 use Rattle.reader.specs.declared.StringAnswer.{StringAnswer}
 use Rattle.reader.specs.declared.StringAnswer.the-variants as string
-use Rattle.reader.specs.Questions.{traceNumber, areaNamed, blockAt, valueThere, spanThere, onString}
+use Rattle.text.specs.declared.Manner.the-variants.{Strict}
+use Rattle.reader.specs.Questions.{traceNumber, areaNamed, placesIn, blockAt, valueThere, spanThere, onString}
 use Rattle.reader.specs.Leaves.{Within}
-use Rattle.reader.specs.Reach.{value-within}
+use Rattle.reader.specs.Reach.{found-told, made-told}
 use Rattle.one_trace.specs.Alone.{aloneOf, blockAlone}
 use Rattle.one_trace.specs.AloneLaws.{Alone, alone-passed, alone-read, alone-refused}
 use Rattle.quick.specs.Quick.{quickly, walkBetween, walkIn, quickWalk, toldBy, quickFind, quickValue, quickRead, quickSpan}
@@ -137,17 +139,26 @@ pub find-lent : (xs : List ℕ) (n : ℕ) (z : ℤ) (key : List ℕ) → Within 
 unfolding quickFind
 find-lent xs n z key = walk-lent (byKey key) xs n z
 
+-- ---- a walk along all strings of a trace ends at none of them, and has passed as many as there are
+pub never-string : (f : List ℕ) (k : ℕ) (s : Place) → walkIn toEnd f k ≡ walked.At s → ⊥
+unfolding walkIn
+never-string f k s h = never-at (highFirst f) (stringEnd f) (lineEnd f) (Trace k) _ _ s h
+
+pub all-counted : (f : List ℕ) (k c : ℕ) → walkIn toEnd f k ≡ walked.Over c
+    → c ≡ length (placesIn Strict f (traceAt f k + 32) (dataAt (highFirst f) f (traceAt f k)))
+unfolding walkIn placesIn
+all-counted f k c h = counted (highFirst f) (stringEnd f) (lineEnd f) (Trace k) _ _ c h
+
 -- the value that is found is the answer, and stands where the answer stands
 pub value-told : (xs : List ℕ) (n : ℕ) (z : ℤ) (key : List ℕ) (s : StringAnswer) → s ≡ quickFind xs n z key
     → valueThere xs s ≡ quickValue xs n z key
 unfolding quickValue
-value-told xs n z key s e = ap (λ (r : StringAnswer). valueThere xs r) e ∙ value-within xs n (quickFind xs n z key) (find-within xs n z key)
+value-told xs n z key s e = found-told xs n s (quickFind xs n z key) e (find-within xs n z key)
 
 -- and what is made of it is the answer, unless a row was met
 pub read-told : {A : Type 0} (bad : Refusal → A) (g : List ℕ → A) (xs : List ℕ) (n : ℕ) (z : ℤ) (key : List ℕ) (s : StringAnswer) → s ≡ quickFind xs n z key
     → onString bad s (g (valueThere xs s)) ≡ quickRead bad g xs n z key
-read-told bad g xs n z key s e =
-    ap (λ (v : List ℕ). onString bad s (g v)) (value-told xs n z key s e) ∙ ap (λ (r : StringAnswer). onString bad r (g (quickValue xs n z key))) e
+read-told bad g xs n z key s e = made-told bad g xs s (quickFind xs n z key) (quickValue xs n z key) e (value-told xs n z key s e)
 
 pub span-told : {b r : RefT (List ℕ)} (xs : List ℕ) (n : ℕ) (z : ℤ) (key : List ℕ) (s : StringAnswer) → s ≡ quickFind xs n z key
     → PartOf b (spanThere s) r

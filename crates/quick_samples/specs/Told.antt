@@ -10,9 +10,9 @@ use Rattle.refusal.specs.declared.Refusal.{Refusal}
 use Rattle.refusal.specs.declared.Verdict.the-variants.{Refused}
 use Rattle.block.specs.declared.TraceBlock.{TraceBlock}
 use Rattle.block.specs.declared.TraceAnswer.the-variants as trace
-use Rattle.block.specs.Block.{traceBlockOf}
 use Rattle.reader.specs.Questions.{traceNumber, blockAt, integersVerdict, bitsVerdict, samplesIn, patternsIn, classesIn, kept}
 use Rattle.reader.specs.Leaves.{Fits}
+use Rattle.reader.specs.Reach.{blocked-fits}
 use Rattle.one_trace.specs.Alone.{blockAlone}
 use Rattle.one_trace.specs.AloneLaws.{Alone}
 use Rattle.quick.specs.Quick.{quickIntegers, quickIntegersLeft, quickBits, quickPatternsLeft, quickClassesLeft}
@@ -38,11 +38,9 @@ module _ (xs : List ℕ) (n : ℕ) (z : ℤ) where
   -- none was: the block that was answered lies in the image
   module _ (x : TraceBlock) (e : blockAlone xs n z ≡ trace.Is x) where
     pub own-fits : Fits (length f) x
-    unfolding traceBlockOf
     own-fits =
         let a = shown xs n z x e in
-        let b = a .blocked in
-        rw (own-block xs n z x e) (record { inside = b .data-fits; most = omega (arith, a .most, a .size); groups = b .groups; samples = b .samples })
+        rw (own-block xs n z x e) (blocked-fits f (traceNumber z) (omega (arith, a .most, a .size)) (a .blocked))
 
     pub integers-answer : (s : ℕ) → integersVerdict x s ≡ quickIntegers xs n z s
     unfolding quickIntegers

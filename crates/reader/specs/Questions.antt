@@ -165,8 +165,8 @@ spanThere (string.Refused r) = (0, 0)
 unfoldable pub spanAnswer : Manner → List ℕ → ℕ → ℤ → List ℕ → ℕ × ℕ
 spanAnswer how xs n z key = spanThere (findAnswer how xs n z key)
 
--- all at once, into a lent row: "four numbers a string; refusal 32 where the row's length is not four times the count", of
--- which there are s, behind the count's own
+-- all at once, into a lent row of s numbers, "four numbers a string": the count's refusal, or else "32 where the row's length is
+-- not four times the count"
 abbrev pub stringsVerdict : CountAnswer → ℕ → Verdict
 stringsVerdict (count.Is c) s = row (not (eqb s (4 * c))) RowLength File 0
 stringsVerdict (count.Refused r) s = Refused r

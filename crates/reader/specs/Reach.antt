@@ -204,11 +204,19 @@ value-within xs n (string.There p) h = sym (part-take n (p .value) (p .end) xs (
 value-within xs n string.Absent h = refl
 value-within xs n (string.Refused r) h = refl
 
--- so the value that is found is the answer
+-- so what was found is the answer's, whichever question was asked: its value, and what is made of it unless it was refused
+pub found-told : (xs : List ℕ) (n : ℕ) (s t : StringAnswer) → s ≡ t → Within n t → valueThere xs s ≡ valueThere (take n xs) t
+found-told xs n s t e w = ap (λ (r : StringAnswer). valueThere xs r) e ∙ value-within xs n t w
+
+pub made-told : {A : Type 0} (bad : Refusal → A) (g : List ℕ → A) (xs : List ℕ) (s t : StringAnswer) (v : List ℕ) → s ≡ t → valueThere xs s ≡ v
+    → onString bad s (g (valueThere xs s)) ≡ onString bad t (g v)
+made-told bad g xs s t v e w = ap (λ (l : List ℕ). onString bad s (g l)) w ∙ ap (λ (r : StringAnswer). onString bad r (g v)) e
+
+-- of the full question
 pub value-told : (how : Manner) (xs : List ℕ) (n : ℕ) (z : ℤ) (key : List ℕ) (s : StringAnswer) → s ≡ findAnswer how xs n z key
     → valueThere xs s ≡ valueAnswer how xs n z key
 unfolding valueAnswer
-value-told how xs n z key s e = ap (λ (r : StringAnswer). valueThere xs r) e ∙ value-within xs n (findAnswer how xs n z key) (find-within how xs n z key)
+value-told how xs n z key s e = found-told xs n s (findAnswer how xs n z key) e (find-within how xs n z key)
 
 -- where it stands is where the answer stands
 pub span-told : (how : Manner) {b r : RefT (List ℕ)} (xs : List ℕ) (n : ℕ) (z : ℤ) (key : List ℕ) (s : StringAnswer) → s ≡ findAnswer how xs n z key
@@ -217,11 +225,10 @@ pub span-told : (how : Manner) {b r : RefT (List ℕ)} (xs : List ℕ) (n : ℕ)
 unfolding spanAnswer
 span-told how xs n z key s e h = rw e at h
 
--- and what is made of it is the answer, unless the string was refused
 pub value-made : (how : Manner) {A : Type 0} (bad : Refusal → A) (g : List ℕ → A) (xs : List ℕ) (n : ℕ) (z : ℤ) (key : List ℕ) (s : StringAnswer)
     → s ≡ findAnswer how xs n z key → onString bad s (g (valueThere xs s)) ≡ onString bad (findAnswer how xs n z key) (g (valueAnswer how xs n z key))
 value-made how bad g xs n z key s e =
-    ap (λ (v : List ℕ). onString bad s (g v)) (value-told how xs n z key s e) ∙ ap (λ (r : StringAnswer). onString bad r (g (valueAnswer how xs n z key))) e
+    made-told bad g xs s (findAnswer how xs n z key) (valueAnswer how xs n z key) e (value-told how xs n z key s e)
 
 pub held : (n : ℕ) (s : StringAnswer) (p : Place) → s ≡ string.There p → Within n s → PlaceIn n p
 held n s p e h = rw e at h
@@ -251,12 +258,14 @@ told how xs n z t h = go (checkOf how Read xs n) refl (whoseOf z (countOf (take 
         let s = whose-trace z (countOf (take n xs)) j p in
         record { accepted = q; known = checked how xs n q; k = j; number = s .0; whose = p; low = s .1; block = cc }
 
+-- a block whose rows were passed lies in its image
+pub blocked-fits : (f : List ℕ) (k : ℕ) → length f ≤ maximum → Blocked (highFirst f) f (traceAt f k) → Fits (length f) (traceBlockOf (highFirst f) f k)
+unfolding traceBlockOf
+blocked-fits f k m b = record { inside = b .data-fits; most = m; groups = b .groups; samples = b .samples }
+
 block-fits : (how : Manner) (xs : List ℕ) (n k : ℕ) → Checked how xs n → k < countOf (take n xs)
     → Fits (length (take n xs)) (traceBlockOf (highFirst (take n xs)) (take n xs) k)
-unfolding traceBlockOf
-block-fits how xs n k c l =
-    let b = trace-blocked how (take n xs) (c .image) k l in
-    record { inside = b .data-fits; most = omega (arith, c .most, c .size); groups = b .groups; samples = b .samples }
+block-fits how xs n k c l = blocked-fits (take n xs) k (omega (arith, c .most, c .size)) (trace-blocked how (take n xs) (c .image) k l)
 
 pub told-fits : (how : Manner) (xs : List ℕ) (n : ℕ) (z : ℤ) (t : TraceBlock) → Told how xs n z t → Fits (length (take n xs)) t
 told-fits how xs n z t h = rw (h .block) (block-fits how xs n (h .k) (h .known) (h .low))

@@ -74,7 +74,7 @@ use Rattle.quick.specs.Quick.{quickIntegers, quickIntegersLeft, quickBits, quic
 -- ---- an area that the check accepts: a walk along its strings is one along its places
 
 -- no string of the list is judged again
-unfoldable walkPlaces : (ℕ → List ℕ → Turn) → List ℕ → ℕ → List Place → Walked
+unfoldable pub walkPlaces : (ℕ → List ℕ → Turn) → List ℕ → ℕ → List Place → Walked
 walkPlaces look f j [] = walked.Over j
 walkPlaces look f j (s ∷ ss) = onTurn (look j (keyIn f s)) (walked.At s) (walked.Over j) (walkPlaces look f (j + 1) ss)
 
@@ -204,7 +204,7 @@ module _ (high : Bool) (t u : List ℕ) (p : Part) (f : List ℕ) (e : ℕ) (fit
           (told (placeOf t o (part at e f) at) (same k key) (passed key k) _ _ (again o n (c .rest)) (λ w. none-behind key m (at + o) k (c .rest) w))
 
 -- the i-th of a list of places, and how many it has
-by-index : (f : List ℕ) (i j : ℕ) (ss : List Place) → j ≤ i → toldBy (walkPlaces (byIndex i) f j ss) ≡ there (nthOf ss (i - j))
+pub by-index : (f : List ℕ) (i j : ℕ) (ss : List Place) → j ≤ i → toldBy (walkPlaces (byIndex i) f j ss) ≡ there (nthOf ss (i - j))
 unfolding walkPlaces nthOf
 by-index f i j [] h = refl
 by-index f i j (s ∷ ss) h = go (eqb j i) refl (by-index f i (j + 1) ss)
@@ -227,7 +227,7 @@ module _ (high : Bool) (t u : List ℕ) (p : Part) (f : List ℕ) (a e : ℕ) (f
   some : (m : ℕ) → eqb (suc m) 0 ≡ false
   some m = ne-eqb (suc m) 0 (λ z. absurd (omega (arith, z)))
 
-  area-walk : (look : ℕ → List ℕ → Turn) → walkOf look high t u p (part a e f) a ≡ walkPlaces look f 0 (placesOf Strict high t (part a e f) a)
+  pub area-walk : (look : ℕ → List ℕ → Turn) → walkOf look high t u p (part a e f) a ≡ walkPlaces look f 0 (placesOf Strict high t (part a e f) a)
   unfolding stringsOf walkOf placesOf placesFrom walkPlaces
   area-walk look = go (length (part a e f)) q
     where

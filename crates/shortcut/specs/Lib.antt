@@ -3,3 +3,4 @@ pub mod Strings
 pub mod Spelled
 pub mod Full
 pub mod Same
+pub mod Row

@@ -39,7 +39,6 @@ use Rattle.until.specs.declared.Turn.{Turn}
 use Rattle.until.specs.declared.Walked.{Walked}
 use Rattle.until.specs.declared.Walked.the-variants as walked
 use Rattle.until.specs.Until.{byKey, byIndex, toEnd}
-use Rattle.until.specs.Counted.{never-at}
 use Rattle.reader.specs.declared.StringAnswer.{StringAnswer}
 use Rattle.reader.specs.declared.StringAnswer.the-variants as string
 use Rattle.reader.specs.declared.CountAnswer.{CountAnswer}
@@ -57,6 +56,7 @@ use Rattle.one_trace.specs.Alone.{aloneOf, blockAlone}
 use Rattle.quick.specs.Quick.{quickly, walkBetween, walkIn, toldBy, countedBy, quickWalk, quickFind, quickNth, quickCount, quickStrings, quickStringsLeft}
 use Rattle.quick.specs.Quick.{quickKeyword, quickValue, quickSpan, quickRead, quickNumber, quickDouble, quickLocation}
 use Rattle.quick.specs.Quick.{quickIntegers, quickIntegersLeft, quickBits, quickPatternsLeft, quickClassesLeft}
+use Rattle.quick.specs.QuickLaws.{never-string}
 use Rattle.shortcut.specs.Read.{readOf, readIn, behind, blockRead, stringsRead, dataRead, integersRead, bitsRead, bytesRead, Agree}
 use Rattle.shortcut.specs.Strings.{walk-alike, places-alike, read-within, read-ends}
 
@@ -283,16 +283,12 @@ module _ (xs ys : List ℕ) (n : ℕ) (z : ℤ) (long : length xs ≡ length ys)
         (part-long (a toEnd al s) (e toEnd al s) f g (al .size)) (fronts toEnd al s) w)
         ∙ rw (end-same-place toEnd al s, ← al .start, ← al .order, ← al .strings)
 
-    no-string : (p : Place) → walkIn toEnd f k ≡ walked.At p → ⊥
-    unfolding walkIn
-    no-string p h = never-at (highFirst f) (stringEnd f) (lineEnd f) (Trace k) _ _ p h
-
     filled-same : Alike f g k → Agree f g (stringsRead toEnd f k) → filled f k ≡ filled g k
     filled-same al s = go (walkIn toEnd f k) refl
       where
         go : (w : Walked) → walkIn toEnd f k ≡ w → filled f k ≡ filled g k
         go (walked.Over c) h = rw (← strings-same toEnd al s, numbers-same al s c h)
-        go (walked.At p) h = absurd (no-string p h)
+        go (walked.At p) h = absurd (never-string f k p h)
         go (walked.Bad r) h = rw (← strings-same toEnd al s, h)
 
     pub strings-same-left : quickStringsLeft xs n z row ≡ quickStringsLeft ys n z row
