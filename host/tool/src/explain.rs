@@ -132,7 +132,7 @@ fn row(number: u32) -> Option<(&'static str, &'static str)> {
         31 => ("A file is started with 1 to 16,383 pointer slots, low byte first (0) or high byte first (1).",
                "choose --slots of 1 to 16383"),
         32 => ("The row that takes the samples has as many elements as the trace has samples; the row that takes the places of strings has four for each string.",
-               "ask for the trace's block, or for the number of strings, first, and lend a row of that many elements"),
+               "ask for the trace's block first, and lend as many elements as it has samples; or ask for the number of strings, and lend four times as many"),
         33 => ("The samples of codes 1 to 3 are read as integers; those of code 3, floating point of 20 bits, are whole numbers too. The samples of codes 4 and 5 are read as bit patterns.",
                "use `./seg2 samples` without --bits, which takes all codes"),
         34 => ("A trace may have a CHANNEL_NUMBER: 1 to 32,767 in plain digits, at most 18 of them, without sign, point, E or spaces. If one trace has it, all must; each is held to trace 0, the first. The file's own strings are free.",
