@@ -22,11 +22,13 @@
  * whole file first, so its refusal may be any row from 1 to 17, or 34, before one of its own.
  * The functions with quick in their name do not: each reads one trace and judges what it reads.
  * Whoever wants much of a file asks seg2_check once and then, trace by trace, the quick ones.
+ * The functions with lenient in their name read files of older recorders too, which break the
+ * rules in some ways that are forgiven; the strict verdict stands beside each of their answers.
  *
  * An answer begins with the refusal: `number` 0, `part` -1 and `place` 0 where there is
  * none. After a refusal the rest of the answer is 0 and no lent byte has changed. An answer
  * of more than 16 bytes is written to `answer`, which comes first; the functions whose name
- * ends in _of return it instead. Six answers share their name with the function that gives
+ * ends in _of return it instead. Twelve answers share their name with the function that gives
  * them, so they are written with the word struct, as in C's own `struct stat`.
  *
  * Since numbers have their own decimals (document 02, section 4), struct seg2_number and
@@ -241,6 +243,58 @@ typedef struct seg2_length {
     size_t length;
 } seg2_length;
 
+/* The answers of the lenient reading: `answer` is the one that the question without lenient in its name has, with the lenient
+ * reading's own refusal; `strict` is what seg2_check says of the same bytes, also where `answer` is a refusal. */
+typedef struct seg2_lenient_verdict {
+    seg2_verdict answer;
+    seg2_verdict strict;
+} seg2_lenient_verdict;
+
+typedef struct seg2_lenient_file {
+    seg2_file answer;
+    seg2_verdict strict;
+} seg2_lenient_file;
+
+typedef struct seg2_lenient_trace {
+    seg2_trace answer;
+    seg2_verdict strict;
+} seg2_lenient_trace;
+
+typedef struct seg2_lenient_count {
+    seg2_count answer;
+    seg2_verdict strict;
+} seg2_lenient_count;
+
+struct seg2_lenient_string {
+    struct seg2_string answer;
+    seg2_verdict strict;
+};
+
+struct seg2_lenient_keyword {
+    struct seg2_keyword answer;
+    seg2_verdict strict;
+};
+
+struct seg2_lenient_value {
+    struct seg2_value answer;
+    seg2_verdict strict;
+};
+
+struct seg2_lenient_number {
+    struct seg2_number answer;
+    seg2_verdict strict;
+};
+
+struct seg2_lenient_double {
+    struct seg2_double answer;
+    seg2_verdict strict;
+};
+
+struct seg2_lenient_location {
+    struct seg2_location answer;
+    seg2_verdict strict;
+};
+
 /* ---- questions: no lent byte changes but the answer, and the rows where it says so */
 
 /* Whether the first `length` bytes are a file that keeps the rules; if not, the first row of the table that
@@ -373,6 +427,89 @@ seg2_verdict seg2_quick_integers(const uint8_t *buffer, size_t size, size_t leng
  * 32, as seg2_bits. */
 seg2_verdict seg2_quick_bits(const uint8_t *buffer, size_t size, size_t length, int32_t trace, uint64_t *row, size_t row_size,
                              uint8_t *classes, size_t classes_size);
+
+/* ---- older recorders (document 02, section 11): a lenient reading
+ *
+ * Recorders from before our own put strings in any order, in lower case, and leave out the end mark where the strings fill their
+ * area. Every question above but the quick ones has a lenient form, which reads such files too. It has the same arguments behind
+ * a place for its answer, and the same answer there. In the file's own strings and in each trace's it forgives four things:
+ *   - lower-case letters in a keyword: it counts as its upper-case form wherever it is compared. So `note` is NOTE, and its
+ *     value may have several lines;
+ *   - any order of the keywords, and any keyword several times: 17 is never given;
+ *   - a list of strings without an end mark, where no byte of the area is left behind the last string. A single byte behind it
+ *     is 14 as before, and an offset of 0 ends the list as before;
+ *   - CHANNEL_NUMBER is not looked at: 34 is never given.
+ * It forgives nothing else. Rows 1 to 13 and 15 are refused as ever, and so is what is left of 14 and 16: an offset that is too
+ * small or leads past its area, a forbidden character in a value, an empty keyword, a keyword character that is not 33 to 126.
+ *
+ * Beside its answer each tells in `strict` what seg2_check says of the same bytes: the first row that they meet, 1 to 17 or 34,
+ * with its part and place, or no refusal. So a host can show an old file and say what is wrong with it. `strict` stands there
+ * behind a refusal too; the rest of `answer` is 0 then, and a lent row is as it was.
+ *
+ * Where `strict` is no refusal, `answer` is the one of the function without lenient in its name, rows included: then the other
+ * functions, the quick ones too, say the same and cost less. Where the lenient reading refuses a file, the strict one refuses
+ * it too: by the same row, or by one of 14, 16, 17 and 34 that it meets earlier. Nothing is added to a file that seg2_check
+ * refuses: seg2_add_integers and seg2_add_bits ask for the strict check, as ever.
+ *
+ * Each goes through the whole file twice, once for each reading, and there are no quick forms. Who wants much of an old file asks
+ * for what it needs once and keeps it: seg2_lenient_strings has all strings of a part.
+ *
+ * A key is taken as it is given, and keywords count as upper case: STACK finds `Stack`, while `stack` finds nothing, as ever. Of
+ * a keyword that stands several times a question answers the first; count, string and strings have them all. Places lead to
+ * the buffer's bytes as they stand there, so a keyword may have lower-case letters. */
+
+/* Whether the first `length` bytes are a file that can be read leniently: if not, the first row that they meet, 1 to 16. In
+ * `strict` what seg2_check answers. Where `answer` is no refusal and `strict` is one, that one is forgiven: 14, 16, 17 or 34. */
+void seg2_lenient_check(seg2_lenient_verdict *answer, const uint8_t *buffer, size_t size, size_t length);
+
+/* The file block, as seg2_file_block. */
+void seg2_lenient_file_block(seg2_lenient_file *answer, const uint8_t *buffer, size_t size, size_t length);
+
+/* The block of a trace, as seg2_trace_block: 18 where there is no such trace. */
+void seg2_lenient_trace_block(seg2_lenient_trace *answer, const uint8_t *buffer, size_t size, size_t length, int32_t trace);
+
+/* How many strings a part has, as seg2_string_count; repeats count one by one. 18 where there is no such part. */
+void seg2_lenient_string_count(seg2_lenient_count *answer, const uint8_t *buffer, size_t size, size_t length, int32_t part);
+
+/* The string of a part with this index in the order of the file, as seg2_string: `found` is 0 past the last. 18 where there is
+ * no such part. */
+void seg2_lenient_string(struct seg2_lenient_string *answer, const uint8_t *buffer, size_t size, size_t length, int32_t part,
+                         size_t index);
+
+/* All strings of a part in the order of the file, as seg2_strings: into a row of four elements each. 18, then 32 where the row
+ * has not exactly 4 times seg2_lenient_string_count elements. */
+void seg2_lenient_strings(seg2_lenient_verdict *answer, const uint8_t *buffer, size_t size, size_t length, int32_t part,
+                          size_t *row, size_t row_size);
+
+/* Whether a part has a keyword, in upper or lower case, as seg2_keyword. 18 where there is no such part. */
+void seg2_lenient_keyword(struct seg2_lenient_keyword *answer, const uint8_t *buffer, size_t size, size_t length, int32_t part,
+                          const uint8_t *key, size_t key_size);
+
+/* The value of a keyword as the buffer's own bytes, the first where it stands several times, as seg2_value: a no is start 0
+ * and length 0. 18 where there is no such part. */
+void seg2_lenient_value(struct seg2_lenient_value *answer, const uint8_t *buffer, size_t size, size_t length, int32_t part,
+                        const uint8_t *key, size_t key_size);
+
+/* That value as a number: 18, then 20 or 21, as seg2_number. */
+void seg2_lenient_number(struct seg2_lenient_number *answer, const uint8_t *buffer, size_t size, size_t length, int32_t part,
+                         const uint8_t *key, size_t key_size);
+
+/* That value as a double: 18, then 20 to 22, as seg2_double. */
+void seg2_lenient_double(struct seg2_lenient_double *answer, const uint8_t *buffer, size_t size, size_t length, int32_t part,
+                         const uint8_t *key, size_t key_size);
+
+/* That value as a location: 18, then 23, and 20 to 22 value by value, as seg2_location. */
+void seg2_lenient_location(struct seg2_lenient_location *answer, const uint8_t *buffer, size_t size, size_t length, int32_t part,
+                           const uint8_t *key, size_t key_size);
+
+/* The samples of a trace of code 1 to 3, into a row of exactly S elements: 18, 33, then 32, as seg2_integers. */
+void seg2_lenient_integers(seg2_lenient_verdict *answer, const uint8_t *buffer, size_t size, size_t length, int32_t trace,
+                           int32_t *row, size_t row_size);
+
+/* The bit patterns of the samples of a trace of code 4 or 5 and their classes, into two rows of exactly S elements: 18, 33, then
+ * 32, as seg2_bits. */
+void seg2_lenient_bits(seg2_lenient_verdict *answer, const uint8_t *buffer, size_t size, size_t length, int32_t trace,
+                       uint64_t *row, size_t row_size, uint8_t *classes, size_t classes_size);
 
 /* ---- a number and its text (document 02, section 4): no file is lent, so no row of its check comes first */
 
@@ -527,6 +664,93 @@ static inline struct seg2_location seg2_quick_location_of(const uint8_t *buffer,
                                                           const uint8_t *key, size_t key_size) {
     struct seg2_location answer;
     seg2_quick_location(&answer, buffer, size, length, trace, key, key_size);
+    return answer;
+}
+
+static inline seg2_lenient_verdict seg2_lenient_check_of(const uint8_t *buffer, size_t size, size_t length) {
+    seg2_lenient_verdict answer;
+    seg2_lenient_check(&answer, buffer, size, length);
+    return answer;
+}
+
+static inline seg2_lenient_file seg2_lenient_file_block_of(const uint8_t *buffer, size_t size, size_t length) {
+    seg2_lenient_file answer;
+    seg2_lenient_file_block(&answer, buffer, size, length);
+    return answer;
+}
+
+static inline seg2_lenient_trace seg2_lenient_trace_block_of(const uint8_t *buffer, size_t size, size_t length, int32_t trace) {
+    seg2_lenient_trace answer;
+    seg2_lenient_trace_block(&answer, buffer, size, length, trace);
+    return answer;
+}
+
+static inline seg2_lenient_count seg2_lenient_string_count_of(const uint8_t *buffer, size_t size, size_t length, int32_t part) {
+    seg2_lenient_count answer;
+    seg2_lenient_string_count(&answer, buffer, size, length, part);
+    return answer;
+}
+
+static inline struct seg2_lenient_string seg2_lenient_string_of(const uint8_t *buffer, size_t size, size_t length, int32_t part,
+                                                                size_t index) {
+    struct seg2_lenient_string answer;
+    seg2_lenient_string(&answer, buffer, size, length, part, index);
+    return answer;
+}
+
+static inline seg2_lenient_verdict seg2_lenient_strings_of(const uint8_t *buffer, size_t size, size_t length, int32_t part,
+                                                           size_t *row, size_t row_size) {
+    seg2_lenient_verdict answer;
+    seg2_lenient_strings(&answer, buffer, size, length, part, row, row_size);
+    return answer;
+}
+
+static inline struct seg2_lenient_keyword seg2_lenient_keyword_of(const uint8_t *buffer, size_t size, size_t length,
+                                                                  int32_t part, const uint8_t *key, size_t key_size) {
+    struct seg2_lenient_keyword answer;
+    seg2_lenient_keyword(&answer, buffer, size, length, part, key, key_size);
+    return answer;
+}
+
+static inline struct seg2_lenient_value seg2_lenient_value_of(const uint8_t *buffer, size_t size, size_t length, int32_t part,
+                                                              const uint8_t *key, size_t key_size) {
+    struct seg2_lenient_value answer;
+    seg2_lenient_value(&answer, buffer, size, length, part, key, key_size);
+    return answer;
+}
+
+static inline struct seg2_lenient_number seg2_lenient_number_of(const uint8_t *buffer, size_t size, size_t length, int32_t part,
+                                                                const uint8_t *key, size_t key_size) {
+    struct seg2_lenient_number answer;
+    seg2_lenient_number(&answer, buffer, size, length, part, key, key_size);
+    return answer;
+}
+
+static inline struct seg2_lenient_double seg2_lenient_double_of(const uint8_t *buffer, size_t size, size_t length, int32_t part,
+                                                                const uint8_t *key, size_t key_size) {
+    struct seg2_lenient_double answer;
+    seg2_lenient_double(&answer, buffer, size, length, part, key, key_size);
+    return answer;
+}
+
+static inline struct seg2_lenient_location seg2_lenient_location_of(const uint8_t *buffer, size_t size, size_t length,
+                                                                    int32_t part, const uint8_t *key, size_t key_size) {
+    struct seg2_lenient_location answer;
+    seg2_lenient_location(&answer, buffer, size, length, part, key, key_size);
+    return answer;
+}
+
+static inline seg2_lenient_verdict seg2_lenient_integers_of(const uint8_t *buffer, size_t size, size_t length, int32_t trace,
+                                                            int32_t *row, size_t row_size) {
+    seg2_lenient_verdict answer;
+    seg2_lenient_integers(&answer, buffer, size, length, trace, row, row_size);
+    return answer;
+}
+
+static inline seg2_lenient_verdict seg2_lenient_bits_of(const uint8_t *buffer, size_t size, size_t length, int32_t trace,
+                                                        uint64_t *row, size_t row_size, uint8_t *classes, size_t classes_size) {
+    seg2_lenient_verdict answer;
+    seg2_lenient_bits(&answer, buffer, size, length, trace, row, row_size, classes, classes_size);
     return answer;
 }
 

@@ -29,6 +29,11 @@ _Static_assert(sizeof(struct seg2_number) == 40 && offsetof(struct seg2_number, 
 _Static_assert(sizeof(struct seg2_double) == 24, "double");
 _Static_assert(sizeof(struct seg2_location) == 64 && offsetof(struct seg2_location, x) == 24 && offsetof(struct seg2_location, x_decimals) == 48, "location");
 _Static_assert(sizeof(seg2_length) == 24, "length");
+/* The strict verdict is the last of a lenient answer, and nothing stands between the two. */
+#define LENIENT_AS(name) \
+    (sizeof(struct seg2_lenient_##name) == sizeof(struct seg2_##name) + 16 && offsetof(struct seg2_lenient_##name, strict) == sizeof(struct seg2_##name))
+_Static_assert(LENIENT_AS(verdict) && LENIENT_AS(file) && LENIENT_AS(trace) && LENIENT_AS(count) && LENIENT_AS(string), "lenient");
+_Static_assert(LENIENT_AS(keyword) && LENIENT_AS(value) && LENIENT_AS(number) && LENIENT_AS(double) && LENIENT_AS(location), "lenient");
 
 enum { STACK = 32768, ROOM = 1 << 20, FIELDS = 7 };
 
@@ -59,6 +64,19 @@ enum {
     QUICK_LOCATION,
     QUICK_INTEGERS,
     QUICK_BITS,
+    LENIENT_CHECK, /* the lenient forms, in the order of those from CHECK on */
+    LENIENT_FILE_BLOCK,
+    LENIENT_TRACE_BLOCK,
+    LENIENT_STRING_COUNT,
+    LENIENT_STRING,
+    LENIENT_STRINGS,
+    LENIENT_KEYWORD,
+    LENIENT_VALUE,
+    LENIENT_NUMBER,
+    LENIENT_DOUBLE,
+    LENIENT_LOCATION,
+    LENIENT_INTEGERS,
+    LENIENT_BITS,
     READ_NUMBER,
     START,
     ADD_INTEGERS,
@@ -95,6 +113,19 @@ static const struct {
     [QUICK_LOCATION] = {"seg2_quick_location", sizeof(struct seg2_location)},
     [QUICK_INTEGERS] = {"seg2_quick_integers", sizeof(seg2_verdict)},
     [QUICK_BITS] = {"seg2_quick_bits", sizeof(seg2_verdict)},
+    [LENIENT_CHECK] = {"seg2_lenient_check", sizeof(seg2_lenient_verdict)},
+    [LENIENT_FILE_BLOCK] = {"seg2_lenient_file_block", sizeof(seg2_lenient_file)},
+    [LENIENT_TRACE_BLOCK] = {"seg2_lenient_trace_block", sizeof(seg2_lenient_trace)},
+    [LENIENT_STRING_COUNT] = {"seg2_lenient_string_count", sizeof(seg2_lenient_count)},
+    [LENIENT_STRING] = {"seg2_lenient_string", sizeof(struct seg2_lenient_string)},
+    [LENIENT_STRINGS] = {"seg2_lenient_strings", sizeof(seg2_lenient_verdict)},
+    [LENIENT_KEYWORD] = {"seg2_lenient_keyword", sizeof(struct seg2_lenient_keyword)},
+    [LENIENT_VALUE] = {"seg2_lenient_value", sizeof(struct seg2_lenient_value)},
+    [LENIENT_NUMBER] = {"seg2_lenient_number", sizeof(struct seg2_lenient_number)},
+    [LENIENT_DOUBLE] = {"seg2_lenient_double", sizeof(struct seg2_lenient_double)},
+    [LENIENT_LOCATION] = {"seg2_lenient_location", sizeof(struct seg2_lenient_location)},
+    [LENIENT_INTEGERS] = {"seg2_lenient_integers", sizeof(seg2_lenient_verdict)},
+    [LENIENT_BITS] = {"seg2_lenient_bits", sizeof(seg2_lenient_verdict)},
     [READ_NUMBER] = {"seg2_read_number", sizeof(struct seg2_number)},
     [START] = {"seg2_start", sizeof(seg2_length)},
     [ADD_INTEGERS] = {"seg2_add_integers", sizeof(seg2_length)},
@@ -107,8 +138,16 @@ static int is_writer(uint64_t function) {
     return function >= START;
 }
 
-/* The question of the whole file beside a quick one, which has the same arguments and the same answer; every other function is its own. */
+static int is_lenient(uint64_t function) {
+    return function >= LENIENT_CHECK && function <= LENIENT_BITS;
+}
+
+/* The question of the whole file beside a quick or a lenient one, which has the same arguments and whose answer begins with the same; every other
+ * function is its own. */
 static uint64_t full_of(uint64_t function) {
+    if (is_lenient(function)) {
+        return function - LENIENT_CHECK + CHECK;
+    }
     return function >= QUICK_TRACE_BLOCK && function <= QUICK_BITS ? function - QUICK_TRACE_BLOCK + TRACE_BLOCK : function;
 }
 
@@ -245,6 +284,21 @@ __attribute__((noinline)) static void perform(call *c) {
     case QUICK_BITS:
         *(seg2_verdict *)c->answer =
             seg2_quick_bits(c->buffer, c->size, c->length, c->part, c->row, c->row_size, c->classes, c->classes_size);
+        break;
+    case LENIENT_CHECK: seg2_lenient_check(c->answer, c->buffer, c->size, c->length); break;
+    case LENIENT_FILE_BLOCK: seg2_lenient_file_block(c->answer, c->buffer, c->size, c->length); break;
+    case LENIENT_TRACE_BLOCK: seg2_lenient_trace_block(c->answer, c->buffer, c->size, c->length, c->part); break;
+    case LENIENT_STRING_COUNT: seg2_lenient_string_count(c->answer, c->buffer, c->size, c->length, c->part); break;
+    case LENIENT_STRING: seg2_lenient_string(c->answer, c->buffer, c->size, c->length, c->part, c->index); break;
+    case LENIENT_STRINGS: seg2_lenient_strings(c->answer, c->buffer, c->size, c->length, c->part, c->row, c->row_size); break;
+    case LENIENT_KEYWORD: seg2_lenient_keyword(c->answer, c->buffer, c->size, c->length, c->part, c->text, c->text_size); break;
+    case LENIENT_VALUE: seg2_lenient_value(c->answer, c->buffer, c->size, c->length, c->part, c->text, c->text_size); break;
+    case LENIENT_NUMBER: seg2_lenient_number(c->answer, c->buffer, c->size, c->length, c->part, c->text, c->text_size); break;
+    case LENIENT_DOUBLE: seg2_lenient_double(c->answer, c->buffer, c->size, c->length, c->part, c->text, c->text_size); break;
+    case LENIENT_LOCATION: seg2_lenient_location(c->answer, c->buffer, c->size, c->length, c->part, c->text, c->text_size); break;
+    case LENIENT_INTEGERS: seg2_lenient_integers(c->answer, c->buffer, c->size, c->length, c->part, c->row, c->row_size); break;
+    case LENIENT_BITS:
+        seg2_lenient_bits(c->answer, c->buffer, c->size, c->length, c->part, c->row, c->row_size, c->classes, c->classes_size);
         break;
     case READ_NUMBER: seg2_read_number(c->answer, c->text, c->text_size); break;
     case START: seg2_start(c->answer, c->buffer, c->size, c->code, c->slots, c->text, c->text_size); break;
@@ -419,21 +473,33 @@ static int same_bytes(const uint8_t *at, size_t size) {
     return same;
 }
 
+/* Reads a verdict, number, part and place, and says whether it is this one. `wanted` gets it. */
+static int same_verdict(const seg2_verdict *is, uint64_t wanted[3]) {
+    int i;
+    for (i = 0; i < 3; i++) {
+        wanted[i] = number();
+    }
+    return is->number == wanted[0] && (uint64_t)(int64_t)is->part == wanted[1] && is->place == wanted[2];
+}
+
+/* The strict verdict, which ends a lenient answer. */
+static const seg2_verdict *strict_of(const call *c) {
+    return (const seg2_verdict *)((const uint8_t *)c->answer + functions[c->function].answer) - 1;
+}
+
 /* Reads the answer of a vector to its end, and says whether it is what came back. `refusal` gets the number, part and place that it has. */
 static int as_wanted(const call *c, uint64_t refusal[3]) {
-    const seg2_verdict *is = c->answer; /* every answer begins as a verdict does */
-    uint64_t fields[FIELDS], count, i;
-    int same;
-    for (i = 0; i < 3; i++) {
-        refusal[i] = number();
-    }
-    same = is->number == refusal[0] && (uint64_t)(int64_t)is->part == refusal[1] && is->place == refusal[2];
+    uint64_t fields[FIELDS], strict[3], count, i;
+    int same = same_verdict(c->answer, refusal); /* every answer begins as a verdict does */
     count = number();
     if (count != fields_of(c->function, c->answer, fields)) {
         stop("another number of fields");
     }
     for (i = 0; i < count; i++) {
         same &= number() == fields[i];
+    }
+    if (is_lenient(c->function)) {
+        same &= same_verdict(strict_of(c), strict);
     }
     if (fills(c->function)) {
         same &= same_row(c);
@@ -500,7 +566,7 @@ int main(void) {
         stop("vectors are missing");
     }
     for (i = CHECK; i < FUNCTIONS; i++) {
-        printf("%-23s %6llu calls, %5zu bytes of stack\n", functions[i].name, (unsigned long long)asked[i], depth[i]);
+        printf("%-25s %6llu calls, %5zu bytes of stack\n", functions[i].name, (unsigned long long)asked[i], depth[i]);
         wrong += asked[i] == 0 || depth[i] == 0; /* every call uses some, or it was not measured */
     }
     printf("%llu vectors, %llu wrong, %zu of %d bytes of stack used\n", (unsigned long long)vectors, (unsigned long long)wrong, deepest, (int)STACK);

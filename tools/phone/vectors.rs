@@ -6,10 +6,11 @@
 
 use seg2_reference as reference;
 use reference::generate::{
-    addition_case, damaged, forged_number, location_case, mutated, number_case, number_edges, quick_case, sample_case,
-    several_damages, start_case, Model, QuickAsked, QuickTold, Rng, SampleQuestion, WAYS,
+    addition_case, damaged, forged_number, location_case, mutated, mutated_old, number_case, number_edges, old_case, plain_file,
+    quick_case, sample_case, several_damages, start_case, Model, PlainTrace, QuickAsked, QuickTold, Rng, SampleQuestion, WAYS,
 };
 use reference::{Number, Order, Question, Refusal, Row, StringPlace, Trace, TraceGiven};
+use std::collections::BTreeSet;
 use std::io::{BufWriter, Write};
 
 /// The exported functions by the numbers that replay.c knows them by. NEW_BUFFER is none, but tells the buffer of the
@@ -30,11 +31,13 @@ const INTEGERS: u64 = 12;
 const BITS: u64 = 13;
 /// So far behind each question of a part, TRACE_BLOCK to BITS, stands its quick form.
 const QUICK: u64 = 11;
-const READ_NUMBER: u64 = 25;
-const START: u64 = 26;
-const ADD_INTEGERS: u64 = 27;
-const ADD_BITS: u64 = 28;
-const WRITE_NUMBER: u64 = 29;
+/// So far behind each question, CHECK to BITS, stands its lenient form.
+const LENIENT: u64 = 24;
+const READ_NUMBER: u64 = 38;
+const START: u64 = 39;
+const ADD_INTEGERS: u64 = 40;
+const ADD_BITS: u64 = 41;
+const WRITE_NUMBER: u64 = 42;
 const END: u64 = u64::MAX;
 
 type Answer = Result<Vec<u64>, Refusal>;
@@ -80,14 +83,20 @@ impl Out {
     /// Closes it: the refusal, and `fields` numbers, all 0 after a refusal.
     fn told(&mut self, fields: usize, answer: Answer) {
         let (refusal, values) = match answer {
-            Ok(values) => (Refusal::new(0, -1, 0), values),
-            Err(refusal) => (refusal, vec![0; fields]),
+            Ok(values) => (None, values),
+            Err(refusal) => (Some(refusal), vec![0; fields]),
         };
         assert_eq!(values.len(), fields);
+        self.refusal(refusal);
+        self.row(&values);
+    }
+
+    /// Number, part and place.
+    fn refusal(&mut self, refusal: Option<Refusal>) {
+        let refusal = refusal.unwrap_or(Refusal::new(0, -1, 0));
         self.number(u64::from(refusal.number));
         self.number(refusal.part as u64);
         self.number(refusal.place);
-        self.row(&values);
     }
 }
 
@@ -99,64 +108,120 @@ fn order_of(order: Order) -> u64 {
 }
 
 fn check(out: &mut Out, buffer: &[u8], length: usize) {
-    out.ask(CHECK, 0, 0, b"");
-    out.told(0, reference::check(buffer, length).map(|_| Vec::new()));
+    fully(buffer, length, -1).check(out);
 }
 
 fn file_block(out: &mut Out, buffer: &[u8], length: usize) {
-    out.ask(FILE_BLOCK, 0, 0, b"");
-    out.told(5, reference::file_block(buffer, length).map(|b| {
-        let terminators = [b.string_terminator.len() as u64, b.line_terminator.len() as u64];
-        vec![order_of(b.order), u64::from(b.m), u64::from(b.n), terminators[0], terminators[1]]
-    }));
+    fully(buffer, length, -1).file_block(out);
 }
 
-/// A part that is asked about: by the question of the whole file, or by that of one trace (document 02, §5).
+/// How a question is asked.
+#[derive(Clone, Copy)]
+enum Way {
+    /// By the one that checks the whole file.
+    Full,
+    /// By that of one trace (document 02, §5).
+    Quick,
+    /// By the lenient one (§11), beside whose answer stands the strict check's row.
+    Lenient { strict: Option<Refusal> },
+}
+
+/// A part that is asked about; the file itself too, whose questions take none.
 #[derive(Clone, Copy)]
 struct Asked<'a> {
     buffer: &'a [u8],
     length: usize,
     part: i32,
-    quick: bool,
+    way: Way,
+}
+
+/// The reference's answer to a question by the way in which it is asked.
+macro_rules! answer {
+    ($asked:ident: $full:ident, $quick:ident, $lenient:ident $(, $given:expr)*) => {{
+        let Asked { buffer, length, part, way } = *$asked;
+        match way {
+            Way::Full => reference::$full(buffer, length, part.into() $(, $given)*),
+            Way::Quick => reference::$quick(buffer, length, part.into() $(, $given)*),
+            Way::Lenient { .. } => reference::$lenient(buffer, length, part.into() $(, $given)*).answer,
+        }
+    }};
 }
 
 impl Asked<'_> {
     /// Opens the vector of a question.
     fn ask(&self, out: &mut Out, full: u64, index: u64, text: &[u8]) {
-        let function = if self.quick { full + QUICK } else { full };
+        let function = match self.way {
+            Way::Full => full,
+            Way::Quick => full + QUICK,
+            Way::Lenient { .. } => full + LENIENT,
+        };
         out.ask(function, self.part, index, text);
     }
 
+    /// Closes it; rows stand behind that.
+    fn told(&self, out: &mut Out, fields: usize, answer: Answer) {
+        out.told(fields, answer);
+        if let Way::Lenient { strict } = self.way {
+            out.refusal(strict);
+        }
+    }
+
+    fn is_lenient(&self) -> bool {
+        matches!(self.way, Way::Lenient { .. })
+    }
+
+    fn check(&self, out: &mut Out) {
+        let checked = match self.is_lenient() {
+            true => reference::lenient_check(self.buffer, self.length).answer,
+            false => reference::check(self.buffer, self.length),
+        };
+        self.check_told(out, checked.map(|_| ()));
+    }
+
+    fn check_told(&self, out: &mut Out, checked: Result<(), Refusal>) {
+        self.ask(out, CHECK, 0, b"");
+        self.told(out, 0, checked.map(|()| Vec::new()));
+    }
+
+    fn file_block(&self, out: &mut Out) {
+        self.ask(out, FILE_BLOCK, 0, b"");
+        let block = match self.is_lenient() {
+            true => reference::lenient_file_block(self.buffer, self.length).answer,
+            false => reference::file_block(self.buffer, self.length),
+        };
+        self.told(out, 5, block.map(|b| {
+            let terminators = [b.string_terminator.len() as u64, b.line_terminator.len() as u64];
+            vec![order_of(b.order), u64::from(b.m), u64::from(b.n), terminators[0], terminators[1]]
+        }));
+    }
+
     fn block(&self, out: &mut Out) {
-        let ask = if self.quick { reference::quick_trace_block } else { reference::trace_block };
-        self.block_told(out, ask(self.buffer, self.length, self.part.into()));
+        self.block_told(out, answer!(self: trace_block, quick_trace_block, lenient_trace_block));
     }
 
     fn block_told(&self, out: &mut Out, block: Result<Trace, Refusal>) {
         self.ask(out, TRACE_BLOCK, 0, b"");
-        out.told(5, block.map(|t| {
+        self.told(out, 5, block.map(|t| {
             vec![u64::from(t.p), u64::from(t.b), u64::from(t.d), u64::from(t.s), u64::from(t.code)]
         }));
     }
 
     fn count(&self) -> Result<usize, Refusal> {
-        let ask = if self.quick { reference::quick_string_count } else { reference::string_count };
-        ask(self.buffer, self.length, self.part.into())
+        answer!(self: string_count, quick_string_count, lenient_string_count)
     }
 
     fn count_told(&self, out: &mut Out, count: Result<usize, Refusal>) {
         self.ask(out, STRING_COUNT, 0, b"");
-        out.told(1, count.map(|n| vec![n as u64]));
+        self.told(out, 1, count.map(|n| vec![n as u64]));
     }
 
     fn string(&self, index: u64) -> Result<Option<StringPlace>, Refusal> {
-        let ask = if self.quick { reference::quick_string } else { reference::string };
-        ask(self.buffer, self.length, self.part.into(), index as usize)
+        answer!(self: string, quick_string, lenient_string, index as usize)
     }
 
     fn string_told(&self, out: &mut Out, index: u64, string: Result<Option<StringPlace>, Refusal>) {
         self.ask(out, STRING, index, b"");
-        out.told(5, string.map(|found| match found {
+        self.told(out, 5, string.map(|found| match found {
             Some(s) => [&[1], &s.numbers().map(|n| n as u64)[..]].concat(),
             None => vec![0; 5],
         }));
@@ -165,7 +230,7 @@ impl Asked<'_> {
     fn strings_told(&self, out: &mut Out, row: usize, told: Result<Vec<usize>, Refusal>) {
         self.ask(out, STRINGS, 0, b"");
         out.number(row as u64);
-        out.told(0, told.clone().map(|_| Vec::new()));
+        self.told(out, 0, told.clone().map(|_| Vec::new()));
         out.row(&told.map_or(vec![PAINT; row], |row| row.iter().map(|&n| n as u64).collect()));
     }
 
@@ -179,18 +244,18 @@ impl Asked<'_> {
         }
         for size in [4 * count, 4 * count + 1, count] {
             let mut row = vec![0; size as usize];
-            let ask = if self.quick { reference::quick_strings } else { reference::all_strings };
-            let told = ask(self.buffer, self.length, self.part.into(), &mut row).map(|()| row);
-            self.strings_told(out, size as usize, told);
+            let told = answer!(self: all_strings, quick_strings, lenient_strings, &mut row);
+            self.strings_told(out, size as usize, told.map(|()| row));
         }
     }
 
     /// What it holds under a keyword: all questions that name one.
     fn keyword(&self, out: &mut Out, key: &[u8]) {
-        let part = i64::from(self.part);
-        let found = match self.quick {
-            true => reference::quick_search(self.buffer, self.length, part, key).answer,
-            false => reference::keyword_string(self.buffer, self.length, part, key),
+        let Asked { buffer, length, part, way } = *self;
+        let found = match way {
+            Way::Full => reference::keyword_string(buffer, length, part.into(), key),
+            Way::Quick => reference::quick_search(buffer, length, part.into(), key).answer,
+            Way::Lenient { .. } => reference::lenient_keyword_string(buffer, length, part.into(), key).answer,
         };
         self.keyword_told(out, key, found.map(|string| string.map(|s| s.value)));
     }
@@ -199,24 +264,34 @@ impl Asked<'_> {
         let range = value.clone().map(|value| value.unwrap_or(0..0));
         let text = range.clone().map(|range| &self.buffer[range]);
         self.ask(out, KEYWORD, 0, key);
-        out.told(1, value.map(|value| vec![u64::from(value.is_some())]));
+        self.told(out, 1, value.map(|value| vec![u64::from(value.is_some())]));
         self.ask(out, VALUE, 0, key);
-        out.told(2, range.map(|range| vec![range.start as u64, range.len() as u64]));
+        self.told(out, 2, range.map(|range| vec![range.start as u64, range.len() as u64]));
         self.ask(out, NUMBER, 0, key);
-        out.told(4, text.and_then(reference::number).map(number_fields));
+        self.told(out, 4, text.and_then(reference::number).map(number_fields));
         self.ask(out, DOUBLE, 0, key);
-        out.told(1, text.and_then(reference::double).map(|d| vec![d.to_bits()]));
+        self.told(out, 1, text.and_then(reference::double).map(|d| vec![d.to_bits()]));
         self.ask(out, LOCATION, 0, key);
-        out.told(7, text.and_then(reference::location).map(|l| {
+        self.told(out, 7, text.and_then(reference::location).map(|l| {
             let values = [u64::from(l.count), l.x.to_bits(), l.y.to_bits(), l.z.to_bits()];
             [&values[..], &l.decimals.map(u64::from)].concat()
         }));
     }
 
+    /// Both questions about its samples, into rows of such a size.
+    fn samples(&self, out: &mut Out, size: usize) {
+        let mut row = vec![0; size];
+        let told = answer!(self: samples_as_integers, quick_integers, lenient_integers, &mut row);
+        self.integers_told(out, size, told.map(|()| row));
+        let (mut row, mut classes) = (vec![0; size], vec![0; size]);
+        let told = answer!(self: samples_as_bits, quick_bits, lenient_bits, &mut row, &mut classes);
+        self.bits_told(out, size, size, told.map(|()| (row, classes)));
+    }
+
     fn integers_told(&self, out: &mut Out, row: usize, told: Result<Vec<i32>, Refusal>) {
         self.ask(out, INTEGERS, 0, b"");
         out.number(row as u64);
-        out.told(0, told.clone().map(|_| Vec::new()));
+        self.told(out, 0, told.clone().map(|_| Vec::new()));
         out.row(&told.map_or(vec![PAINT; row], |row| row.iter().map(|&v| v as i64 as u64).collect()));
     }
 
@@ -224,7 +299,7 @@ impl Asked<'_> {
         self.ask(out, BITS, 0, b"");
         out.number(row as u64);
         out.number(classes as u64);
-        out.told(0, told.clone().map(|_| Vec::new()));
+        self.told(out, 0, told.clone().map(|_| Vec::new()));
         let (row, classes) = told.unwrap_or_else(|_| (vec![PAINT; row], vec![PAINT as u8; classes]));
         out.row(&row);
         out.bytes(&classes);
@@ -235,9 +310,18 @@ impl Asked<'_> {
 /// written.
 const PAINT: u64 = 0x5A5A_5A5A_5A5A_5A5A;
 
-/// Both ways to ask about a part.
+fn fully(buffer: &[u8], length: usize, part: i32) -> Asked<'_> {
+    Asked { buffer, length, part, way: Way::Full }
+}
+
+/// Both ways to ask about a trace of a file that keeps the rules.
 fn both_ways(buffer: &[u8], length: usize, part: i32) -> [Asked<'_>; 2] {
-    [false, true].map(|quick| Asked { buffer, length, part, quick })
+    [Way::Full, Way::Quick].map(|way| Asked { buffer, length, part, way })
+}
+
+fn leniently(buffer: &[u8], length: usize, part: i32) -> Asked<'_> {
+    let strict = reference::check(buffer, length).err();
+    Asked { buffer, length, part, way: Way::Lenient { strict } }
 }
 
 fn number_fields(n: Number) -> Vec<u64> {
@@ -287,7 +371,7 @@ fn damaged_files(out: &mut Out, rng: &mut Rng) {
             file_block(out, &case.buffer, case.length);
             for asked in both_ways(&case.buffer, case.length, 0) {
                 asked.block(out);
-                Asked { part: if asked.quick { 0 } else { -1 }, ..asked }.strings(out);
+                Asked { part: if let Way::Full = asked.way { -1 } else { 0 }, ..asked }.strings(out);
                 asked.keyword(out, b"DELAY");
             }
         }
@@ -317,7 +401,7 @@ fn one_trace(out: &mut Out, rng: &mut Rng) {
         let case = quick_case(rng);
         let Ok(part) = i32::try_from(case.trace) else { continue };
         out.buffer(&case.buffer, case.length);
-        let asked = Asked { buffer: &case.buffer, length: case.length, part, quick: true };
+        let asked = Asked { buffer: &case.buffer, length: case.length, part, way: Way::Quick };
         for QuickAsked { question, expected, .. } in case.asked {
             as_laid(out, asked, question, expected);
         }
@@ -359,15 +443,80 @@ fn any_bytes(out: &mut Out, rng: &mut Rng) {
     }
 }
 
+/// Files of older recorders (document 02, §11), as they are and damaged, of some all that can be asked; what both checks say
+/// of them is what they were laid out for. And such files with random changes.
+fn older_recorders(out: &mut Out, rng: &mut Rng) {
+    for round in 0..1200 {
+        let case = old_case(rng);
+        let asked = leniently(&case.buffer, case.length, -1);
+        out.buffer(&case.buffer, case.length);
+        check(out, &case.buffer, case.length);
+        let lenient = Way::Lenient { strict: case.strict };
+        Asked { way: lenient, ..asked }.check_told(out, case.lenient.map(|_| ()));
+        asked.file_block(out);
+        if round % 16 == 0 {
+            lenient_questions(out, asked);
+        }
+        let (buffer, length) = mutated_old(rng);
+        out.buffer(&buffer, length);
+        leniently(&buffer, length, -1).check(out);
+    }
+}
+
+/// Every lenient question of every part, and of some that there are not.
+fn lenient_questions(out: &mut Out, file: Asked) {
+    let block = reference::lenient_file_block(file.buffer, file.length).answer;
+    let traces = block.map_or(0, |b| i32::from(b.n));
+    for part in (-1..traces).chain([-2, traces]) {
+        let asked = Asked { part, ..file };
+        let block = reference::lenient_trace_block(file.buffer, file.length, part.into()).answer;
+        let samples = block.map_or(2, |t| t.s as usize);
+        asked.block(out);
+        asked.strings(out);
+        asked.samples(out, samples);
+        asked.samples(out, samples + 1);
+        lenient_keys(asked).iter().for_each(|key| asked.keyword(out, key));
+    }
+}
+
+/// Keys to ask of a part: NOTE, one that is none, and each keyword as it stands and as it counts.
+fn lenient_keys(asked: Asked) -> BTreeSet<Vec<u8>> {
+    let mut keys = BTreeSet::from([b"NOTE".to_vec(), b"note".to_vec()]);
+    for index in 0..asked.count().unwrap_or(0) as u64 {
+        if let Ok(Some(s)) = asked.string(index) {
+            let keyword = &asked.buffer[s.keyword];
+            keys.extend([keyword.to_vec(), keyword.to_ascii_uppercase()]);
+        }
+    }
+    keys
+}
+
+/// A text with a number or a location in it, or nearly, that a value may be.
+fn typed_value(rng: &mut Rng) -> Vec<u8> {
+    loop {
+        let text = if rng.one_in(2) { number_case(rng).text } else { location_case(rng).text };
+        if is_value(&text) {
+            return text;
+        }
+    }
+}
+
+/// Numbers and locations as values of an older recorder: of the first DELAY, in lower case.
+fn older_numbers(out: &mut Out, rng: &mut Rng) {
+    for _ in 0..400 {
+        let string = [b"delay ", &typed_value(rng)[..]].concat();
+        let strings = [&string[..], b"DELAY 1"];
+        let order = rng.pick(&[Order::Low, Order::High]);
+        let file = plain_file(order, &strings, &[PlainTrace::of_strings(&strings)]);
+        out.buffer(&file, file.len());
+        leniently(&file, file.len(), rng.pick(&[-1, 0])).keyword(out, b"DELAY");
+    }
+}
+
 /// Numbers and locations as values; most files have no such values by chance.
 fn numbers(out: &mut Out, rng: &mut Rng) {
     for _ in 0..1500 {
-        let text = loop {
-            let text = if rng.one_in(2) { number_case(rng).text } else { location_case(rng).text };
-            if is_value(&text) {
-                break text;
-            }
-        };
+        let text = typed_value(rng);
         let sheet = [b"DELAY\t", &text[..], b"\n"].concat();
         let trace = TraceGiven { sheet: sheet.clone(), code: 2, row: Row::Integers(vec![7]) };
         let order = rng.between(0, 1) as u32;
@@ -376,7 +525,7 @@ fn numbers(out: &mut Out, rng: &mut Rng) {
         for asked in both_ways(&file, file.len(), 0) {
             asked.keyword(out, b"DELAY");
         }
-        Asked { buffer: &file, length: file.len(), part: -1, quick: false }.keyword(out, b"DELAY");
+        fully(&file, file.len(), -1).keyword(out, b"DELAY");
     }
 }
 
@@ -476,6 +625,7 @@ fn main() {
     let mut rng = Rng::new(20_261_115);
     let parts = [
         valid_files, damaged_files, broken_files, one_trace, any_bytes, numbers, texts_of_numbers, samples, starts, additions,
+        older_recorders, older_numbers,
     ];
     for part in parts {
         part(&mut out, &mut rng);

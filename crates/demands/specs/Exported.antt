@@ -47,7 +47,7 @@ yes-or-no (string.Refused r) false e = absurd (let z : _≡_ {A = ℕ} 0 1 = cc 
 
 -- Rules out a start or a length that is off, or that points into another string. Without the keyword it is "the empty
 -- part at the start of the lent buffer".
-pub exported-value-is-the-lists : (xs : List ℕ) (n : ℕ) (z : ℤ) (ss : List Str) → AnswersBy xs n z ss → (key : List ℕ)
+pub exported-value-is-the-lists : (xs : List ℕ) (n : ℕ) (z : ℤ) (ss : List Str) → AnswersBy Strict xs n z ss → (key : List ℕ)
     → (bytesFrom (asValue (findAnswer Strict xs n z key) .«value_start») (asValue (findAnswer Strict xs n z key) .«value_length») xs ≡ valueOfKey Strict ss key)
     × (asValue (findAnswer Strict xs n z key) .number ≡ 0)
     × (hasKey Strict ss key ≡ false → (asValue (findAnswer Strict xs n z key) .«value_start» ≡ 0)
@@ -75,7 +75,7 @@ unfolding asString
 found-there s p e = rw e (refl, refl)
 
 -- Rules out a keyword or a value told at another place than the i-th string's.
-pub exported-string-is-the-lists : (xs : List ℕ) (n : ℕ) (z : ℤ) (ss : List Str) → AnswersBy xs n z ss → (i : ℕ) → i < length ss
+pub exported-string-is-the-lists : (xs : List ℕ) (n : ℕ) (z : ℤ) (ss : List Str) → AnswersBy Strict xs n z ss → (i : ℕ) → i < length ss
     → (bytesFrom (asString (nthAnswer Strict xs n z i) .«key_start») (asString (nthAnswer Strict xs n z i) .«key_length») xs ≡ nthStr ss i .key)
     × (bytesFrom (asString (nthAnswer Strict xs n z i) .«value_start») (asString (nthAnswer Strict xs n z i) .«value_length») xs ≡ nthStr ss i .value)
     × (asString (nthAnswer Strict xs n z i) .number ≡ 0)
@@ -86,7 +86,7 @@ exported-string-is-the-lists xs n z ss a i low =
     let f = found-there (nthAnswer Strict xs n z i) (t .0) (t .1) in
     (b .0 ∙ t .2 .key, b .1 ∙ t .2 .value, f .0, f .1)
 
-pub exported-string-past-the-last : (xs : List ℕ) (n : ℕ) (z : ℤ) (ss : List Str) → AnswersBy xs n z ss → (i : ℕ) → length ss ≤ i
+pub exported-string-past-the-last : (xs : List ℕ) (n : ℕ) (z : ℤ) (ss : List Str) → AnswersBy Strict xs n z ss → (i : ℕ) → length ss ≤ i
     → (asString (nthAnswer Strict xs n z i) .number ≡ 0) × (asString (nthAnswer Strict xs n z i) .found ≡ 0)
 unfolding asString
 exported-string-past-the-last xs n z ss a i high = rw (a .past i high) (refl, refl)

@@ -273,7 +273,7 @@ earlier-read-as-before-always (x ∷ calls) xs n by ok z old = go (addAnswer xs 
 pub file-strings-read-as-before : (xs : List ℕ) (n : ℕ) (x : Trace) (end : ℕ) (ss : List Str) → addAnswer xs n x ≡ To end → Bytes xs
     → Spells Strict (highFirst (take n xs)) (stringEnd (take n xs)) (lineEnd (take n xs)) ss
     (part (32 + roomOf (take n xs)) (stringsEnd (take n xs)) (take n xs))
-    → AnswersBy (addLeft xs n x) end (negsuc 0) ss
+    → AnswersBy Strict (addLeft xs n x) end (negsuc 0) ss
 file-strings-read-as-before xs n x end ss to by s = rw (add-left xs n x end to) (still.strings-answers-kept by (added xs n x end to) s)
 
 -- ---- "and the new one reads last": there is one trace more, and the last, trace N, reads as given (Reading

@@ -73,8 +73,8 @@ module _ {high : Bool} {slots : ℕ} {sheet : List ℕ} {ts : List Trace} {xs : 
       rw (is .image, f .order, f .strings, f .lines, f .room, t .pointer, size-none slots sheet, file-strings high slots sheet ts (is .slotted))
       (area-spells high nul lineFeed sheet (measures .0) feed-ends (measures .1))
 
-  pub list-file-strings : 0 < length ts → AnswersBy xs n (negsuc 0) (sheetStrings lineFeed sheet)
+  pub list-file-strings : 0 < length ts → AnswersBy Strict xs n (negsuc 0) (sheetStrings lineFeed sheet)
   list-file-strings l =
       let f : List ℕ = take n xs in
-      answered xs n (negsuc 0) (sheetStrings lineFeed sheet) (list-accepted l)
+      answered Strict xs n (negsuc 0) (sheetStrings lineFeed sheet) (list-accepted l)
       (record { a = 32 + roomOf f; e = traceAt f 0; area = file-area f; spells = file-spelled l })

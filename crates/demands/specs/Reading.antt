@@ -81,12 +81,12 @@ taken-exactly-when-kept xs n by = (accepted-keeps Strict Grow xs n by, λ k. kee
 -- invents a string.
 
 pub strings-of-the-file : (xs : List ℕ) (n : ℕ) → Bytes xs → checkOf Strict Read xs n ≡ Accepted
-    → (ss : List Str) × Lists Strict (take n xs) (negsuc 0) ss × AnswersBy xs n (negsuc 0) ss
-strings-of-the-file xs n by ok = let l = file-lists Strict xs n by ok in (l .0, l .1, answered xs n (negsuc 0) (l .0) ok (l .1))
+    → (ss : List Str) × Lists Strict (take n xs) (negsuc 0) ss × AnswersBy Strict xs n (negsuc 0) ss
+strings-of-the-file xs n by ok = let l = file-lists Strict xs n by ok in (l .0, l .1, answered Strict xs n (negsuc 0) (l .0) ok (l .1))
 
 pub strings-of-a-trace : (xs : List ℕ) (n k : ℕ) → Bytes xs → checkOf Strict Read xs n ≡ Accepted → k < countOf (take n xs)
-    → (ss : List Str) × Lists Strict (take n xs) (pos k) ss × AnswersBy xs n (pos k) ss
-strings-of-a-trace xs n k by ok low = let l = trace-lists Strict xs n k by ok low in (l .0, l .1, answered xs n (pos k) (l .0) ok (l .1))
+    → (ss : List Str) × Lists Strict (take n xs) (pos k) ss × AnswersBy Strict xs n (pos k) ss
+strings-of-a-trace xs n k by ok low = let l = trace-lists Strict xs n k by ok low in (l .0, l .1, answered Strict xs n (pos k) (l .0) ok (l .1))
 
 pub one-list-of-strings : (f : List ℕ) (z : ℤ) (ss rs : List Str) → Lists Strict f z ss → Lists Strict f z rs → ss ≡ rs
 one-list-of-strings = lists-once Strict
@@ -112,7 +112,7 @@ pub one-way-to-write : (p q : Parts) (t : List ℕ) → Writes p t → Writes q 
 one-way-to-write = parts-unique
 
 -- "No comma": a value with one is no number, no double and no location. Rules out "Dropping a comma".
-pub never-with-a-comma : (xs : List ℕ) (n : ℕ) (z : ℤ) (ss : List Str) → AnswersBy xs n z ss → (key before after : List ℕ)
+pub never-with-a-comma : (xs : List ℕ) (n : ℕ) (z : ℤ) (ss : List Str) → AnswersBy Strict xs n z ss → (key before after : List ℕ)
     → valueOfKey Strict ss key ≡ before ++ (44 ∷ after)
     → (numberAnswer Strict xs n z key ≡ noNumber)
     × (doubleAnswer Strict xs n z key ≡ double.Refused (refusal NoNumber File 0))
@@ -125,7 +125,7 @@ never-with-a-comma xs n z ss a key before after e = (
 
 -- "multiplied or divided once": a double is the text's value, rounded once. Rules out two roundings, and a value next
 -- to the nearest.
-pub double-rounded-once : (xs : List ℕ) (n : ℕ) (z : ℤ) (ss : List Str) → AnswersBy xs n z ss → (key : List ℕ) (p : Parts) → Writes p (valueOfKey Strict ss key)
+pub double-rounded-once : (xs : List ℕ) (n : ℕ) (z : ℤ) (ss : List Str) → AnswersBy Strict xs n z ss → (key : List ℕ) (p : Parts) → Writes p (valueOfKey Strict ss key)
     → (x : Float) → doubleAnswer Strict xs n z key ≡ double.Is x → x ≡ round binary64 (decimalOf p .minus) (over p) (under p)
 double-rounded-once xs n z ss a key p w x e = text-rounded-once p (valueOfKey Strict ss key) w x (sym (a .double key) ∙ e)
 
@@ -197,7 +197,7 @@ module _ (xs : List ℕ) (order slots : ℕ) (sheet : List ℕ) (e : ℕ) (to : 
       let s = started xs order slots sheet e to in
       list-file-block (start-grows xs order slots sheet e to calls .holds) (s .some) (areaSize nul lineFeed sheet, s .sized) most low
 
-  pub file-strings-read-back : 0 < length given → AnswersBy (left .0) (left .1) (negsuc 0) (sheetStrings lineFeed sheet)
+  pub file-strings-read-back : 0 < length given → AnswersBy Strict (left .0) (left .1) (negsuc 0) (sheetStrings lineFeed sheet)
   file-strings-read-back low =
       let s = started xs order slots sheet e to in
       list-file-strings (start-grows xs order slots sheet e to calls .holds) (s .some) (areaSize nul lineFeed sheet, s .sized) most low

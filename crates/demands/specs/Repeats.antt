@@ -72,7 +72,7 @@ each-once-but-the-two f z ss l i j low high e = let o = keywords-once ss i j (l 
 -- ---- "A keyword question answers the first": the string that is found is the i-th, where that has the keyword and
 -- none before it has; count and i-th string have them all (`AnswersBy`). Rules out a question that answers a later one.
 
-pub the-first-is-answered : (xs : List ℕ) (n : ℕ) (z : ℤ) (ss : List Str) → AnswersBy xs n z ss → (key : List ℕ) (i : ℕ) → i < length ss
+pub the-first-is-answered : (xs : List ℕ) (n : ℕ) (z : ℤ) (ss : List Str) → AnswersBy Strict xs n z ss → (key : List ℕ) (i : ℕ) → i < length ss
     → nthStr ss i .key ≡ key → ((j : ℕ) → j < i → nthStr ss j .key ≡ key → ⊥)
     → (findAnswer Strict xs n z key ≡ nthAnswer Strict xs n z i)
     × (keywordAnswer Strict xs n z key ≡ Yes)
@@ -90,7 +90,7 @@ the-first-is-answered xs n z ss a key i low has free =
     (f, ap yesOrNo w, v, a .number key ∙ ap numberIn k, a .double key ∙ ap doubleOf k, a .location key ∙ ap locationOf k)
 
 -- so every other keyword that stands in a part is answered by its one string
-pub any-other-by-its-own : (xs : List ℕ) (n : ℕ) (z : ℤ) (ss : List Str) → Lists Strict (take n xs) z ss → AnswersBy xs n z ss → (i : ℕ) → i < length ss
+pub any-other-by-its-own : (xs : List ℕ) (n : ℕ) (z : ℤ) (ss : List Str) → Lists Strict (take n xs) z ss → AnswersBy Strict xs n z ss → (i : ℕ) → i < length ss
     → (Geometry (nthStr ss i .key) → ⊥)
     → (findAnswer Strict xs n z (nthStr ss i .key) ≡ nthAnswer Strict xs n z i) × (valueAnswer Strict xs n z (nthStr ss i .key) ≡ nthStr ss i .value)
 any-other-by-its-own xs n z ss l a i low other =
@@ -186,7 +186,7 @@ pub six-receivers : (xs : List ℕ) → 236 ≤ length xs
     → (startAnswer xs 0 1 units ≡ To 56)
     × (answersOf (startLeft xs 0 1 units) 56 (group ∷ []) ≡ To 236 ∷ [])
     × (take 236 (bufferOf xs 0 1 units (group ∷ [])) ≡ fileOf false 1 units (group ∷ []))
-    × AnswersBy (bufferOf xs 0 1 units (group ∷ [])) 236 (pos 0) (strsOf phones)
+    × AnswersBy Strict (bufferOf xs 0 1 units (group ∷ [])) 236 (pos 0) (strsOf phones)
 unfolding lengths
 six-receivers xs h =
     let w = can-be-written xs h in

@@ -284,12 +284,12 @@ module _ {xs : List ℕ} {n : ℕ} {x : Trace} {end : ℕ} (by : Bytes xs) (h : 
 pub strings-answers-kept : {xs : List ℕ} {n : ℕ} {x : Trace} {end : ℕ} {ss : List Str} → Bytes xs → Added xs n x end
     → Spells Strict (highFirst (take n xs)) (stringEnd (take n xs)) (lineEnd (take n xs)) ss
     (part (32 + roomOf (take n xs)) (stringsEnd (take n xs)) (take n xs))
-    → AnswersBy (grown xs n x) end (negsuc 0) ss
+    → AnswersBy Strict (grown xs n x) end (negsuc 0) ss
 unfolding whoseOf areaNamed
 strings-answers-kept {xs} {n} {x} {end} {ss} by h s =
     let w = grown-grows by h in
     let g : List ℕ = take end (grown xs n x) in
-    answered (grown xs n x) end (negsuc 0) ss (grown-accepted Read by h)
+    answered Strict (grown xs n x) end (negsuc 0) ss (grown-accepted Read by h)
     (record { a = 32 + roomOf g; e = traceAt g 0; area = refl; spells = rw (strings-end-grown w) at (file-spelled-kept w s) })
 
 -- the file's block says one trace more, and nothing else

@@ -166,7 +166,7 @@ pub record ReadsAs (xs : List ℕ) (n k p : ℕ) (x : Trace) : Type 0 where
   pub block : traceAnswer Strict xs n (pos k)
       ≡ trace.Is
       (record { p = p; b = blockBytes (stringEnd (take n xs)) (lineEnd (take n xs)) x; d = dataBytes x; s = layout.count (x .samples); code = x .code })
-  pub strings : AnswersBy xs n (pos k) (sheetStrings (lineEnd (take n xs)) (x .sheet))
+  pub strings : AnswersBy Strict xs n (pos k) (sheetStrings (lineEnd (take n xs)) (x .sheet))
   -- rows of the given length are taken, and filled with what was given
   pub integers : (row old : List ℤ) → x .samples ≡ layout.integers row → In32 row → length old ≡ length row
       → (integersAnswer Strict xs n (pos k) (length old) ≡ Accepted) × (integersLeft Strict xs n (pos k) old ≡ readBack (x .code) row)
@@ -182,7 +182,7 @@ reads-as {xs} {n} {k} {p} {x} ok s =
     record {
       block = rw (ok, whose-one k (countOf g) (s .low), block-there s);
       strings =
-          answered xs n (pos k) (sheetStrings (lineEnd g) (x .sheet)) ok
+          answered Strict xs n (pos k) (sheetStrings (lineEnd g) (x .sheet)) ok
           (record { a = traceAt g k + 32; e = dataAt (highFirst g) g (traceAt g k); area = trace-area g k (s .low); spells = spelled-there s });
       integers =
           λ row old e m l.

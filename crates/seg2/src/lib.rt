@@ -1,12 +1,23 @@
 // The face for other languages: thin functions on numbers and byte slices, each with a whole promise and no `requires`.
 // include/seg2.h declares them. What is exported has to stand here; the work, with the same promise, is done by the
-// crates `call_*`, so that a wrong program is tried in a small crate. Strings are read in the strict manner.
+// crates `call_*`, so that a wrong program is tried in a small crate. Strings are read in the strict manner, but for the
+// functions with `lenient` in their name.
 // The rules in words: docs/FORMAT.md, "Refusal numbers, in order of checking".
 use face::Seg2Count;
 use face::Seg2File;
 use face::Seg2Length;
 use face::Seg2Trace;
 use face::Seg2Verdict;
+use face_lenient::Seg2LenientCount;
+use face_lenient::Seg2LenientDouble;
+use face_lenient::Seg2LenientFile;
+use face_lenient::Seg2LenientKeyword;
+use face_lenient::Seg2LenientLocation;
+use face_lenient::Seg2LenientNumber;
+use face_lenient::Seg2LenientString;
+use face_lenient::Seg2LenientTrace;
+use face_lenient::Seg2LenientValue;
+use face_lenient::Seg2LenientVerdict;
 use face_values::Seg2Double;
 use face_values::Seg2Keyword;
 use face_values::Seg2Location;
@@ -15,7 +26,7 @@ use face_values::Seg2String;
 use face_values::Seg2Value;
 ghost use mathlib.Core.Path.{_≡_};
 ghost use lib.ListN.{length};
-ghost use Rattle.text.specs.declared.Manner.the-variants.{Strict};
+ghost use Rattle.text.specs.declared.Manner.the-variants.{Strict, Lenient};
 ghost use Rattle.head.specs.declared.Purpose.the-variants.{Read};
 ghost use Rattle.decimal.specs.Number.{numberIn};
 ghost use Rattle.numeral.specs.Numeral.{numeralAnswer, numeralLeft};
@@ -33,6 +44,9 @@ ghost use Rattle.start.specs.Start.{startAnswer, startLeft};
 ghost use Rattle.writer.specs.Answers.{addAnswer, addLeft};
 ghost use Rattle.face.specs.Face.{asVerdict, asFile, asTrace, asCount, asLength};
 ghost use Rattle.face_values.specs.FaceValues.{asString, asKeyword, asValue, asNumber, asDouble, asLocation, asGiven};
+ghost use Rattle.face_lenient.specs.FaceLenient.{lenientVerdict, lenientFile, lenientTrace, lenientCount};
+ghost use Rattle.face_lenient.specs.FaceLenient.{lenientString, lenientKeyword, lenientValue, lenientNumber};
+ghost use Rattle.face_lenient.specs.FaceLenient.{lenientDouble, lenientLocation};
 
 // ---- questions
 
@@ -273,6 +287,180 @@ pub extern "C" fn seg2_quick_bits(
         ≡ quickClassesLeft (now (buffer .entry)) n trace (now (row .entry)) (now (classes .entry)) ⌝ }
 {
     call_rows::quick_bits(buffer, n, trace, row, classes)
+}
+
+// ---- older recorders: the lenient reading, and beside each answer the strict check's own row
+
+// Whether the first `n` bytes of the buffer are a file that keeps the rules as the lenient reading has them.
+#[no_mangle]
+pub extern "C" fn seg2_lenient_check(buffer: &[u8], n: usize) -> Seg2LenientVerdict
+    ensures { λ r. ⌜ r ≡ lenientVerdict (checkOf Lenient Read (now (buffer .entry)) n)
+        (checkOf Strict Read (now (buffer .entry)) n) ⌝ }
+{
+    call_lenient::check(buffer, n)
+}
+
+// The file block.
+#[no_mangle]
+pub extern "C" fn seg2_lenient_file_block(buffer: &[u8], n: usize) -> Seg2LenientFile
+    ensures { λ r. ⌜ r ≡ lenientFile (fileAnswer Lenient (now (buffer .entry)) n)
+        (checkOf Strict Read (now (buffer .entry)) n) ⌝ }
+{
+    call_lenient::file_block(buffer, n)
+}
+
+// A trace's block.
+#[no_mangle]
+pub extern "C" fn seg2_lenient_trace_block(buffer: &[u8], n: usize, trace: i32) -> Seg2LenientTrace
+    ensures { λ r. ⌜ r ≡ lenientTrace (traceAnswer Lenient (now (buffer .entry)) n trace)
+        (checkOf Strict Read (now (buffer .entry)) n) ⌝ }
+{
+    call_lenient::trace_block(buffer, n, trace)
+}
+
+// How many strings the file (part -1) or a trace has.
+#[no_mangle]
+pub extern "C" fn seg2_lenient_string_count(buffer: &[u8], n: usize, part: i32) -> Seg2LenientCount
+    ensures { λ r. ⌜ r ≡ lenientCount (countAnswer Lenient (now (buffer .entry)) n part)
+        (checkOf Strict Read (now (buffer .entry)) n) ⌝ }
+{
+    call_lenient::string_count(buffer, n, part)
+}
+
+// The string with an index, counted from 0.
+#[no_mangle]
+pub extern "C" fn seg2_lenient_string(
+    buffer: &[u8],
+    n: usize,
+    part: i32,
+    index: usize,
+) -> Seg2LenientString
+    ensures { λ r. ⌜ r ≡ lenientString (nthAnswer Lenient (now (buffer .entry)) n part index)
+        (checkOf Strict Read (now (buffer .entry)) n) ⌝ }
+{
+    call_lenient::string(buffer, n, part, index)
+}
+
+// All strings of the file or a trace, into a row of four numbers each.
+#[no_mangle]
+pub extern "C" fn seg2_lenient_strings(
+    buffer: &[u8],
+    n: usize,
+    part: i32,
+    row: &mut [usize],
+) -> Seg2LenientVerdict
+    ensures answer { λ r. ⌜ r ≡ lenientVerdict
+        (stringsAnswer Lenient (now (buffer .entry)) n part (length (now (row .entry))))
+        (checkOf Strict Read (now (buffer .entry)) n) ⌝ }
+    ensures row { λ _. ⌜ now (row .exit) ≡ stringsLeft Lenient (now (buffer .entry)) n part (now (row .entry)) ⌝ }
+{
+    call_lenient_rows::strings(buffer, n, part, row)
+}
+
+// Whether a keyword is there: one of the two calls of a keyword question.
+#[no_mangle]
+pub extern "C" fn seg2_lenient_keyword(
+    buffer: &[u8],
+    n: usize,
+    part: i32,
+    key: &[u8],
+) -> Seg2LenientKeyword
+    ensures { λ r. ⌜ r ≡ lenientKeyword (keywordAnswer Lenient (now (buffer .entry)) n part (now (key .entry)))
+        (checkOf Strict Read (now (buffer .entry)) n) ⌝ }
+{
+    call_lenient::keyword(buffer, n, part, key)
+}
+
+// A keyword's value: the other one.
+#[no_mangle]
+pub extern "C" fn seg2_lenient_value(
+    buffer: &[u8],
+    n: usize,
+    part: i32,
+    key: &[u8],
+) -> Seg2LenientValue
+    ensures { λ r. ⌜ r ≡ lenientValue (findAnswer Lenient (now (buffer .entry)) n part (now (key .entry)))
+        (checkOf Strict Read (now (buffer .entry)) n) ⌝ }
+{
+    call_lenient::value(buffer, n, part, key)
+}
+
+// The number that a keyword's value is.
+#[no_mangle]
+pub extern "C" fn seg2_lenient_number(
+    buffer: &[u8],
+    n: usize,
+    part: i32,
+    key: &[u8],
+) -> Seg2LenientNumber
+    ensures { λ r. ⌜ r ≡ lenientNumber (numberAnswer Lenient (now (buffer .entry)) n part (now (key .entry)))
+        (checkOf Strict Read (now (buffer .entry)) n) ⌝ }
+{
+    call_lenient_values::number(buffer, n, part, key)
+}
+
+// The double that a keyword's value is.
+#[no_mangle]
+pub extern "C" fn seg2_lenient_double(
+    buffer: &[u8],
+    n: usize,
+    part: i32,
+    key: &[u8],
+) -> Seg2LenientDouble
+    ensures { λ r. ⌜ r ≡ lenientDouble (doubleAnswer Lenient (now (buffer .entry)) n part (now (key .entry)))
+        (checkOf Strict Read (now (buffer .entry)) n) ⌝ }
+{
+    call_lenient_values::double(buffer, n, part, key)
+}
+
+// The location that a keyword's value is.
+#[no_mangle]
+pub extern "C" fn seg2_lenient_location(
+    buffer: &[u8],
+    n: usize,
+    part: i32,
+    key: &[u8],
+) -> Seg2LenientLocation
+    ensures { λ r. ⌜ r ≡ lenientLocation (locationAnswer Lenient (now (buffer .entry)) n part (now (key .entry)))
+        (checkOf Strict Read (now (buffer .entry)) n) ⌝ }
+{
+    call_lenient_values::location(buffer, n, part, key)
+}
+
+// The samples of a trace of code 1 to 3, into a row of as many.
+#[no_mangle]
+pub extern "C" fn seg2_lenient_integers(
+    buffer: &[u8],
+    n: usize,
+    trace: i32,
+    row: &mut [i32],
+) -> Seg2LenientVerdict
+    ensures answer { λ r. ⌜ r ≡ lenientVerdict
+        (integersAnswer Lenient (now (buffer .entry)) n trace (length (now (row .entry))))
+        (checkOf Strict Read (now (buffer .entry)) n) ⌝ }
+    ensures row { λ _. ⌜ now (row .exit) ≡ integersLeft Lenient (now (buffer .entry)) n trace (now (row .entry)) ⌝ }
+{
+    call_lenient_rows::integers(buffer, n, trace, row)
+}
+
+// The bit patterns and the classes of the samples of a trace of code 4 or 5, into two rows of as many.
+#[no_mangle]
+pub extern "C" fn seg2_lenient_bits(
+    buffer: &[u8],
+    n: usize,
+    trace: i32,
+    row: &mut [u64],
+    classes: &mut [u8],
+) -> Seg2LenientVerdict
+    ensures answer { λ r. ⌜ r ≡ lenientVerdict
+        (bitsAnswer Lenient (now (buffer .entry)) n trace (length (now (row .entry))) (length (now (classes .entry))))
+        (checkOf Strict Read (now (buffer .entry)) n) ⌝ }
+    ensures row { λ _. ⌜ now (row .exit) ≡ patternsLeft Lenient (now (buffer .entry)) n trace (now (row .entry))
+        (now (classes .entry)) ⌝ }
+    ensures classes { λ _. ⌜ now (classes .exit)
+        ≡ classesLeft Lenient (now (buffer .entry)) n trace (now (row .entry)) (now (classes .entry)) ⌝ }
+{
+    call_lenient_rows::bits(buffer, n, trace, row, classes)
 }
 
 // ---- writing

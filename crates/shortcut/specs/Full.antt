@@ -32,8 +32,8 @@ use Rattle.strings.specs.declared.Found.{Found}
 use Rattle.strings.specs.declared.Found.the-variants.{Nothing, Is}
 use Rattle.strings.specs.Strings.{body, keyLen, keyOf, frameOf, judgedOf, stepOf, stringsFrom, stringsOf, onText, placeOf}
 use Rattle.strings.specs.Strings.{placesFrom, placesOf, keyIn, nthOf, findOf}
-use Rattle.strings.specs.Walks.{in-frame, next-fits, next-bounds, done-frame, judged-clear, length-body, keyLen-le}
 use Rattle.strings.specs.Passed.{seen-key}
+use Rattle.strings.specs.Followed.{Followed, followed, no-fuel, not-bad, none-left}
 use Rattle.until.specs.declared.Turn.{Turn}
 use Rattle.until.specs.declared.Turn.the-variants.{Here, Gone, On}
 use Rattle.until.specs.declared.Walked.{Walked}
@@ -79,66 +79,10 @@ walkPlaces look f j [] = walked.Over j
 walkPlaces look f j (s ∷ ss) = onTurn (look j (keyIn f s)) (walked.At s) (walked.Over j) (walkPlaces look f (j + 1) ss)
 
 module _ (high : Bool) (t u : List ℕ) (p : Part) (f : List ℕ) (e : ℕ) (fits : e ≤ length f) where
-  -- a string of it: its keyword follows the one before, and behind it is accepted too
-  record Followed (m at : ℕ) (prev : List ℕ) (o n : ℕ) : Type 0 where
-    rest : stringsFrom Strict m high t u p (part (at + 2) (at + 2 + n) f) (part (at + o) e f) (at + o) ≡ Accepted
-    places : placesFrom Strict (suc m) high t (part at e f) at
-        ≡ placeOf t o (part at e f) at ∷ placesFrom Strict m high t (part (at + o) e f) (at + o)
-    own-key : keyIn f (placeOf t o (part at e f) at) ≡ part (at + 2) (at + 2 + n) f
-    follows : rises prev (part (at + 2) (at + 2 + n) f) ≡ true
-
-  module _ (m at : ℕ) (prev : List ℕ) (o n : ℕ) (h : stepOf Strict high t u p prev (part at e f) at ≡ Next o n) where
-    abbrev l : List ℕ
-    l = part at e f
-
-    abbrev b : List ℕ
-    b = body t o l
-
-    clears : (frameOf Strict high t l ≡ Text o) × (judgedOf Strict u prev b ≡ Keyword n)
-    clears = next-fits Strict high t u p prev l at o n h
-
-    long : keyLen b ≡ n
-    long = judged-clear Strict u prev b n (clears .1) .1
-
-    own : keyOf b ≡ part (at + 2) (at + 2 + n) f
-    unfolding body
-    own =
-        let i = in-frame Strict high t l o (clears .0) in
-        let s = length-body t o l (i .low) (i .fit) in
-        let k = keyLen-le b in
-        let g = long in
-        ap (λ (j : ℕ). take j b) long ∙ take-take n (o - length t - 2) (drop 2 l) (omega (arith, i .low)) ∙ seen-key Strict high t u p prev f e at o n fits h
-
-    turn : stringsFrom Strict (suc m) high t u p prev l at ≡ Accepted → Followed m at prev o n
-    unfolding stringsFrom placesFrom onText
-    turn q =
-        let y = seen-key Strict high t u p prev f e at o n fits h in
-        record {
-          rest = rw (h, y, part-drop o at e f) at q;
-          places = rw (clears .0, part-drop o at e f);
-          own-key = rw long;
-          follows = ap (rises prev) (sym own) ∙ not-false (rises prev (keyOf b)) (judged-clear Strict u prev b n (clears .1) .0 .1 .1 .1 .0);
-        }
-
-  -- an accepted list has an end, and no string that is refused
-  no-fuel : (at : ℕ) (prev : List ℕ) → stringsFrom Strict 0 high t u p prev (part at e f) at ≡ Accepted → ⊥
-  unfolding stringsFrom
-  no-fuel at prev q = refused-not _ q
-
-  not-bad : (m at : ℕ) (prev : List ℕ) (r : Refusal) → stepOf Strict high t u p prev (part at e f) at ≡ Bad r
-      → stringsFrom Strict (suc m) high t u p prev (part at e f) at ≡ Accepted → ⊥
-  unfolding stringsFrom
-  not-bad m at prev r h q = refused-not r (rw h at q)
-
-  -- where the list ends there is no place more
-  none-left : (m at : ℕ) (prev : List ℕ) → stepOf Strict high t u p prev (part at e f) at ≡ Done → placesFrom Strict (suc m) high t (part at e f) at ≡ []
-  unfolding placesFrom onText
-  none-left m at prev h = rw (done-frame Strict high t u p prev (part at e f) at h)
-
   from-places : (look : ℕ → List ℕ → Turn) (m j at : ℕ) (prev : List ℕ) → stringsFrom Strict m high t u p prev (part at e f) at ≡ Accepted
       → walkFrom look m high t u p j prev (part at e f) at ≡ walkPlaces look f j (placesFrom Strict m high t (part at e f) at)
   unfolding walkFrom walkPlaces
-  from-places look zero j at prev q = absurd (no-fuel at prev q)
+  from-places look zero j at prev q = absurd (no-fuel high t u p f e at prev q)
   from-places look (suc m) j at prev q =
       go (stepOf Strict high t u p prev (part at e f) at) refl (λ o n. from-places look m (j + 1) (at + o) (part (at + 2) (at + 2 + n) f))
     where
@@ -147,18 +91,22 @@ module _ (high : Bool) (t u : List ℕ) (p : Part) (f : List ℕ) (e : ℕ) (fit
           → walkFrom look m high t u p (j + 1) (part (at + 2) (at + 2 + n) f) (part (at + o) e f) (at + o)
           ≡ walkPlaces look f (j + 1) (placesFrom Strict m high t (part (at + o) e f) (at + o)))
           → walkFrom look (suc m) high t u p j prev (part at e f) at ≡ walkPlaces look f j (placesFrom Strict (suc m) high t (part at e f) at)
-      go Done h again = rw (h, none-left m at prev h)
-      go (Bad r) h again = absurd (not-bad m at prev r h q)
+      go Done h again = rw (h, none-left Strict high t u p f e m at prev h)
+      go (Bad r) h again = absurd (not-bad Strict high t u p f e m at prev r h q)
       go (Next o n) h again =
-          let c = turn m at prev o n h q in
+          let c = followed Strict high t u p f e fits m at prev o n h q in
           let y = seen-key Strict high t u p prev f e at o n fits h in
           rw (h, y, part-drop o at e f, c .places, c .own-key, again o n (c .rest))
+
+  -- a keyword follows the one before it
+  follows : {m at : ℕ} {prev : List ℕ} {o n : ℕ} → Followed Strict high t u p f e m at prev o n → rises prev (part (at + 2) (at + 2 + n) f) ≡ true
+  follows {prev = prev} c = ap (rises prev) (sym (c .key)) ∙ not-false _ (c .clear .1 .1 .1 .0)
 
   -- behind a keyword that the asked one comes before, none is the asked one
   none-behind : (key : List ℕ) (m at : ℕ) (prev : List ℕ) → stringsFrom Strict m high t u p prev (part at e f) at ≡ Accepted → before key prev ≡ true
       → findOf Strict f (placesFrom Strict m high t (part at e f) at) key ≡ Nothing
   unfolding findOf
-  none-behind key zero at prev q w = absurd (no-fuel at prev q)
+  none-behind key zero at prev q w = absurd (no-fuel high t u p f e at prev q)
   none-behind key (suc m) at prev q w =
       go (stepOf Strict high t u p prev (part at e f) at) refl (λ o n. none-behind key m (at + o) (part (at + 2) (at + 2 + n) f))
     where
@@ -167,11 +115,11 @@ module _ (high : Bool) (t u : List ℕ) (p : Part) (f : List ℕ) (e : ℕ) (fit
           → before key (part (at + 2) (at + 2 + n) f) ≡ true
           → findOf Strict f (placesFrom Strict m high t (part (at + o) e f) (at + o)) key ≡ Nothing)
           → findOf Strict f (placesFrom Strict (suc m) high t (part at e f) at) key ≡ Nothing
-      go Done h again = rw (none-left m at prev h)
-      go (Bad r) h again = absurd (not-bad m at prev r h q)
+      go Done h again = rw (none-left Strict high t u p f e m at prev h)
+      go (Bad r) h again = absurd (not-bad Strict high t u p f e m at prev r h q)
       go (Next o n) h again =
-          let c = turn m at prev o n h q in
-          let k = before-rises key prev (part (at + 2) (at + 2 + n) f) w (c .follows) in
+          let c = followed Strict high t u p f e fits m at prev o n h q in
+          let k = before-rises key prev (part (at + 2) (at + 2 + n) f) w (follows c) in
           rw (c .places, c .own-key, before-other key (part (at + 2) (at + 2 + n) f) k) (again o n (c .rest) k)
 
   -- so the search ends where the question's own does
@@ -179,7 +127,7 @@ module _ (high : Bool) (t u : List ℕ) (p : Part) (f : List ℕ) (e : ℕ) (fit
       → toldBy (walkPlaces (byKey key) f j (placesFrom Strict m high t (part at e f) at))
       ≡ there (findOf Strict f (placesFrom Strict m high t (part at e f) at) key)
   unfolding walkPlaces findOf
-  from-key key zero j at prev q = absurd (no-fuel at prev q)
+  from-key key zero j at prev q = absurd (no-fuel high t u p f e at prev q)
   from-key key (suc m) j at prev q =
       go (stepOf Strict high t u p prev (part at e f) at) refl (λ o n. from-key key m (j + 1) (at + o) (part (at + 2) (at + 2 + n) f))
     where
@@ -195,10 +143,10 @@ module _ (high : Bool) (t u : List ℕ) (p : Part) (f : List ℕ) (e : ℕ) (fit
           ≡ there (findOf Strict f (placesFrom Strict m high t (part (at + o) e f) (at + o)) key))
           → toldBy (walkPlaces (byKey key) f j (placesFrom Strict (suc m) high t (part at e f) at))
           ≡ there (findOf Strict f (placesFrom Strict (suc m) high t (part at e f) at) key)
-      go Done h again = rw (none-left m at prev h)
-      go (Bad r) h again = absurd (not-bad m at prev r h q)
+      go Done h again = rw (none-left Strict high t u p f e m at prev h)
+      go (Bad r) h again = absurd (not-bad Strict high t u p f e m at prev r h q)
       go (Next o n) h again =
-          let c = turn m at prev o n h q in
+          let c = followed Strict high t u p f e fits m at prev o n h q in
           let k : List ℕ = part (at + 2) (at + 2 + n) f in
           rw (c .places, c .own-key)
           (told (placeOf t o (part at e f) at) (same k key) (passed key k) _ _ (again o n (c .rest)) (λ w. none-behind key m (at + o) k (c .rest) w))

@@ -23,7 +23,7 @@ use Rattle.strings.specs.declared.Step.{Step}
 use Rattle.strings.specs.declared.Step.the-variants.{Next, Done, Bad}
 use Rattle.strings.specs.declared.Place.{Place}
 use Rattle.strings.specs.Strings.{offset, body, keyLen, gapLen, frameOf, onFrame, stepOf, placeOf, onText, placesFrom, placesOf}
-use Rattle.strings.specs.Frames.{cut-two, frame-short, frame-end, frame-small, frame-past}
+use Rattle.strings.specs.Frames.{frame-short, frame-end, frame-small, frame-past}
 use Rattle.strings.specs.Walks.{in-frame, next-fits, next-bounds, place-fits, done-frame}
 use Rattle.ignored.specs.Areas.{offset-same, part-same, front-same, rest-same, drop-long}
 use Rattle.until.specs.declared.Turn.{Turn}
@@ -75,8 +75,8 @@ module _ (high : Bool) (t : List ℕ) where
       → frameOf Strict high t l ≡ frameOf Strict high t r
   unfolding offset
   out-same l r n two o w =
-      let a = cut-two Strict l two in
-      let b = cut-two Strict r (omega arith) in
+      let a : 2 ≤ length l = two in
+      let b : 2 ≤ length r = omega arith in
       elim (decLe 1 (offset high l)) [
         | no z ↦ (let y = lt-of-not-le z in sym (frame-end Strict high t l _ refl a (omega arith)) ∙ frame-end Strict high t r _ refl b (omega arith))
         | yes z ↦

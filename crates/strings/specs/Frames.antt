@@ -27,6 +27,14 @@ no-offset true [] e = refl
 no-offset false [] e = refl
 no-offset high (x ∷ l) e = absurd (omega arith)
 
+-- two bytes or more are an offset in every manner
+pub cut-two : (how : Manner) (l : List ℕ) → 2 ≤ length l → cut how l ≡ false
+cut-two how l h = go (openEnd how)
+  where
+    go : (w : Bool) → pick w (eqb (length l) 1) (ltb (length l) 2) ≡ false
+    go true = ne-eqb (length l) 1 (omega arith)
+    go false = le-ltb (length l) 2 h
+
 -- ---- which answer it is, from the tests as the code makes them: o is the offset that was read
 module _ (how : Manner) (high : Bool) (t l : List ℕ) where
   pub frame-short : cut how l ≡ true → Broken StringOffset ≡ frameOf how high t l
@@ -45,34 +53,26 @@ module _ (how : Manner) (high : Bool) (t l : List ℕ) where
           go true q = let n = eqb-false (length l) 1 q in let z = by-contra (length l) 0 (λ m. n (omega arith)) in omega arith
           go false q = absurd (let n = ltb-false (length l) 2 q in omega arith)
 
-  module _ (o : ℕ) (e : o ≡ wordAt 2 high l 0) (two : cut how l ≡ false) where
+  module _ (o : ℕ) (e : o ≡ wordAt 2 high l 0) (two : 2 ≤ length l) where
     pub frame-end : o ≡ 0 → End ≡ frameOf how high t l
     unfolding frameOf offset
-    frame-end z = rw (two, ← e, eq-eqb o 0 z)
+    frame-end z = rw (cut-two how l two, ← e, eq-eqb o 0 z)
 
     pub frame-small : 0 < o → o < 3 + length t → Broken StringOffset ≡ frameOf how high t l
     unfolding frameOf offset
-    frame-small z s = rw (two, ← e, ne-eqb o 0 (omega arith), lt-ltb _ _ s)
+    frame-small z s = rw (cut-two how l two, ← e, ne-eqb o 0 (omega arith), lt-ltb _ _ s)
 
     pub frame-past : 3 + length t ≤ o → length l < o → Broken StringOffset ≡ frameOf how high t l
     unfolding frameOf offset
-    frame-past s p = rw (two, ← e, ne-eqb o 0 (omega arith), le-ltb o (3 + length t) s, lt-ltb _ _ p)
+    frame-past s p = rw (cut-two how l two, ← e, ne-eqb o 0 (omega arith), le-ltb o (3 + length t) s, lt-ltb _ _ p)
 
     pub frame-open : 3 + length t ≤ o → o ≤ length l → same (part (o - length t) o l) t ≡ false → Broken StringEnd ≡ frameOf how high t l
     unfolding frameOf offset
-    frame-open s p n = rw (two, ← e, ne-eqb o 0 (omega arith), le-ltb o (3 + length t) s, le-ltb (length l) o p, n)
+    frame-open s p n = rw (cut-two how l two, ← e, ne-eqb o 0 (omega arith), le-ltb o (3 + length t) s, le-ltb (length l) o p, n)
 
     pub frame-text : 3 + length t ≤ o → o ≤ length l → same (part (o - length t) o l) t ≡ true → Text o ≡ frameOf how high t l
     unfolding frameOf offset
-    frame-text s p n = rw (two, ← e, ne-eqb o 0 (omega arith), le-ltb o (3 + length t) s, le-ltb (length l) o p, n)
-
--- two bytes or more are an offset in every manner, one alone is in none
-pub cut-two : (how : Manner) (l : List ℕ) → 2 ≤ length l → cut how l ≡ false
-cut-two how l h = go (openEnd how)
-  where
-    go : (w : Bool) → pick w (eqb (length l) 1) (ltb (length l) 2) ≡ false
-    go true = ne-eqb (length l) 1 (omega arith)
-    go false = le-ltb (length l) 2 h
+    frame-text s p n = rw (cut-two how l two, ← e, ne-eqb o 0 (omega arith), le-ltb o (3 + length t) s, le-ltb (length l) o p, n)
 
 -- ---- what a frame says: its offset o, its text x, the terminator t and what follows, r
 pub record Framed (how : Manner) (high : Bool) (t x r : List ℕ) (o : ℕ) (l : List ℕ) : Type 0 where
@@ -98,7 +98,7 @@ framed how high t x r o e small some =
     let lead : l ≡ (bytesOf 2 high o ++ x) ++ (t ++ r) = sym (append-assoc (bytesOf 2 high o) x (t ++ r)) in
     let m : part (o - length t) o l ≡ t = rw (u, lead) (part-among (bytesOf 2 high o ++ x) t r (2 + length x) o front (omega arith)) in
     record {
-      text = sym (frame-text how high t l o w (cut-two how l (omega arith)) (omega arith) (omega arith) (rw m (same-refl t)));
+      text = sym (frame-text how high t l o w (omega arith) (omega arith) (omega arith) (rw m (same-refl t)));
       fit = omega arith;
       size = e;
       next = ap (λ (k : ℕ). drop k l) e ∙ ap (λ (z : List ℕ). drop (2 + length x + length t) z) lead

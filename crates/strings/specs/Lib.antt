@@ -3,5 +3,6 @@ pub mod Frames
 pub mod Texts
 pub mod Walks
 pub mod Passed
+pub mod Followed
 pub mod Spelled
 pub mod Paper

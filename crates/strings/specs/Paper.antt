@@ -43,7 +43,7 @@ use Rattle.strings.specs.Strings.{offset, body, keyLen, keyOf, afterKey,
 use Rattle.strings.specs.Strings.{endOrText, frameOf, textRows, judgedOf, onFrame, stepOf, onStep}
 use Rattle.strings.specs.Strings.{stringsFrom, stringsOf, placeOf, onText, placesFrom, placesOf, keyIn, valueIn}
 use Rattle.strings.specs.Strings.{nthOf, findOf, found, keyFound, valueFound}
-use Rattle.strings.specs.Frames.{cut-two, no-offset, frame-end, Framed, framed}
+use Rattle.strings.specs.Frames.{no-offset, frame-end, Framed, framed}
 use Rattle.strings.specs.Walks.{InFrame, in-frame, next-fits, done-frame, next-bounds, judged-clear, keyLen-le, length-body}
 use Rattle.strings.specs.Spelled.{Str, GoodString, Rising, textOf, sizeOf, texts, Ends, Ends.mark, Ends.none}
 use Rattle.strings.specs.Spelled.{Spells, Spells.empty, Spells.full, nthStr, valueOfKey, hasKey, strIn, strsIn}
@@ -109,7 +109,7 @@ end-frame how high t end (mark rest) =
     let two : length (bytesOf 2 high 0) ≡ 2 = length-bytesOf 2 high 0 in
     let w : 0 ≡ wordAt 2 high (bytesOf 2 high 0 ++ rest) 0 = sym (word-among 2 high 0 [] rest 0 refl (omega arith)) in
     let long : 2 ≤ length (bytesOf 2 high 0 ++ rest) = simp (length-append, two) (omega arith) in
-    sym (frame-end how high t (bytesOf 2 high 0 ++ rest) 0 w (cut-two how (bytesOf 2 high 0 ++ rest) long) refl)
+    sym (frame-end how high t (bytesOf 2 high 0 ++ rest) 0 w long refl)
 end-frame how high t end (none e) = rw (no-offset high [] refl, e)
 
 -- ---- what is spelled is accepted

@@ -69,10 +69,10 @@ fn is_cut(l: &[u8], how: Manner) -> bool
 pub fn framed(l: &[u8], high: bool, t: &[u8], how: Manner) -> Frame
     ensures { λ r. ⌜ r ≡ frameOf how high (now (t .entry)) (now (l .entry)) ⌝ }
 {
-    if is_cut(l, how) {
-        return Frame::Broken(Rule::StringOffset);
-    }
     if l.len() < 2 {
+        if is_cut(l, how) {
+            return Frame::Broken(Rule::StringOffset);
+        }
         return Frame::End;
     }
     let o = word::word2(l, high, 0);

@@ -1,5 +1,6 @@
-// Keywords (document 01, "Strings"): the characters that they have, what they count as, what they may follow, in the
-// manner of reading. Definitions in Manner. Stands on `key_order`, `chars`, and on `word` and `refusal` for laws alone.
+// Keywords (document 01, "Strings"; document 02, §11): the characters that they have, what they count as, what they may
+// follow, in the manner of reading. Definitions in Manner. Stands on `key_order`, `letters`, `chars`, and on `word` and
+// `refusal` for laws alone.
 // The rules in words: docs/FORMAT.md, "Strings".
 use chars::Kind;
 ghost use mathlib.Core.Path.{_≡_};
@@ -9,16 +10,23 @@ ghost use Rattle.chars.specs.Chars.{note};
 ghost use Rattle.chars.specs.Runs.{run, same};
 ghost use Rattle.text.specs.Manner.{openEnd, letter, named, follows, asksChannels};
 
-// The manner of reading strings: `specs/Manner.antt` has what it decides. Strict is document 01's.
+// The manner of reading strings: `specs/Manner.antt` has what it decides. Strict is document 01's, Lenient that of
+// document 02, §11.
 pub enum Manner {
     Strict,
+    Lenient,
 }
 
+// Whether a byte is a keyword's character. Most keywords end at a blank, which is none in any manner.
 fn key_char(b: u8, how: Manner) -> bool
     ensures { λ r. ⌜ r ≡ letter how b ⌝ }
 {
+    if b < 33 {
+        return false;
+    }
     match how {
         Manner::Strict => ((33 <= b) & (b <= 96)) | ((123 <= b) & (b <= 126)),
+        Manner::Lenient => letters::is_loose(b),
     }
 }
 
@@ -40,12 +48,16 @@ pub fn key_run(s: &[u8], how: Manner) -> usize
     i
 }
 
-// Whether the keyword k counts as the asked one.
+// Whether the keyword k counts as the asked one, which has then as many bytes in any manner.
 pub fn is_named(k: &[u8], key: &[u8], how: Manner) -> bool
     ensures { λ r. ⌜ r ≡ same (named how (now (k .entry))) (now (key .entry)) ⌝ }
 {
+    if k.len() != key.len() {
+        return false;
+    }
     match how {
         Manner::Strict => chars::is_same(k, key),
+        Manner::Lenient => letters::is_same_raised(k, key),
     }
 }
 
@@ -62,6 +74,7 @@ pub fn open_end(how: Manner) -> bool
 {
     match how {
         Manner::Strict => false,
+        Manner::Lenient => true,
     }
 }
 
@@ -71,20 +84,20 @@ pub fn asks_channels(how: Manner) -> bool
 {
     match how {
         Manner::Strict => true,
+        Manner::Lenient => false,
     }
 }
 
-// Whether it may in the manner of reading.
+// Whether a keyword k may follow the keyword p.
 pub fn following(p: &[u8], k: &[u8], how: Manner) -> bool
     ensures { λ r. ⌜ r ≡ follows how (now (p .entry)) (now (k .entry)) ⌝ }
 {
+    // Most keywords come later, and that is settled without a call, in any manner.
+    if key_order::is_before(p, k) {
+        return true;
+    }
     match how {
-        Manner::Strict => {
-            // Most keywords come later, and that is settled without a call.
-            if key_order::is_before(p, k) {
-                return true;
-            }
-            key_order::rising(p, k)
-        }
+        Manner::Strict => key_order::rising(p, k),
+        Manner::Lenient => true,
     }
 }

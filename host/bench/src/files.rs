@@ -2,7 +2,9 @@
 
 use seg2_reference::generate::{plain_file, PlainTrace, Rng};
 use seg2_reference::samples::needed_bytes;
-use seg2_reference::{file_of, start, Order, Row, TraceGiven};
+use seg2_reference::words::bytes_of_u16;
+use seg2_reference::{check, file_of, start, Order, Row, StringPlace, TraceGiven};
+use std::ops::Range;
 
 /// A few strings, as a seismograph writes them into each trace.
 pub fn trace_sheet(channel: usize) -> Vec<u8> {
@@ -43,6 +45,47 @@ pub fn file_with(
         })
         .collect();
     file_of(order, traces as u64 + 1, FILE_SHEET, &list).expect("a file")
+}
+
+/// The same file as an older recorder would write it (document 02, §11), from some trace on;
+/// from -1 on also the file's own strings.
+pub fn older_file(order: u32, traces: usize, samples: usize, from: i64) -> Vec<u8> {
+    let mut bytes = file(order, traces, samples);
+    let laid = check(&bytes, bytes.len()).expect("a file");
+    for part in from..traces as i64 {
+        let (strings, area) = match usize::try_from(part) {
+            Ok(k) => {
+                let trace = &laid.traces[k];
+                let area = trace.p as usize + 32..trace.data_start() as usize;
+                (&trace.strings, area)
+            }
+            Err(_) => {
+                let area = 32 + usize::from(laid.m)..laid.traces[0].p as usize;
+                (&laid.strings, area)
+            }
+        };
+        age(&mut bytes, laid.order, strings, area);
+    }
+    bytes
+}
+
+/// The strings of an area backwards, their keywords in lower case, and no end mark: the last
+/// one has spaces up to the area's end.
+fn age(bytes: &mut [u8], order: Order, strings: &[StringPlace], area: Range<usize>) {
+    let mut old = Vec::new();
+    let mut last = 0;
+    for string in strings.iter().rev() {
+        last = old.len();
+        old.extend(&bytes[string.keyword.start - 2..string.value.end]);
+        old[last + 2..][..string.keyword.len()].make_ascii_lowercase();
+        old.push(0);
+    }
+    old.pop();
+    old.resize(area.len() - 1, b' ');
+    old.push(0);
+    let offset = bytes_of_u16((old.len() - last) as u16, order);
+    old[last..last + 2].copy_from_slice(&offset);
+    bytes[area].copy_from_slice(&old);
 }
 
 /// A file with one trace of so many samples, whose data bytes have no pattern.

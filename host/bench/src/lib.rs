@@ -5,6 +5,7 @@
 pub mod files;
 pub mod plain;
 pub mod plain_file;
+pub mod plain_lenient;
 pub mod plain_number;
 pub mod plain_quick;
 pub mod processor;

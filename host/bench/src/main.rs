@@ -1,7 +1,10 @@
 //! The proved archive beside plain Rust and beside a copy of the same bytes, on the
-//! same buffers in one run. Usage: `seg2_bench [ROUNDS]`.
+//! same buffers in one run; or an archive beside an older one. Usage:
+//! `seg2_bench [--before OLD.so NEW.so] [ROUNDS]`.
 
+mod before;
 mod everything;
+mod older;
 
 use seg2::calls;
 use seg2_bench::files::{file, file_of_one, file_with, started, trace_sheet, unnumbered_sheet};
@@ -15,22 +18,40 @@ const SAMPLES: usize = 32_768;
 /// Timed rounds, unless another number is asked for.
 const ROUNDS: usize = 200;
 
+/// The two archives that are to be compared, if there are such, and how many rounds.
+fn asked(words: &[String]) -> Option<(Option<[&str; 2]>, usize)> {
+    let words: Vec<&str> = words.iter().map(String::as_str).collect();
+    let (archives, rest) = match &words[..] {
+        ["--before", older, newer, rest @ ..] => (Some([*older, *newer]), rest),
+        rest => (None, rest),
+    };
+    let rounds = match rest {
+        [] => ROUNDS,
+        [word] => word.parse().ok().filter(|&n| n > 0)?,
+        _ => return None,
+    };
+    Some((archives, rounds))
+}
+
+fn stop(words: &str) -> ! {
+    eprintln!("{words}");
+    std::process::exit(2);
+}
+
 fn main() {
-    let rounds = match std::env::args().nth(1) {
-        None => ROUNDS,
-        Some(word) => match word.parse::<usize>() {
-            Ok(n) if n > 0 => n,
-            _ => {
-                eprintln!("usage: seg2_bench [ROUNDS]");
-                std::process::exit(2);
-            }
-        },
+    let words: Vec<String> = std::env::args().skip(1).collect();
+    let Some((archives, rounds)) = asked(&words) else {
+        stop("usage: seg2_bench [--before OLD.so NEW.so] [ROUNDS]");
     };
     println!("Processor: {}.", processor::here());
     if let Some(load) = processor::load() {
         println!("Load of the machine in the minute before: {load}.");
     }
     println!("Least times of {rounds} rounds, the kinds of work by turns that change from round to round.");
+    if let Some(archives) = archives {
+        let table = before::table(archives, rounds);
+        return table.unwrap_or_else(|| stop("one of the two is no shared library of an archive"));
+    }
     checks(rounds);
     channels(rounds);
     long_texts(rounds);
@@ -38,6 +59,7 @@ fn main() {
     each_trace(rounds);
     one_trace(rounds);
     everything::table(rounds);
+    older::tables(rounds);
     samples(rounds);
     searches(rounds);
     additions(rounds);

@@ -10,6 +10,8 @@ const MOST: usize = 67_108_864;
 const KEY: u8 = 1;
 const VALUE: u8 = 2;
 pub(crate) const BLANK: u8 = 4;
+/// Of a keyword as the lenient reading takes it: small letters too.
+const OLD_KEY: u8 = 8;
 
 /// What a character may be used for.
 const CLASS: [u8; 256] = {
@@ -18,6 +20,9 @@ const CLASS: [u8; 256] = {
     while c < 256 {
         if c >= 33 && c <= 126 && !(c >= 97 && c <= 122) {
             class[c] |= KEY;
+        }
+        if c >= 33 && c <= 126 {
+            class[c] |= OLD_KEY;
         }
         if c >= 32 && c <= 126 || c == 9 {
             class[c] |= VALUE;
@@ -46,8 +51,8 @@ fn all_value(text: &[u8]) -> bool {
 /// A checked file.
 #[derive(Clone, Copy)]
 pub struct Checked<'a> {
-    file: &'a [u8],
-    high: bool,
+    pub(crate) file: &'a [u8],
+    pub(crate) high: bool,
     pub(crate) m: usize,
     pub(crate) n: usize,
     pub(crate) string: &'a [u8],
@@ -77,10 +82,25 @@ fn at<const N: usize>(file: &[u8], place: usize) -> [u8; N] {
 
 /// Rows 1 to 17 and 34; `grow` also takes N=0.
 pub fn check(buffer: &[u8], length: usize, grow: bool) -> Result<Checked<'_>, Refused> {
+    check_in::<false>(buffer, length, grow)
+}
+
+/// Rows 1 to 16 as the lenient reading has them (document 02, section 11).
+pub fn check_leniently(buffer: &[u8], length: usize) -> Result<Checked<'_>, Refused> {
+    check_in::<true>(buffer, length, false)
+}
+
+/// The manner, LENIENT or not, is settled with the order before anything is read.
+#[inline(always)]
+fn check_in<const LENIENT: bool>(
+    buffer: &[u8],
+    length: usize,
+    grow: bool,
+) -> Result<Checked<'_>, Refused> {
     let file = image(buffer, length)?;
     match (file[0], file[1]) {
-        (0x55, 0x3A) => checked::<false>(file, grow),
-        (0x3A, 0x55) => checked::<true>(file, grow),
+        (0x55, 0x3A) => checked::<false, LENIENT>(file, grow),
+        (0x3A, 0x55) => checked::<true, LENIENT>(file, grow),
         _ => Err((2, -1, 0)),
     }
 }
@@ -93,18 +113,21 @@ pub(crate) fn image(buffer: &[u8], length: usize) -> Result<&[u8], Refused> {
     Ok(&buffer[..length])
 }
 
-fn checked<const HIGH: bool>(file: &[u8], grow: bool) -> Result<Checked<'_>, Refused> {
+fn checked<const HIGH: bool, const LENIENT: bool>(
+    file: &[u8],
+    grow: bool,
+) -> Result<Checked<'_>, Refused> {
     let mut found = head::<HIGH>(file, grow)?;
     let start = 32 + found.m;
     if found.n == 0 {
-        strings::<HIGH>(&found, -1, start, file.len())?;
+        strings::<HIGH, LENIENT>(&found, -1, start, file.len())?;
         return Ok(found);
     }
     let first = pointer::<HIGH>(&found, 0, start)?;
-    strings::<HIGH>(&found, -1, start, first)?;
+    strings::<HIGH, LENIENT>(&found, -1, start, first)?;
     let mut end = start;
     for k in 0..found.n {
-        end = trace::<HIGH>(&mut found, k, end)?;
+        end = trace::<HIGH, LENIENT>(&mut found, k, end)?;
     }
     Ok(found)
 }
@@ -166,15 +189,19 @@ pub(crate) fn pointer<const HIGH: bool>(
 }
 
 /// Rows 8 to 17 and 34 of trace k; where it ends.
-fn trace<const HIGH: bool>(found: &mut Checked, k: usize, end: usize) -> Result<usize, Refused> {
+fn trace<const HIGH: bool, const LENIENT: bool>(
+    found: &mut Checked,
+    k: usize,
+    end: usize,
+) -> Result<usize, Refused> {
     let part = k as i32;
     let p = pointer::<HIGH>(found, k, end)?;
     let Fixed { b, d, .. } = fixed::<HIGH>(found.file, part, p)?;
-    let channel = strings::<HIGH>(found, part, p + 32, p + b)?;
+    let channel = strings::<HIGH, LENIENT>(found, part, p + 32, p + b)?;
     if k == 0 {
         found.channels = channel.is_some();
     }
-    if !fits(channel, found.channels) {
+    if !LENIENT && !fits(channel, found.channels) {
         return Err((34, part, p + 32));
     }
     Ok(p + b + d)
@@ -238,8 +265,9 @@ fn is_channel(value: &[u8]) -> bool {
     value.len() <= 18 && number().is_some_and(|n| (1..=32_767).contains(&n))
 }
 
-/// Rows 14 to 17 of the area between two places; the value of its channel number.
-fn strings<'a, const HIGH: bool>(
+/// Rows 14 to 17 of the area between two places; the value of its channel number, which the
+/// lenient reading does not look for.
+fn strings<'a, const HIGH: bool, const LENIENT: bool>(
     found: &Checked<'a>,
     part: i32,
     start: usize,
@@ -253,11 +281,11 @@ fn strings<'a, const HIGH: bool>(
     let mut previous: &[u8] = &[];
     loop {
         let place = end - rest.len();
-        match next::<HIGH>(found, rest, previous) {
+        match next::<HIGH, LENIENT>(found, rest, previous) {
             Next::End => return Ok(channel),
             Next::Refused(number) => return Err((number, part, place)),
             Next::Text { key, value, behind } => {
-                if key == CHANNEL {
+                if !LENIENT && key == CHANNEL {
                     channel = Some(value);
                 }
                 previous = key;
@@ -274,18 +302,21 @@ pub(crate) enum Next<'a> {
         value: &'a [u8],
         behind: &'a [u8],
     },
-    /// The end mark.
+    /// The end mark, or where the lenient reading needs none.
     End,
     Refused(u32),
 }
 
 /// Rows 14 to 17 of one string.
 #[inline(always)]
-pub(crate) fn next<'a, const HIGH: bool>(
+pub(crate) fn next<'a, const HIGH: bool, const LENIENT: bool>(
     found: &Checked<'a>,
     rest: &'a [u8],
     previous: &[u8],
 ) -> Next<'a> {
+    if LENIENT && rest.is_empty() {
+        return Next::End;
+    }
     let Some((&[a, b], _)) = rest.split_first_chunk() else {
         return Next::Refused(14);
     };
@@ -300,20 +331,27 @@ pub(crate) fn next<'a, const HIGH: bool>(
     let Some(body) = whole[2..].strip_suffix(found.string) else {
         return Next::Refused(15);
     };
-    let letters = body.iter().position(|&c| !is(KEY, c));
+    let letter = if LENIENT { OLD_KEY } else { KEY };
+    let letters = body.iter().position(|&c| !is(letter, c));
     let (key, after) = body.split_at(letters.unwrap_or(body.len()));
     if key.is_empty() || after.first().is_some_and(|&c| !is(BLANK, c)) {
         return Next::Refused(16);
     }
     let gap = after.iter().position(|&c| !is(BLANK, c));
     let value = &after[gap.unwrap_or(after.len())..];
-    let note = key == b"NOTE";
+    let note = match LENIENT {
+        true => key.eq_ignore_ascii_case(b"NOTE"),
+        false => key == b"NOTE",
+    };
     let allowed = match note {
         true => all_lines(found.line, value),
         false => all_value(value),
     };
     if !allowed {
         return Next::Refused(16);
+    }
+    if LENIENT {
+        return Next::Text { key, value, behind };
     }
     if !note && previous >= key && !again(previous, key) || previous == b"NOTE" {
         return Next::Refused(17);
@@ -405,7 +443,7 @@ fn block(found: &Checked, trace: i32) -> Result<(usize, usize), Refused> {
 }
 
 /// Where the part's strings stand.
-fn area(found: &Checked, part: i32) -> Result<(usize, usize), Refused> {
+pub(crate) fn area(found: &Checked, part: i32) -> Result<(usize, usize), Refused> {
     if part == -1 {
         return Ok((32 + found.m, long(found, 32)));
     }
@@ -414,7 +452,7 @@ fn area(found: &Checked, part: i32) -> Result<(usize, usize), Refused> {
 
 /// The data block of a trace whose code is one of these, rows of whose samples have such
 /// lengths: rows 1 to 17 and 34, 18, 33, 32; with its code.
-fn data<'a>(
+pub(crate) fn data<'a>(
     found: &Checked<'a>,
     trace: i32,
     codes: std::ops::RangeInclusive<u8>,

@@ -76,7 +76,7 @@ impl<'a> Alone<'a> {
         }
         loop {
             let place = end - rest.len();
-            match next::<HIGH>(&self.head, rest, previous) {
+            match next::<HIGH, false>(&self.head, rest, previous) {
                 Next::End => return Ok(None),
                 Next::Refused(number) => return Err((number, self.trace, place)),
                 Next::Text { key, value, behind } => {

@@ -1,13 +1,15 @@
-//! The plain side gives the reference's answers, and where one trace is asked for quickly
-//! the archive's: a benchmark against something that does less would say nothing.
+//! The plain side gives the reference's answers, and where one trace is asked for quickly, or
+//! a file leniently, the archive's: a benchmark against something that does less would say
+//! nothing.
 
 use seg2::{calls, raw};
-use seg2_bench::{plain, plain_file, plain_number, plain_quick};
+use seg2_bench::files::{file, older_file};
+use seg2_bench::{plain, plain_file, plain_lenient, plain_number, plain_quick};
 use seg2_reference as reference;
 use seg2_reference::generate::writing::{some_integers, some_patterns};
 use seg2_reference::generate::{
-    addition_case, damaged, location_case, mutated, number_case, plain_file, sample_case,
-    several_damages, Model, PlainTrace, Rng, SampleQuestion, WAYS,
+    addition_case, damaged, location_case, mutated, mutated_old, number_case, old_case, plain_file,
+    sample_case, several_damages, Model, PlainTrace, Rng, SampleQuestion, WAYS,
 };
 use seg2_reference::samples::{encode_bits, encode_integers};
 use seg2_reference::worked::{CHANNEL_NUMBERS, NO_CHANNEL_NUMBERS};
@@ -196,6 +198,122 @@ fn quick_questions() {
     // 21 and 22, which these values do not meet, `locations` does
     let rows = (0..=18).chain([20, 23, 32, 33]);
     assert_eq!(met, rows.collect());
+}
+
+/// The rows met by the lenient answers, and by the strict checks beside them.
+type Met = [BTreeSet<u32>; 2];
+
+/// The archive's lenient answer and its strict row, as the plain side gives them.
+macro_rules! both_expected {
+    ($met:ident, $archive:expr, $told:expr) => {{
+        let archive = $archive;
+        let [lenient, strict] = &mut *$met;
+        let answer = expected!(lenient, archive.answer, $told);
+        let beside = expected!(strict, archive.strict, |_| ());
+        (answer, beside.err())
+    }};
+}
+
+/// The check, beside the archive's and the reference's.
+fn lenient_check_alike(buffer: &[u8], length: usize, met: &mut Met) {
+    let archive = calls::lenient_check(buffer, length);
+    let expected = both_expected!(met, archive, |_| ());
+    assert_eq!(plain_lenient::check(buffer, length), expected);
+    assert_eq!(plain_lenient::check_as_needed(buffer, length), expected);
+    let reference = reference::lenient_check(buffer, length);
+    let answer = reference.answer.map(|_| ()).map_err(told);
+    assert_eq!((answer, reference.strict.map(told)), expected);
+}
+
+/// The other lenient questions, rows included, of the right length and of others.
+fn lenient_alike(buffer: &[u8], length: usize, keys: &[Vec<u8>], met: &mut Met) {
+    for part in TRACES {
+        for key in keys {
+            let archive = calls::lenient_value(buffer, length, part, key);
+            let place = |a: raw::Value| (a.value_start, a.value_length);
+            let answer = plain_lenient::value(buffer, length, part, key);
+            let expected = both_expected!(met, archive, place);
+            assert_eq!(answer, expected, "{part} {}", key.escape_ascii());
+        }
+        let count = calls::lenient_string_count(buffer, length, part);
+        let block = calls::lenient_trace_block(buffer, length, part);
+        for more in [0, 1] {
+            let size = 4 * count.answer.count + more;
+            let (mut row, mut plainly) = (vec![7; size], vec![7; size]);
+            let archive = calls::lenient_strings(buffer, length, part, &mut row);
+            let answer = plain_lenient::strings(buffer, length, part, &mut plainly);
+            assert_eq!(answer, both_expected!(met, archive, |_| ()));
+            assert_eq!(plainly, row);
+            let size = block.answer.sample_count + more;
+            let (mut row, mut plainly) = (vec![7; size], vec![7; size]);
+            let archive = calls::lenient_integers(buffer, length, part, &mut row);
+            let answer = plain_lenient::integers(buffer, length, part, &mut plainly);
+            assert_eq!(answer, both_expected!(met, archive, |_| ()));
+            assert_eq!(plainly, row);
+        }
+    }
+}
+
+/// Keys to ask of a file of an older recorder: its keywords as they stand and as they count.
+fn old_keys(buffer: &[u8], file: &reference::File) -> Vec<Vec<u8>> {
+    let traces = file.traces.iter().flat_map(|trace| &trace.strings);
+    let mut keys = vec![b"".to_vec(), b"NOTE".to_vec(), b"note".to_vec()];
+    for string in file.strings.iter().chain(traces) {
+        let keyword = &buffer[string.keyword.clone()];
+        keys.extend([keyword.to_vec(), keyword.to_ascii_uppercase()]);
+    }
+    keys
+}
+
+/// Document 02, §11, on files of older recorders, whole and damaged, and on others.
+#[test]
+fn lenient_questions() {
+    let mut rng = Rng::new(808);
+    let mut met = Met::default();
+    for _ in 0..3_000 {
+        let case = old_case(&mut rng);
+        let (buffer, length) = (&case.buffer, case.length);
+        lenient_check_alike(buffer, length, &mut met);
+        let keys = match &case.lenient {
+            Ok(file) => old_keys(buffer, file),
+            Err(_) => vec![b"NOTE".to_vec()],
+        };
+        lenient_alike(buffer, length, &keys, &mut met);
+        let (buffer, length) = mutated_old(&mut rng);
+        lenient_check_alike(&buffer, length, &mut met);
+        let laid = Model::random(&mut rng).lay();
+        lenient_check_alike(&laid.buffer, laid.length, &mut met);
+        lenient_alike(&laid.buffer, laid.length, &[b"NOTE".to_vec()], &mut met);
+    }
+    let [lenient, strict] = met;
+    assert_eq!(lenient, (0..=16).chain([18, 32, 33]).collect());
+    assert_eq!(strict, (0..=17).chain([34]).collect());
+}
+
+/// The benchmark's own files: which rule the strict check misses, and that the lenient one
+/// takes them.
+#[test]
+fn older_files() {
+    for order in [0, 1] {
+        let strict = |bytes: &[u8]| {
+            let told = plain_lenient::check(bytes, bytes.len());
+            assert_eq!(told.0, Ok(()));
+            told.1
+        };
+        let good = file(order, 3, 4);
+        assert_eq!(strict(&good), None);
+        let laid = reference::check(&good, good.len()).expect("a file");
+        let own = laid.strings[0].keyword.start - 2;
+        assert_eq!(strict(&older_file(order, 3, 4, -1)), Some((16, -1, own)));
+        let third = laid.traces[2].p as usize + 32;
+        let old = older_file(order, 3, 4, 2);
+        assert_eq!(strict(&old), Some((16, 2, third)));
+        let strings = reference::lenient_string_count(&old, old.len(), 2);
+        assert_eq!(strings.answer, Ok(7));
+        let first = reference::lenient_string(&old, old.len(), 2, 0).answer;
+        let first = first.expect("strings").expect("a string");
+        assert_eq!(&old[first.keyword.start..first.value.end], b"stack 4");
+    }
 }
 
 /// Locations by themselves, of every kind of text, beside the reference.

@@ -14,6 +14,24 @@ pub struct Answer {
     pub part: i32,
     pub place: usize,
     pub values: [u64; VALUES],
+    /// The strict verdict beside a lenient answer (document 02, §11); other answers have none.
+    pub strict: Option<Verdict>,
+}
+
+/// A refusal's number, part and place alone; no refusal is 0, -1 and 0.
+#[derive(Clone, Copy, Debug, PartialEq, Eq)]
+pub struct Verdict {
+    pub number: u32,
+    pub part: i32,
+    pub place: usize,
+}
+
+impl Verdict {
+    pub const ACCEPTED: Verdict = Verdict {
+        number: 0,
+        part: -1,
+        place: 0,
+    };
 }
 
 impl Answer {
@@ -27,6 +45,26 @@ impl Answer {
         Answer::new(number, part, place, [])
     }
 
+    /// The same as a lenient answer, with this strict verdict.
+    pub fn beside(self, strict: Verdict) -> Answer {
+        let strict = Some(strict);
+        Answer { strict, ..self }
+    }
+
+    pub fn verdict(&self) -> Verdict {
+        let Answer {
+            number,
+            part,
+            place,
+            ..
+        } = *self;
+        Verdict {
+            number,
+            part,
+            place,
+        }
+    }
+
     fn new<const N: usize>(number: u32, part: i32, place: usize, values: [u64; N]) -> Answer {
         let mut all = [0; VALUES];
         all[..N].copy_from_slice(&values);
@@ -35,6 +73,7 @@ impl Answer {
             part,
             place,
             values: all,
+            strict: None,
         }
     }
 }
@@ -96,3 +135,10 @@ told!(Location, a => [
     u64::from(a.z_decimals)
 ]);
 told!(Length, a => [a.length as u64]);
+
+impl<A: Into<Answer>> From<raw::Lenient<A>> for Answer {
+    fn from(told: raw::Lenient<A>) -> Answer {
+        let strict = Answer::from(told.strict).verdict();
+        told.answer.into().beside(strict)
+    }
+}

@@ -1,6 +1,6 @@
 //! Every question about a buffer, asked of the archive and of the reference.
 
-use crate::answer::Answer;
+use crate::answer::{Answer, Verdict};
 use crate::call::{keyword_questions, sample_questions, Call};
 use crate::lent::Rows;
 use crate::pair::{Difference, Pair};
@@ -12,24 +12,30 @@ use seg2_reference::{is_of_check, Order, StringPlace};
 /// Of parts and strings that there are many of, so many are asked for.
 const MOST: usize = 4;
 
+/// How a question is asked: with its other forms, or in one of them.
+type Ask = fn(&mut Pair, usize, Call) -> Result<Answer, Difference>;
+
 /// Every question with the given length, and each once with other lengths. The numbers
 /// drawn choose what is asked for where there is much of it.
 pub fn ask_all(pair: &mut Pair, length: usize, rng: &mut Rng) -> Result<(), Difference> {
-    pair.ask(length, Call::Check)?;
-    pair.ask(length, Call::FileBlock)?;
+    ask_forms(pair, length, Call::Check)?;
     match reference::check(&pair.memory().buffer, length) {
-        Ok(file) => ask_file(pair, length, &file, rng)?,
-        // The same refusal by every question.
+        Ok(file) => {
+            ask_forms(pair, length, Call::FileBlock)?;
+            ask_file(pair, length, &file, rng)?;
+        }
+        // The same refusal by every strict question.
         Err(_) => ask_each(pair, length, rng)?,
     }
     let size = pair.memory().buffer.len();
     let near = length.wrapping_sub(rng.between(1, 8));
     for _ in 0..2 {
         let other = rng.pick(&[0, 31, 32, size, size + 1, near, usize::MAX, 67_108_865]);
-        pair.ask(other, Call::Check)?;
+        ask_forms(pair, other, Call::Check)?;
         ask_each(pair, other, rng)?;
     }
-    ask_quick(pair, length, rng)
+    ask_quick(pair, length, rng)?;
+    ask_forgiven(pair, length, rng)
 }
 
 /// Every part of a file that keeps the rules, and parts that it does not have.
@@ -43,14 +49,8 @@ fn ask_file(
     ask_part(pair, length, -1, &file.strings, 3, rng)?;
     for k in some_of(rng, file.traces.len()) {
         let trace = &file.traces[k];
-        ask_part(
-            pair,
-            length,
-            k as i32,
-            &trace.strings,
-            trace.s as usize,
-            rng,
-        )?;
+        let samples = trace.s as usize;
+        ask_part(pair, length, k as i32, &trace.strings, samples, rng)?;
     }
     for part in [-2, n, n + 1, i32::MIN, i32::MAX] {
         if rng.one_in(2) {
@@ -58,6 +58,25 @@ fn ask_file(
         }
     }
     Ok(())
+}
+
+/// Every lenient question of some part of a file that the strict check refuses and the lenient
+/// one accepts (document 02, §11).
+fn ask_forgiven(pair: &mut Pair, length: usize, rng: &mut Rng) -> Result<(), Difference> {
+    let told = reference::lenient_check(&pair.memory().buffer, length);
+    let (Ok(file), Some(_)) = (told.answer, told.strict) else {
+        return Ok(());
+    };
+    let n = i32::from(file.n);
+    let k = rng.between(0, file.traces.len() - 1);
+    let trace = &file.traces[k];
+    let none = rng.pick(&[-2, n, n + 1, i32::MIN, i32::MAX]);
+    let (part, strings, samples) = match rng.between(0, 7) {
+        0 => (none, &[][..], 2),
+        1 | 2 => (-1, &file.strings[..], 3),
+        _ => (k as i32, &trace.strings[..], trace.s as usize),
+    };
+    ask_part_by(pair, length, part, strings, samples, ask_lenient, rng)
 }
 
 /// Indices below the count: all of them, or some with the last.
@@ -70,25 +89,48 @@ fn some_of(rng: &mut Rng, count: usize) -> Vec<usize> {
     some
 }
 
-/// A question and its quick form, with the same rows. Where the file keeps the rules, they
-/// answer alike, rows included, of every trace number from 0 on. Answers the question's own.
-pub fn ask_both(pair: &mut Pair, length: usize, call: Call) -> Result<Answer, Difference> {
+/// A question with its quick form and its lenient one, all with the same rows. Where the file
+/// keeps the rules, they answer alike, rows included: the quick one of every trace number from
+/// 0 on, the lenient one with no refusal beside it. Where it does not, the strict verdict beside
+/// the lenient answer is this question's own refusal. Answers the question's own.
+pub fn ask_forms(pair: &mut Pair, length: usize, call: Call) -> Result<Answer, Difference> {
     let lent = call.fills().then(|| pair.memory().rows());
+    let rows_after = |pair: &Pair| call.fills().then(|| pair.memory().rows());
     let full = pair.ask(length, call)?;
-    let Some(quick) = call.quick() else {
-        return Ok(full);
-    };
-    let told = call.fills().then(|| pair.memory().rows());
-    if let Some(rows) = lent {
-        pair.lend_rows(&rows);
-    }
-    let answer = pair.ask(length, quick)?;
-    let rows = call.fills().then(|| pair.memory().rows());
+    let told = rows_after(pair);
     // A file that keeps the rules is refused by the question's own rows alone.
-    let kept = !is_of_check(full.number as u8) && call.part() >= Some(0);
-    match kept && (answer, rows) != (full, told) {
-        false => Ok(full),
-        true => Err(pair.differs(length, quick, format!("{answer:?} for {full:?}"))),
+    let kept = !is_of_check(full.number as u8);
+    if let Some(quick) = call.quick() {
+        lend_again(pair, lent.as_ref());
+        let answer = pair.ask(length, quick)?;
+        let alike = (answer, rows_after(pair)) == (full, told.clone());
+        if kept && call.part() >= Some(0) && !alike {
+            return Err(pair.differs(length, quick, format!("{answer:?} for {full:?}")));
+        }
+    }
+    if let Some(lenient) = call.lenient() {
+        lend_again(pair, lent.as_ref());
+        let answer = pair.ask(length, lenient)?;
+        let alike = match kept {
+            true => (answer, rows_after(pair)) == (full.beside(Verdict::ACCEPTED), told),
+            false => answer.strict == Some(full.verdict()),
+        };
+        if !alike {
+            return Err(pair.differs(length, lenient, format!("{answer:?} for {full:?}")));
+        }
+    }
+    Ok(full)
+}
+
+/// The lenient form of a question alone.
+fn ask_lenient(pair: &mut Pair, length: usize, call: Call) -> Result<Answer, Difference> {
+    pair.ask(length, call.lenient().expect("a question of a file"))
+}
+
+/// The rows as they were before another form has filled them.
+fn lend_again(pair: &mut Pair, rows: Option<&Rows>) {
+    if let Some(rows) = rows {
+        pair.lend_rows(rows);
     }
 }
 
@@ -102,24 +144,37 @@ pub fn ask_part(
     samples: usize,
     rng: &mut Rng,
 ) -> Result<(), Difference> {
-    ask_both(pair, length, Call::TraceBlock { trace: part })?;
-    ask_both(pair, length, Call::StringCount { part })?;
+    ask_part_by(pair, length, part, strings, samples, ask_forms, rng)
+}
+
+/// The same in one form or in all.
+fn ask_part_by(
+    pair: &mut Pair,
+    length: usize,
+    part: i32,
+    strings: &[StringPlace],
+    samples: usize,
+    ask: Ask,
+    rng: &mut Rng,
+) -> Result<(), Difference> {
+    ask(pair, length, Call::TraceBlock { trace: part })?;
+    ask(pair, length, Call::StringCount { part })?;
     let mut indices = some_of(rng, strings.len());
     indices.extend([strings.len(), strings.len() + 1, usize::MAX]);
     for index in indices {
-        ask_both(pair, length, Call::String { part, index })?;
+        ask(pair, length, Call::String { part, index })?;
     }
     let four = 4 * strings.len();
     let other = rng.pick(&[0, strings.len(), four + 1, four.saturating_sub(1), four + 4]);
     for row in [four, other] {
         pair.lend_rows(&Rows::junk(rng, 0, 0, row));
-        ask_both(pair, length, Call::Strings { part })?;
+        ask(pair, length, Call::Strings { part })?;
     }
     for key in keys(&pair.memory().buffer, strings, rng) {
         pair.lend_key(&key);
-        ask_key(pair, length, part)?;
+        ask_key(pair, length, part, ask)?;
     }
-    ask_samples(pair, length, part, samples, rng)
+    ask_samples(pair, length, part, samples, ask, rng)
 }
 
 /// Keywords that are there, and others.
@@ -128,6 +183,12 @@ fn keys(buffer: &[u8], strings: &[StringPlace], rng: &mut Rng) -> Vec<Vec<u8>> {
         .iter()
         .map(|&i| buffer[strings[i].keyword.clone()].to_vec())
         .collect();
+    // What a keyword in lower case counts as, and it as it stands, which is a no.
+    let lower = keys
+        .iter()
+        .filter(|key| key.iter().any(u8::is_ascii_lowercase));
+    let upper: Vec<Vec<u8>> = lower.map(|key| key.to_ascii_uppercase()).collect();
+    keys.extend(upper);
     let mut near = match keys.is_empty() {
         true => b"STACK".to_vec(),
         false => rng.pick(&keys),
@@ -151,9 +212,9 @@ fn keys(buffer: &[u8], strings: &[StringPlace], rng: &mut Rng) -> Vec<Vec<u8>> {
 }
 
 /// Every question with the keyword that is lent.
-fn ask_key(pair: &mut Pair, length: usize, part: i32) -> Result<(), Difference> {
+fn ask_key(pair: &mut Pair, length: usize, part: i32, ask: Ask) -> Result<(), Difference> {
     for call in keyword_questions(part) {
-        ask_both(pair, length, call)?;
+        ask(pair, length, call)?;
     }
     Ok(())
 }
@@ -251,18 +312,19 @@ fn ask_samples(
     length: usize,
     trace: i32,
     samples: usize,
+    ask: Ask,
     rng: &mut Rng,
 ) -> Result<(), Difference> {
     let less = samples.saturating_sub(1);
     for row in [samples, less, samples + 1, 0] {
         pair.lend_rows(&Rows::junk(rng, row, row, 0));
         for call in sample_questions(trace) {
-            ask_both(pair, length, call)?;
+            ask(pair, length, call)?;
         }
     }
     for (row, classes) in [(samples, samples + 1), (less, samples)] {
         pair.lend_rows(&Rows::junk(rng, row, classes, 0));
-        ask_both(pair, length, Call::Bits { trace })?;
+        ask(pair, length, Call::Bits { trace })?;
     }
     Ok(())
 }
@@ -270,17 +332,17 @@ fn ask_samples(
 /// Every question once.
 fn ask_each(pair: &mut Pair, length: usize, rng: &mut Rng) -> Result<(), Difference> {
     let part = rng.pick(&[-2, -1, -1, 0, 0, 1, i32::MIN, i32::MAX]);
-    pair.ask(length, Call::FileBlock)?;
-    ask_both(pair, length, Call::TraceBlock { trace: part })?;
-    ask_both(pair, length, Call::StringCount { part })?;
-    ask_both(pair, length, Call::String { part, index: 0 })?;
+    ask_forms(pair, length, Call::FileBlock)?;
+    ask_forms(pair, length, Call::TraceBlock { trace: part })?;
+    ask_forms(pair, length, Call::StringCount { part })?;
+    ask_forms(pair, length, Call::String { part, index: 0 })?;
     pair.lend_key(rng.pick(&[&b"STACK"[..], b"NOTE", b"", b"\xFF"]));
-    ask_key(pair, length, part)?;
+    ask_key(pair, length, part, ask_forms)?;
     let count = rng.between(0, 9);
     pair.lend_rows(&Rows::junk(rng, count, count, count));
-    ask_both(pair, length, Call::Strings { part })?;
+    ask_forms(pair, length, Call::Strings { part })?;
     for call in sample_questions(part) {
-        ask_both(pair, length, call)?;
+        ask_forms(pair, length, call)?;
     }
     Ok(())
 }

@@ -33,6 +33,19 @@ pub enum Call {
     QuickLocation { trace: i32 },
     QuickIntegers { trace: i32 },
     QuickBits { trace: i32 },
+    LenientCheck,
+    LenientFileBlock,
+    LenientTraceBlock { trace: i32 },
+    LenientStringCount { part: i32 },
+    LenientString { part: i32, index: usize },
+    LenientStrings { part: i32 },
+    LenientKeyword { part: i32 },
+    LenientValue { part: i32 },
+    LenientNumber { part: i32 },
+    LenientDouble { part: i32 },
+    LenientLocation { part: i32 },
+    LenientIntegers { trace: i32 },
+    LenientBits { trace: i32 },
     ReadNumber,
     WriteNumber(Forged),
     Start { order: u32, slots: u32 },
@@ -78,6 +91,19 @@ impl Call {
             Call::QuickLocation { .. } => "quick_location",
             Call::QuickIntegers { .. } => "quick_integers",
             Call::QuickBits { .. } => "quick_bits",
+            Call::LenientCheck => "lenient_check",
+            Call::LenientFileBlock => "lenient_file_block",
+            Call::LenientTraceBlock { .. } => "lenient_trace_block",
+            Call::LenientStringCount { .. } => "lenient_string_count",
+            Call::LenientString { .. } => "lenient_string",
+            Call::LenientStrings { .. } => "lenient_strings",
+            Call::LenientKeyword { .. } => "lenient_keyword",
+            Call::LenientValue { .. } => "lenient_value",
+            Call::LenientNumber { .. } => "lenient_number",
+            Call::LenientDouble { .. } => "lenient_double",
+            Call::LenientLocation { .. } => "lenient_location",
+            Call::LenientIntegers { .. } => "lenient_integers",
+            Call::LenientBits { .. } => "lenient_bits",
             Call::ReadNumber => "read_number",
             Call::WriteNumber(_) => "write_number",
             Call::Start { .. } => "start",
@@ -112,6 +138,14 @@ impl Call {
         )
     }
 
+    /// Whether a call may change the buffer.
+    pub fn writes(self) -> bool {
+        matches!(
+            self,
+            Call::Start { .. } | Call::AddIntegers { .. } | Call::AddBits { .. }
+        )
+    }
+
     /// The part or the trace that a question names.
     pub fn part(self) -> Option<i32> {
         match self {
@@ -136,7 +170,18 @@ impl Call {
             | Call::QuickDouble { trace: part }
             | Call::QuickLocation { trace: part }
             | Call::QuickIntegers { trace: part }
-            | Call::QuickBits { trace: part } => Some(part),
+            | Call::QuickBits { trace: part }
+            | Call::LenientTraceBlock { trace: part }
+            | Call::LenientStringCount { part }
+            | Call::LenientString { part, .. }
+            | Call::LenientStrings { part }
+            | Call::LenientKeyword { part }
+            | Call::LenientValue { part }
+            | Call::LenientNumber { part }
+            | Call::LenientDouble { part }
+            | Call::LenientLocation { part }
+            | Call::LenientIntegers { trace: part }
+            | Call::LenientBits { trace: part } => Some(part),
             _ => None,
         }
     }
@@ -156,6 +201,46 @@ impl Call {
             Call::Location { part } => Call::QuickLocation { trace: part },
             Call::Integers { trace } => Call::QuickIntegers { trace },
             Call::Bits { trace } => Call::QuickBits { trace },
+            _ => return None,
+        })
+    }
+
+    /// The lenient question (document 02, §11) beside a strict one of the whole file.
+    pub fn lenient(self) -> Option<Call> {
+        Some(match self {
+            Call::Check => Call::LenientCheck,
+            Call::FileBlock => Call::LenientFileBlock,
+            Call::TraceBlock { trace } => Call::LenientTraceBlock { trace },
+            Call::StringCount { part } => Call::LenientStringCount { part },
+            Call::String { part, index } => Call::LenientString { part, index },
+            Call::Strings { part } => Call::LenientStrings { part },
+            Call::Keyword { part } => Call::LenientKeyword { part },
+            Call::Value { part } => Call::LenientValue { part },
+            Call::Number { part } => Call::LenientNumber { part },
+            Call::Double { part } => Call::LenientDouble { part },
+            Call::Location { part } => Call::LenientLocation { part },
+            Call::Integers { trace } => Call::LenientIntegers { trace },
+            Call::Bits { trace } => Call::LenientBits { trace },
+            _ => return None,
+        })
+    }
+
+    /// The strict question beside a lenient one.
+    pub fn strict(self) -> Option<Call> {
+        Some(match self {
+            Call::LenientCheck => Call::Check,
+            Call::LenientFileBlock => Call::FileBlock,
+            Call::LenientTraceBlock { trace } => Call::TraceBlock { trace },
+            Call::LenientStringCount { part } => Call::StringCount { part },
+            Call::LenientString { part, index } => Call::String { part, index },
+            Call::LenientStrings { part } => Call::Strings { part },
+            Call::LenientKeyword { part } => Call::Keyword { part },
+            Call::LenientValue { part } => Call::Value { part },
+            Call::LenientNumber { part } => Call::Number { part },
+            Call::LenientDouble { part } => Call::Double { part },
+            Call::LenientLocation { part } => Call::Location { part },
+            Call::LenientIntegers { trace } => Call::Integers { trace },
+            Call::LenientBits { trace } => Call::Bits { trace },
             _ => return None,
         })
     }
@@ -296,6 +381,47 @@ impl Archive {
                     buffer, size, length, trace, patterns, bits, classes, count,
                 )
                 .into(),
+                Call::LenientCheck => answered(beside, |answer| {
+                    raw::seg2_lenient_check(answer, buffer, size, length)
+                }),
+                Call::LenientFileBlock => answered(beside, |answer| {
+                    raw::seg2_lenient_file_block(answer, buffer, size, length)
+                }),
+                Call::LenientTraceBlock { trace } => answered(beside, |answer| {
+                    raw::seg2_lenient_trace_block(answer, buffer, size, length, trace)
+                }),
+                Call::LenientStringCount { part } => answered(beside, |answer| {
+                    raw::seg2_lenient_string_count(answer, buffer, size, length, part)
+                }),
+                Call::LenientString { part, index } => answered(beside, |answer| {
+                    raw::seg2_lenient_string(answer, buffer, size, length, part, index)
+                }),
+                Call::LenientStrings { part } => answered(beside, |answer| {
+                    raw::seg2_lenient_strings(answer, buffer, size, length, part, strings, fours)
+                }),
+                Call::LenientKeyword { part } => answered(beside, |answer| {
+                    raw::seg2_lenient_keyword(answer, buffer, size, length, part, key, letters)
+                }),
+                Call::LenientValue { part } => answered(beside, |answer| {
+                    raw::seg2_lenient_value(answer, buffer, size, length, part, key, letters)
+                }),
+                Call::LenientNumber { part } => answered(beside, |answer| {
+                    raw::seg2_lenient_number(answer, buffer, size, length, part, key, letters)
+                }),
+                Call::LenientDouble { part } => answered(beside, |answer| {
+                    raw::seg2_lenient_double(answer, buffer, size, length, part, key, letters)
+                }),
+                Call::LenientLocation { part } => answered(beside, |answer| {
+                    raw::seg2_lenient_location(answer, buffer, size, length, part, key, letters)
+                }),
+                Call::LenientIntegers { trace } => answered(beside, |answer| {
+                    raw::seg2_lenient_integers(answer, buffer, size, length, trace, integers, ints)
+                }),
+                Call::LenientBits { trace } => answered(beside, |answer| {
+                    raw::seg2_lenient_bits(
+                        answer, buffer, size, length, trace, patterns, bits, classes, count,
+                    )
+                }),
                 Call::ReadNumber => {
                     answered(beside, |answer| raw::seg2_read_number(answer, text, room))
                 }

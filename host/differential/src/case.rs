@@ -1,6 +1,6 @@
 //! Cases: all that a run of calls depends on, and how one is run.
 
-use crate::asking::{ask_all, ask_part};
+use crate::asking::{ask_all, ask_forms, ask_part};
 use crate::call::{Call, Forged, Library};
 use crate::growing::{add, grow, start};
 use crate::numbering::{type_in, write_in_rooms};
@@ -120,8 +120,8 @@ impl Case {
 
 /// Every question about the last trace and its file.
 fn ask_last(pair: &mut Pair, length: usize, rng: &mut Rng) -> Result<(), Difference> {
-    pair.ask(length, Call::Check)?;
-    pair.ask(length, Call::FileBlock)?;
+    ask_forms(pair, length, Call::Check)?;
+    ask_forms(pair, length, Call::FileBlock)?;
     let Ok(file) = reference::check(&pair.memory().buffer, length) else {
         return Ok(());
     };

@@ -5,7 +5,7 @@
 //! a [`Rule`] around it. With the right rule it answers as the reference does.
 
 use crate::answer::Answer;
-use crate::call::{Call, Library};
+use crate::call::{Archive, Call, Library};
 use crate::expected::{expected, told};
 use crate::lent::{Lent, Memory};
 use seg2_reference as reference;
@@ -226,6 +226,10 @@ impl Rule {
 
 impl Library for Rule {
     fn call(&self, call: Call, length: usize, lent: &mut Lent) -> Answer {
+        // The lenient reading never asks for them (document 02, §11).
+        if call.strict().is_some() {
+            return Archive.call(call, length, lent);
+        }
         let mut memory = lent.contents();
         let answer = match call {
             Call::AddIntegers { .. } | Call::AddBits { .. } => self.add(call, length, &mut memory),

@@ -9,8 +9,8 @@ use seg2_reference::generate::model::{AreaModel, End, SamplesModel, StringModel}
 use seg2_reference::generate::writing::row_for;
 use seg2_reference::generate::{
     bad_channel, channel_for, damaged, forged_number, good_channel, good_sheet, location_case,
-    mutated, number_case, quick_case, several_damages, sheet_case, sheet_of_a_start, with_channel,
-    Model, Rng, Way, WAYS,
+    mutated, mutated_old, number_case, old_case, quick_case, several_damages, sheet_case,
+    sheet_of_a_start, with_channel, Model, Rng, Way, WAYS,
 };
 use seg2_reference::Order;
 
@@ -35,6 +35,7 @@ pub const KINDS: &[(&str, Draw)] = &[
     ("typed text", typed),
     ("forged number", forged),
     ("one trace", one_trace),
+    ("old file", old_file),
 ];
 
 /// The generator of one case of a run: a case can be drawn without those before it.
@@ -66,6 +67,15 @@ pub fn valid(rng: &mut Rng) -> Case {
 
 /// Values that are numbers and locations, or nearly; a byte changed once in four times.
 pub fn numbers(rng: &mut Rng) -> Case {
+    let laid = number_model(rng).lay();
+    let (mut buffer, length) = (laid.buffer, laid.length);
+    if rng.one_in(4) {
+        mutate(rng, &mut buffer);
+    }
+    asked(rng, buffer, length)
+}
+
+fn number_model(rng: &mut Rng) -> Model {
     let mut model = Model::random(rng);
     model.traces.truncate(4);
     for part in -1..model.traces.len() as i64 {
@@ -74,12 +84,7 @@ pub fn numbers(rng: &mut Rng) -> Case {
     if rng.one_in(2) {
         model.number_traces(rng);
     }
-    let laid = model.lay();
-    let (mut buffer, length) = (laid.buffer, laid.length);
-    if rng.one_in(4) {
-        mutate(rng, &mut buffer);
-    }
-    asked(rng, buffer, length)
+    model
 }
 
 fn number_area(rng: &mut Rng) -> AreaModel {
@@ -148,6 +153,26 @@ pub fn mutated_bytes(rng: &mut Rng) -> Case {
 pub fn one_trace(rng: &mut Rng) -> Case {
     let quick = quick_case(rng);
     asked(rng, quick.buffer, quick.length)
+}
+
+/// Files of older recorders (document 02, §11): as they are, broken in every way, with any bytes
+/// changed, and with values that are numbers.
+pub fn old_file(rng: &mut Rng) -> Case {
+    match rng.between(0, 7) {
+        0 => {
+            let (buffer, length) = mutated_old(rng);
+            asked(rng, buffer, length)
+        }
+        1 | 2 => {
+            let mut model = number_model(rng);
+            model.age(rng);
+            asked_of(rng, model)
+        }
+        _ => {
+            let old = old_case(rng);
+            asked(rng, old.buffer, old.length)
+        }
+    }
 }
 
 /// Any bytes; most begin as a file does, or nothing behind row 2 would be met.
@@ -315,11 +340,16 @@ pub fn added(rng: &mut Rng) -> Case {
     case(rng, kind)
 }
 
-/// An addition to what keeps the rules no more: the rows of the check come first.
+/// An addition to what keeps the rules no more, or never did, as old files: the rows of the
+/// strict check come first.
 pub fn added_to_broken(rng: &mut Rng) -> Case {
-    let (mut buffer, length) = match rng.one_in(2) {
-        true => mutated(rng),
-        false => {
+    let (mut buffer, length) = match rng.between(0, 4) {
+        0 | 1 => mutated(rng),
+        2 => {
+            let old = old_case(rng);
+            (old.buffer, old.length)
+        }
+        _ => {
             let way = &WAYS[rng.between(0, WAYS.len() - 1)];
             let broken = damaged(rng, way);
             (broken.buffer, broken.length)

@@ -1,14 +1,100 @@
 //! The calls as the reference answers them, in the form of the archive's answers.
 
-use crate::answer::{signed, Answer};
+use crate::answer::{signed, Answer, Verdict};
 use crate::call::{Call, Forged};
 use crate::lent::Memory;
 use seg2_reference as reference;
-use seg2_reference::{Location, Number, Order, Refusal, StringPlace};
+use seg2_reference::{
+    Checked, File, Lenient, Location, Manner, Number, Order, Refusal, StringPlace,
+};
 use std::ops::Range;
 
 /// The reference's answer, and the memory after it.
 pub fn expected(call: Call, length: usize, memory: &mut Memory) -> Answer {
+    Known::default().expected(call, length, memory)
+}
+
+/// What the reference's checks have said of a buffer: every question asks them first.
+#[derive(Default)]
+pub struct Known {
+    length: usize,
+    /// By the manner.
+    files: [Option<Result<File, Refusal>>; 2],
+}
+
+impl Known {
+    /// The answer, of a buffer that no call has changed since the last one. After a call that may
+    /// change it nothing is known.
+    pub fn expected(&mut self, call: Call, length: usize, memory: &mut Memory) -> Answer {
+        if call.writes() || length != self.length {
+            *self = Known {
+                length,
+                ..Known::default()
+            };
+        }
+        if let Some(question) = call.strict() {
+            let answer = self.ask(question, Manner::Lenient, memory);
+            let strict = self.file(&memory.buffer, Manner::Strict).err();
+            return lenient(Lenient { answer, strict }, |answer| answer);
+        }
+        if call.lenient().is_some() {
+            return told(self.ask(call, Manner::Strict, memory), |answer| answer);
+        }
+        by_itself(call, length, memory)
+    }
+
+    /// The file that a check accepts, or its refusal.
+    fn file(&mut self, buffer: &[u8], manner: Manner) -> Result<&File, Refusal> {
+        let length = self.length;
+        let known = &mut self.files[manner as usize];
+        let file = known.get_or_insert_with(|| reference::check_in(buffer, length, manner));
+        file.as_ref().map_err(|refusal| *refusal)
+    }
+
+    /// A question in a manner, by its strict form.
+    fn ask(
+        &mut self,
+        question: Call,
+        manner: Manner,
+        memory: &mut Memory,
+    ) -> Result<Answer, Refusal> {
+        let Memory {
+            buffer,
+            key,
+            integers,
+            patterns,
+            classes,
+            strings,
+            ..
+        } = memory;
+        let file = Checked {
+            buffer,
+            file: self.file(buffer, manner)?,
+            manner,
+        };
+        let part = i64::from(question.part().unwrap_or(-1));
+        Ok(match question {
+            Call::Check => nothing(()),
+            Call::FileBlock => file_block(file.block()),
+            Call::TraceBlock { .. } => trace_block(file.trace(part)?),
+            Call::StringCount { .. } => count(file.strings(part)?.len()),
+            Call::String { index, .. } => string(file.strings(part)?.get(index)),
+            Call::Strings { .. } => nothing(file.places(part, strings)?),
+            Call::Keyword { .. } => yes_or_no(file.find(part, key)?.is_some()),
+            Call::Value { .. } => place(file.value(part, key)?),
+            // An absent keyword's text is empty: that is no number (20) and no location (23).
+            Call::Number { .. } => number(reference::number(file.text(part, key)?)?),
+            Call::Double { .. } => double(reference::double(file.text(part, key)?)?),
+            Call::Location { .. } => location(reference::location(file.text(part, key)?)?),
+            Call::Integers { .. } => nothing(file.integers(part, integers)?),
+            Call::Bits { .. } => nothing(file.bits(part, patterns, classes)?),
+            other => unreachable!("no question of a file: {other:?}"),
+        })
+    }
+}
+
+/// Calls that do not check a whole file first, or check it for themselves.
+fn by_itself(call: Call, length: usize, memory: &mut Memory) -> Answer {
     let Memory {
         buffer,
         key,
@@ -20,51 +106,9 @@ pub fn expected(call: Call, length: usize, memory: &mut Memory) -> Answer {
         text,
     } = memory;
     match call {
-        Call::Check => told(reference::check(buffer, length), |_| Answer::good([])),
-        Call::FileBlock => told(reference::file_block(buffer, length), file_block),
-        Call::TraceBlock { trace } => told(
-            reference::trace_block(buffer, length, trace.into()),
-            trace_block,
-        ),
-        Call::StringCount { part } => {
-            told(reference::string_count(buffer, length, part.into()), count)
-        }
-        Call::String { part, index } => told(
-            reference::string(buffer, length, part.into(), index),
-            string,
-        ),
-        Call::Strings { part } => told(
-            reference::all_strings(buffer, length, part.into(), strings),
-            nothing,
-        ),
-        Call::Keyword { part } => told(
-            reference::keyword(buffer, length, part.into(), key),
-            yes_or_no,
-        ),
-        Call::Value { part } => told(
-            reference::keyword_string(buffer, length, part.into(), key),
-            value,
-        ),
-        Call::Number { part } => of_value(buffer, length, part, key, |text| {
-            told(reference::number(text), number)
-        }),
-        Call::Double { part } => of_value(buffer, length, part, key, |text| {
-            told(reference::double(text), double)
-        }),
-        Call::Location { part } => of_value(buffer, length, part, key, |text| {
-            told(reference::location(text), location)
-        }),
-        Call::Integers { trace } => told(
-            reference::samples_as_integers(buffer, length, trace.into(), integers),
-            nothing,
-        ),
-        Call::Bits { trace } => told(
-            reference::samples_as_bits(buffer, length, trace.into(), patterns, classes),
-            nothing,
-        ),
         Call::QuickTraceBlock { trace } => told(
             reference::quick_trace_block(buffer, length, trace.into()),
-            trace_block,
+            |block| trace_block(&block),
         ),
         Call::QuickStringCount { trace } => told(
             reference::quick_string_count(buffer, length, trace.into()),
@@ -72,7 +116,7 @@ pub fn expected(call: Call, length: usize, memory: &mut Memory) -> Answer {
         ),
         Call::QuickString { trace, index } => told(
             reference::quick_string(buffer, length, trace.into(), index),
-            string,
+            |found| string(found.as_ref()),
         ),
         Call::QuickStrings { trace } => told(
             reference::quick_strings(buffer, length, trace.into(), strings),
@@ -84,7 +128,7 @@ pub fn expected(call: Call, length: usize, memory: &mut Memory) -> Answer {
         ),
         Call::QuickValue { trace } => told(
             reference::quick_search(buffer, length, trace.into(), key).answer,
-            value,
+            |found| place(found.map_or(0..0, |string| string.value)),
         ),
         Call::QuickNumber { trace } => told(
             reference::quick_number(buffer, length, trace.into(), key),
@@ -120,18 +164,29 @@ pub fn expected(call: Call, length: usize, memory: &mut Memory) -> Answer {
             reference::add_bits(buffer, length, sheet, narrow(code), patterns),
             new_length,
         ),
+        other => unreachable!("a question of a file: {other:?}"),
     }
 }
 
 pub(crate) fn told<T>(answer: Result<T, Refusal>, good: impl FnOnce(T) -> Answer) -> Answer {
     match answer {
         Ok(value) => good(value),
-        Err(refusal) => Answer::refused(
-            u32::from(refusal.number),
-            i32::try_from(refusal.part).expect("a part of 32 bits"),
-            usize::try_from(refusal.place).expect("a place in a buffer"),
-        ),
+        Err(refusal) => refused(refusal),
     }
+}
+
+fn refused(refusal: Refusal) -> Answer {
+    Answer::refused(
+        u32::from(refusal.number),
+        i32::try_from(refusal.part).expect("a part of 32 bits"),
+        usize::try_from(refusal.place).expect("a place in a buffer"),
+    )
+}
+
+/// A lenient answer with the strict verdict beside it.
+pub(crate) fn lenient<T>(both: Lenient<T>, good: impl FnOnce(T) -> Answer) -> Answer {
+    let strict = both.strict.map(|refusal| refused(refusal).verdict());
+    told(both.answer, good).beside(strict.unwrap_or(Verdict::ACCEPTED))
 }
 
 /// What is answered stands in lent rows.
@@ -147,7 +202,7 @@ pub(crate) fn yes_or_no(found: bool) -> Answer {
     Answer::good([u64::from(found)])
 }
 
-fn file_block(block: reference::FileBlock) -> Answer {
+pub(crate) fn file_block(block: reference::FileBlock) -> Answer {
     Answer::good([
         u64::from(block.order == Order::High),
         u64::from(block.m),
@@ -157,7 +212,7 @@ fn file_block(block: reference::FileBlock) -> Answer {
     ])
 }
 
-pub(crate) fn trace_block(trace: reference::Trace) -> Answer {
+pub(crate) fn trace_block(trace: &reference::Trace) -> Answer {
     Answer::good([
         u64::from(trace.p),
         u64::from(trace.b),
@@ -167,21 +222,12 @@ pub(crate) fn trace_block(trace: reference::Trace) -> Answer {
     ])
 }
 
-pub(crate) fn string(string: Option<StringPlace>) -> Answer {
+pub(crate) fn string(string: Option<&StringPlace>) -> Answer {
     let Some(string) = string else {
         return Answer::good([]);
     };
     let [key, key_size, value, size] = string.numbers().map(|n| n as u64);
     Answer::good([1, key, key_size, value, size])
-}
-
-/// The value of a found string; for a no the empty part at the buffer's start.
-fn value_range(found: Option<StringPlace>) -> Range<usize> {
-    found.map_or(0..0, |string| string.value)
-}
-
-fn value(found: Option<StringPlace>) -> Answer {
-    place(value_range(found))
 }
 
 /// A value's start and length.
@@ -232,19 +278,6 @@ impl Forged {
 
 fn new_length(length: usize) -> Answer {
     Answer::good([length as u64])
-}
-
-/// What the value's text answers. An absent keyword's text is empty: that is no number
-/// (20) and no location (23).
-fn of_value(
-    buffer: &[u8],
-    length: usize,
-    part: i32,
-    key: &[u8],
-    answer: impl FnOnce(&[u8]) -> Answer,
-) -> Answer {
-    let found = reference::keyword_string(buffer, length, part.into(), key);
-    told(found, |found| answer(&buffer[value_range(found)]))
 }
 
 /// The reference takes codes of 8 bits: a wider one is as little a code as 255 is.

@@ -4,7 +4,7 @@
 //! defines; after each addition every earlier string and sample is read back.
 
 use crate::answer::Answer;
-use crate::asking::ask_both;
+use crate::asking::ask_forms;
 use crate::call::Call;
 use crate::case::{Base, Given, Start};
 use crate::lent::Rows;
@@ -212,11 +212,11 @@ fn read_samples(
     pair.lend_rows(&Rows::junk(rng, count, count, 0));
     Ok(match code {
         1..=3 => {
-            ask_both(pair, length, Call::Integers { trace })?;
+            ask_forms(pair, length, Call::Integers { trace })?;
             Row::Integers(pair.memory().integers.clone())
         }
         _ => {
-            ask_both(pair, length, Call::Bits { trace })?;
+            ask_forms(pair, length, Call::Bits { trace })?;
             Row::Bits(pair.memory().patterns.clone())
         }
     })
@@ -277,7 +277,7 @@ fn read_row(
     let call = Call::Strings { part };
     match part {
         -1 => pair.ask(length, call)?,
-        _ => ask_both(pair, length, call)?,
+        _ => ask_forms(pair, length, call)?,
     };
     match pair.memory().strings == row {
         true => Ok(()),
@@ -296,12 +296,12 @@ fn read_string(
     first: Option<[usize; 4]>,
 ) -> Result<[usize; 4], Difference> {
     let call = Call::String { part, index };
-    let values = ask_both(pair, length, call)?.values.map(|v| v as usize);
+    let values = ask_forms(pair, length, call)?.values.map(|v| v as usize);
     let [found, at, letters, start, size, ..] = values;
     let own = [at, letters, start, size];
     pair.lend_key(key);
     // The file keeps the rules, so one trace alone says the same (document 02, §5).
-    let same = ask_both(pair, length, Call::Value { part })?;
+    let same = ask_forms(pair, length, Call::Value { part })?;
     let [_, _, first, first_size] = first.unwrap_or(own);
     let buffer = &pair.memory().buffer;
     let right = found == 1

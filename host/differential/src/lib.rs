@@ -19,8 +19,8 @@
 //! - `guarded`: lent memory beside pages that cannot be touched (Linux).
 //! - [`questions`]: the questions of one trace as one table.
 //! - [`flips`]: bytes changed that a question of one trace does not look at.
-//! - [`spoiled`], [`channels`], [`quick`]: libraries with one fault, which the comparison
-//!   has to notice.
+//! - [`spoiled`], [`channels`], [`quick`], [`lenient`]: libraries with one fault, which the
+//!   comparison has to notice.
 
 pub mod answer;
 pub mod asking;
@@ -33,6 +33,7 @@ pub mod flips;
 pub mod growing;
 #[cfg(target_os = "linux")]
 pub mod guarded;
+pub mod lenient;
 pub mod lent;
 pub mod numbering;
 pub mod pair;
@@ -43,7 +44,7 @@ pub mod shrink;
 pub mod spoiled;
 pub mod text;
 
-pub use answer::Answer;
+pub use answer::{Answer, Verdict};
 pub use call::{Archive, Call, Forged, Library};
 pub use case::Case;
 pub use pair::{Difference, Pair, Tally};

@@ -2,7 +2,7 @@
 
 use crate::answer::Answer;
 use crate::call::{Call, Library};
-use crate::expected::expected;
+use crate::expected::Known;
 use crate::lent::{Lent, Memory, Rows};
 use seg2_reference::ALL;
 use std::fmt;
@@ -70,6 +70,8 @@ pub struct Pair<'a> {
     library: &'a dyn Library,
     lent: Lent,
     memory: Memory,
+    /// What the reference has said of the buffer.
+    known: Known,
     pub tally: Tally,
 }
 
@@ -80,6 +82,7 @@ impl<'a> Pair<'a> {
             library,
             lent: Lent::new(seed),
             memory: Memory::default(),
+            known: Known::default(),
             tally: Tally::default(),
         };
         pair.lend_buffer(buffer);
@@ -87,6 +90,7 @@ impl<'a> Pair<'a> {
     }
 
     pub fn lend_buffer(&mut self, buffer: &[u8]) {
+        self.known = Known::default();
         self.memory.buffer = buffer.to_vec();
         self.lent.buffer.lend(buffer);
     }
@@ -142,7 +146,7 @@ impl<'a> Pair<'a> {
     /// One call on both sides: answers, all lent memory and what is around it have to
     /// be alike.
     pub fn ask(&mut self, length: usize, call: Call) -> Result<Answer, Difference> {
-        let expected = expected(call, length, &mut self.memory);
+        let expected = self.known.expected(call, length, &mut self.memory);
         let answer = self.library.call(call, length, &mut self.lent);
         self.tally.count(answer.number);
         if answer != expected {

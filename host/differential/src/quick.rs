@@ -156,17 +156,17 @@ pub const RIGHT: Way = Way {
 };
 
 /// What the file block's first 32 bytes say, once rows 1 to 7 have passed.
-struct Head<'a> {
-    image: &'a [u8],
-    order: Order,
-    room_end: usize,
-    n: usize,
-    string: &'a [u8],
-    line: &'a [u8],
+pub(crate) struct Head<'a> {
+    pub image: &'a [u8],
+    pub order: Order,
+    pub room_end: usize,
+    pub n: usize,
+    pub string: &'a [u8],
+    pub line: &'a [u8],
 }
 
 impl<'a> Head<'a> {
-    fn new(image: &'a [u8]) -> Head<'a> {
+    pub fn new(image: &'a [u8]) -> Head<'a> {
         let order = match image[0] {
             0x55 => Order::Low,
             _ => Order::High,
@@ -183,11 +183,11 @@ impl<'a> Head<'a> {
         }
     }
 
-    fn two(&self, at: usize) -> usize {
+    pub fn two(&self, at: usize) -> usize {
         usize::from(u16_at(self.image, at, self.order))
     }
 
-    fn four(&self, at: usize) -> usize {
+    pub fn four(&self, at: usize) -> usize {
         u32_at(self.image, at, self.order) as usize
     }
 
@@ -203,7 +203,7 @@ impl<'a> Head<'a> {
     }
 
     /// Rows 9 to 13 of the block at p: the first that is broken, and its place.
-    fn block_row(&self, p: usize, samples: bool) -> Option<(u8, usize)> {
+    pub fn block_row(&self, p: usize, samples: bool) -> Option<(u8, usize)> {
         let [b, d, s] = [self.two(p + 2), self.four(p + 4), self.four(p + 8)];
         let code = self.image[p + 12];
         let needed = needed_bytes(code, s as u64);
@@ -220,8 +220,20 @@ impl<'a> Head<'a> {
         Some((broken.0, broken.1))
     }
 
+    /// What the block at p says, without strings.
+    pub fn block(&self, p: usize) -> Trace {
+        Trace {
+            p: p as u32,
+            b: self.two(p + 2) as u16,
+            d: self.four(p + 4) as u32,
+            s: self.four(p + 8) as u32,
+            code: self.image[p + 12],
+            strings: Vec::new(),
+        }
+    }
+
     /// Row 14: where the string at a place ends, nothing at an end mark.
-    fn next(&self, at: usize, end: usize) -> Result<Option<usize>, u8> {
+    pub fn next(&self, at: usize, end: usize) -> Result<Option<usize>, u8> {
         if at + 2 > end {
             return Err(14);
         }
@@ -233,7 +245,7 @@ impl<'a> Head<'a> {
     }
 
     /// Keyword and value of the string between two places.
-    fn text(&self, at: usize, next: usize) -> (Range<usize>, Range<usize>) {
+    pub fn text(&self, at: usize, next: usize) -> (Range<usize>, Range<usize>) {
         let end = next - self.string.len();
         let at = at + 2;
         let is_part = |i: &usize| is_separator(self.image[*i]);
@@ -250,7 +262,7 @@ impl<'a> Head<'a> {
             (15, self.image[value.end..next] != *self.string),
             (
                 16,
-                !is_keyword(word) || !self.is_value(word, &self.image[value]),
+                !is_keyword(word) || !self.is_value(word == NOTE, &self.image[value]),
             ),
             (17, before.is_some_and(|before| !may_follow(before, word))),
         ];
@@ -259,10 +271,10 @@ impl<'a> Head<'a> {
 
     /// "It uses 32 to 126 and tab, in NOTE also whole line terminators, matched from the
     /// left."
-    fn is_value(&self, word: &[u8], mut value: &[u8]) -> bool {
+    pub fn is_value(&self, in_note: bool, mut value: &[u8]) -> bool {
         while let Some((&c, rest)) = value.split_first() {
             value = match value.strip_prefix(self.line) {
-                Some(behind) if word == NOTE => behind,
+                Some(behind) if in_note => behind,
                 _ if matches!(c, 9 | 32..=126) => rest,
                 _ => return false,
             };
@@ -333,13 +345,13 @@ impl Way {
         lent: &mut Lent,
     ) -> Result<Answer, Refusal> {
         Ok(match call {
-            Call::QuickTraceBlock { .. } => trace_block(at.block.clone()),
+            Call::QuickTraceBlock { .. } => trace_block(&at.block),
             Call::QuickStringCount { .. } => count(self.strings(at)?.len()),
             Call::QuickString { index, .. } => {
                 let found = self.seek(at, Sought::Index((self.index)(index)))?;
                 match (found, self.past) {
                     (None, Some(row)) => return Err(Refusal::file(row, 0)),
-                    (found, _) => string(found),
+                    (found, _) => string(found.as_ref()),
                 }
             }
             Call::QuickStrings { .. } => nothing(self.fill_strings(at, lent)?),
@@ -407,14 +419,7 @@ impl Way {
             let first = head.four(32).clamp(head.room_end, head.image.len());
             told_or(RIGHT.walk(&head, -1, head.room_end..first, Sought::All))?;
         }
-        let block = Trace {
-            p: p as u32,
-            b: head.two(p + 2) as u16,
-            d: head.four(p + 4) as u32,
-            s: head.four(p + 8) as u32,
-            code: head.image[p + 12],
-            strings: Vec::new(),
-        };
+        let block = head.block(p);
         let at = Reached {
             area: p + 32..block.data_start() as usize,
             head,

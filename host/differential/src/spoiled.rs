@@ -1,7 +1,7 @@
 //! Libraries with one fault each. A comparison that does not notice one compares too
 //! little.
 
-use crate::answer::Answer;
+use crate::answer::{Answer, Verdict};
 use crate::call::{Archive, Call, Library};
 use crate::lent::{Frame, Lent, Pattern};
 
@@ -13,6 +13,10 @@ pub enum Fault {
     Place,
     /// The value with an index; -0 for 0 where it is a double.
     Value(usize),
+    /// The same of the strict verdict beside a lenient answer.
+    StrictNumber,
+    StrictPart,
+    StrictPlace,
     /// A byte beside the answer's place.
     Beside,
     Buffer(At),
@@ -54,6 +58,9 @@ impl Library for Spoiled {
             Fault::Part => answer.part ^= 1,
             Fault::Place => answer.place ^= 1,
             Fault::Value(index) => answer.values[index] ^= 1 << 63,
+            Fault::StrictNumber => in_strict(&mut answer, |strict| strict.number ^= 1),
+            Fault::StrictPart => in_strict(&mut answer, |strict| strict.part ^= 1),
+            Fault::StrictPlace => in_strict(&mut answer, |strict| strict.place ^= 1),
             Fault::Beside => lent.beside_answer = true,
             Fault::Buffer(at) => change(&mut lent.buffer, at, |byte| byte ^ 1),
             Fault::Key(at) => change(&mut lent.key, at, |byte| byte ^ 1),
@@ -66,6 +73,13 @@ impl Library for Spoiled {
             Fault::Nothing => *lent = before,
         }
         answer
+    }
+}
+
+/// An answer without a strict verdict has none to change.
+fn in_strict(answer: &mut Answer, change: fn(&mut Verdict)) {
+    if let Some(strict) = &mut answer.strict {
+        change(strict);
     }
 }
 

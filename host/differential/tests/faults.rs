@@ -40,7 +40,7 @@ fn each_fault_is_noticed() {
     let classes: Piece = Fault::Classes;
     let strings: Piece = Fault::Strings;
     let text: Piece = Fault::Text;
-    let functions: [(&str, usize, &[Piece]); 29] = [
+    let functions: [(&str, usize, &[Piece]); 42] = [
         ("check", 0, &[buffer]),
         ("file_block", 5, &[buffer]),
         ("trace_block", 5, &[buffer]),
@@ -65,6 +65,19 @@ fn each_fault_is_noticed() {
         ("quick_location", 7, &[buffer, key]),
         ("quick_integers", 0, &[buffer, integers]),
         ("quick_bits", 0, &[buffer, patterns, classes]),
+        ("lenient_check", 0, &[buffer]),
+        ("lenient_file_block", 5, &[buffer]),
+        ("lenient_trace_block", 5, &[buffer]),
+        ("lenient_string_count", 1, &[buffer]),
+        ("lenient_string", 5, &[buffer]),
+        ("lenient_strings", 0, &[buffer, strings]),
+        ("lenient_keyword", 1, &[buffer, key]),
+        ("lenient_value", 2, &[buffer, key]),
+        ("lenient_number", 4, &[buffer, key]),
+        ("lenient_double", 1, &[buffer, key]),
+        ("lenient_location", 7, &[buffer, key]),
+        ("lenient_integers", 0, &[buffer, integers]),
+        ("lenient_bits", 0, &[buffer, patterns, classes]),
         ("read_number", 4, &[text]),
         ("write_number", 1, &[text]),
         ("start", 1, &[buffer, sheet]),
@@ -79,10 +92,15 @@ fn each_fault_is_noticed() {
     for (function, values, lent) in functions {
         let mut faults = faults(values, lent);
         let full = function.trim_start_matches("quick_");
+        let full = full.trim_start_matches("lenient_");
+        let lenient = function.starts_with("lenient");
         let fills = matches!(full, "integers" | "bits" | "strings");
-        if function != "check" && !fills {
-            // These answer in registers.
+        // All others answer in registers.
+        if lenient || full != "check" && !fills {
             faults.push(Fault::Beside);
+        }
+        if lenient {
+            faults.extend([Fault::StrictNumber, Fault::StrictPart, Fault::StrictPlace]);
         }
         let writes = fills || matches!(function, "start" | "write_number");
         if writes || function.starts_with("add") {

@@ -1,10 +1,11 @@
 //! The check of a whole file: document 01, "The file block", "The trace block"
-//! and rows 1 to 17 of its table, in the table's order; row 34 of document 02, §7.
+//! and rows 1 to 17 of its table, in the table's order; row 34 of document 02, §7. The lenient
+//! reading of §11 is the same check in another manner.
 
 use crate::channel::{breaks_the_rule, CHANNEL_NUMBER};
 use crate::refusal::{refuse_if, Refusal, FILE_PART};
 use crate::samples::needed_bytes;
-use crate::strings::{Area, StringPlace, Terminators};
+use crate::strings::{Area, Manner, StringPlace, Terminators};
 use crate::words::{u16_at, u32_at, Order};
 use std::ops::Range;
 
@@ -69,7 +70,12 @@ impl Trace {
 
 /// Rows 1 to 17 and 34 on the first `length` bytes of the buffer.
 pub fn check(buffer: &[u8], length: usize) -> Result<File, Refusal> {
-    check_as(buffer, length, Purpose::Reading)
+    check_in(buffer, length, Manner::Strict)
+}
+
+/// The same check in a manner. The lenient one never gives 17 and 34 (document 02, §11).
+pub fn check_in(buffer: &[u8], length: usize, manner: Manner) -> Result<File, Refusal> {
+    check_as(buffer, length, Purpose::Reading(manner))
 }
 
 /// The same check for an addition, which also accepts an image with N=0
@@ -78,10 +84,20 @@ pub fn check_for_addition(buffer: &[u8], length: usize) -> Result<File, Refusal>
     check_as(buffer, length, Purpose::Addition)
 }
 
+/// What is checked for. "Adding to a file still needs the strict check."
 #[derive(Clone, Copy, PartialEq, Eq)]
 pub(crate) enum Purpose {
-    Reading,
+    Reading(Manner),
     Addition,
+}
+
+impl Purpose {
+    fn manner(self) -> Manner {
+        match self {
+            Purpose::Reading(manner) => manner,
+            Purpose::Addition => Manner::Strict,
+        }
+    }
 }
 
 /// "1 to 7 first, then the first pointer, then the file's strings, then each
@@ -121,6 +137,7 @@ pub(crate) struct Head<'a> {
     m: u16,
     pub n: u16,
     terminators: Terminators,
+    manner: Manner,
 }
 
 impl<'a> Head<'a> {
@@ -132,7 +149,7 @@ impl<'a> Head<'a> {
         let n = u16_at(image, 6, order);
         refuse_if(revision != 1, Refusal::file(3, 2))?;
         refuse_if(m < 4 || m % 4 != 0, Refusal::file(4, 4))?;
-        refuse_if(n == 0 && purpose == Purpose::Reading, Refusal::file(5, 6))?;
+        refuse_if(n == 0 && purpose != Purpose::Addition, Refusal::file(5, 6))?;
         refuse_if(n > m / 4, Refusal::file(5, 6))?;
         let terminators = terminators(image)?;
         let head = Head {
@@ -141,6 +158,7 @@ impl<'a> Head<'a> {
             m,
             n,
             terminators,
+            manner: purpose.manner(),
         };
         refuse_if(head.room_end() > image.len(), Refusal::file(7, 4))?;
         Ok(head)
@@ -170,7 +188,9 @@ impl<'a> Head<'a> {
         for k in 0..self.n {
             let trace = self.trace(k, previous_end)?;
             previous_end = trace.end();
-            self.channel(k, &trace, traces.first().unwrap_or(&trace))?;
+            if self.manner == Manner::Strict {
+                self.channel(k, &trace, traces.first().unwrap_or(&trace))?;
+            }
             traces.push(trace);
         }
         Ok(traces)
@@ -227,6 +247,7 @@ impl<'a> Head<'a> {
             image: self.image,
             order: self.order,
             terminators: &self.terminators,
+            manner: self.manner,
             part,
             range,
         }

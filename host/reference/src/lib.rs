@@ -19,6 +19,7 @@
 pub mod channel;
 pub mod check;
 pub mod generate;
+pub mod lenient;
 pub mod listing;
 pub mod number;
 pub mod questions;
@@ -32,12 +33,17 @@ pub mod worked;
 pub mod write;
 
 pub use channel::{is_channel_number, CHANNEL_NUMBER};
-pub use check::{check, check_for_addition, File, Trace, MAXIMUM_LENGTH};
+pub use check::{check, check_for_addition, check_in, File, Trace, MAXIMUM_LENGTH};
+pub use lenient::{
+    lenient_bits, lenient_check, lenient_double, lenient_file_block, lenient_integers,
+    lenient_keyword, lenient_keyword_string, lenient_location, lenient_number, lenient_string,
+    lenient_string_count, lenient_strings, lenient_trace_block, lenient_value, Lenient,
+};
 pub use listing::{listing, listing_program, LISTING_MAXIMUM};
 pub use number::{double, location, number, write_number, Location, Number};
 pub use questions::{
     all_strings, file_block, keyword, keyword_string, keyword_value, note_lines, samples_as_bits,
-    samples_as_integers, string, string_count, trace_block, FileBlock,
+    samples_as_integers, string, string_count, trace_block, Checked, FileBlock,
 };
 pub use quick::{
     quick_bits, quick_double, quick_integers, quick_keyword, quick_location, quick_number,
@@ -45,6 +51,6 @@ pub use quick::{
     quick_value, Question, Search,
 };
 pub use refusal::{is_of_check, Refusal, ALL};
-pub use strings::StringPlace;
+pub use strings::{Manner, StringPlace};
 pub use words::Order;
 pub use write::{add, add_bits, add_integers, file_of, start, Row, TraceGiven};

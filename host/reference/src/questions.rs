@@ -4,7 +4,7 @@
 use crate::check::{check, File, Trace};
 use crate::refusal::{refuse_if, Refusal, FILE_PART};
 use crate::samples::{class_of_code_4, class_of_code_5, decode_bits, decode_integers};
-use crate::strings::{parted_lines, StringPlace};
+use crate::strings::{parted_lines, Manner, StringPlace};
 use crate::words::Order;
 use std::ops::Range;
 
@@ -18,28 +18,110 @@ pub struct FileBlock {
     pub line_terminator: Vec<u8>,
 }
 
+/// A file that a check has accepted, with the bytes that it stands in: what is asked of it is
+/// the same in either manner, but for what its keywords count as.
+#[derive(Clone, Copy, Debug)]
+pub struct Checked<'a> {
+    pub buffer: &'a [u8],
+    pub file: &'a File,
+    pub manner: Manner,
+}
+
+/// A file that the strict check has accepted.
+fn strictly<'a>(buffer: &'a [u8], file: &'a File) -> Checked<'a> {
+    Checked {
+        buffer,
+        file,
+        manner: Manner::Strict,
+    }
+}
+
+impl<'a> Checked<'a> {
+    /// Byte order, M, N and the terminators.
+    pub fn block(self) -> FileBlock {
+        let file = self.file;
+        FileBlock {
+            order: file.order,
+            m: file.m,
+            n: file.n,
+            string_terminator: file.string_terminator.clone(),
+            line_terminator: file.line_terminator.clone(),
+        }
+    }
+
+    /// Row 18: "no such trace".
+    pub fn trace(self, trace: i64) -> Result<&'a Trace, Refusal> {
+        usize::try_from(trace)
+            .ok()
+            .and_then(|index| self.file.traces.get(index))
+            .ok_or(Refusal::file(18, 0))
+    }
+
+    /// Row 18: "(a keyword question also takes -1, the file)".
+    pub fn strings(self, part: i64) -> Result<&'a [StringPlace], Refusal> {
+        match part {
+            FILE_PART => Ok(&self.file.strings),
+            trace => Ok(&self.trace(trace)?.strings),
+        }
+    }
+
+    /// The first string of a part with the keyword, `None` for a no. What is asked for is taken
+    /// as given: what cannot be a keyword is a plain no, lower case too.
+    pub fn find(self, part: i64, keyword: &[u8]) -> Result<Option<&'a StringPlace>, Refusal> {
+        let counts_as =
+            |string: &StringPlace| self.manner.keyword(&self.buffer[string.keyword.clone()]);
+        let mut strings = self.strings(part)?.iter();
+        Ok(strings.find(|string| counts_as(string) == keyword))
+    }
+
+    /// Where the value of the first string with the keyword stands; for a no the empty part at
+    /// the start of the buffer.
+    pub fn value(self, part: i64, keyword: &[u8]) -> Result<Range<usize>, Refusal> {
+        let found = self.find(part, keyword)?;
+        Ok(found.map_or(0..0, |string| string.value.clone()))
+    }
+
+    /// That value as it stands: letters are folded in keywords alone.
+    pub fn text(self, part: i64, keyword: &[u8]) -> Result<&'a [u8], Refusal> {
+        Ok(&self.buffer[self.value(part, keyword)?])
+    }
+
+    /// All strings of a part in a row, four numbers each.
+    pub fn places(self, part: i64, row: &mut [usize]) -> Result<(), Refusal> {
+        places_of(self.strings(part)?, row)
+    }
+
+    pub fn integers(self, trace: i64, row: &mut [i32]) -> Result<(), Refusal> {
+        let trace = self.trace(trace)?;
+        integers_asked(trace, row.len())?;
+        read_integers(self.buffer, self.file.order, trace, row);
+        Ok(())
+    }
+
+    pub fn bits(self, trace: i64, row: &mut [u64], classes: &mut [u8]) -> Result<(), Refusal> {
+        let trace = self.trace(trace)?;
+        bits_asked(trace, row.len(), classes.len())?;
+        read_bits(self.buffer, self.file.order, trace, row, classes);
+        Ok(())
+    }
+}
+
 /// Byte order, M, N and the terminators.
 pub fn file_block(buffer: &[u8], length: usize) -> Result<FileBlock, Refusal> {
     let file = check(buffer, length)?;
-    Ok(FileBlock {
-        order: file.order,
-        m: file.m,
-        n: file.n,
-        string_terminator: file.string_terminator,
-        line_terminator: file.line_terminator,
-    })
+    Ok(strictly(buffer, &file).block())
 }
 
 /// Pointer, sizes, sample count, code and string places of one trace.
 pub fn trace_block(buffer: &[u8], length: usize, trace: i64) -> Result<Trace, Refusal> {
     let file = check(buffer, length)?;
-    Ok(trace_of(&file, trace)?.clone())
+    strictly(buffer, &file).trace(trace).cloned()
 }
 
 /// How many strings a part has; part -1 is the file.
 pub fn string_count(buffer: &[u8], length: usize, part: i64) -> Result<usize, Refusal> {
     let file = check(buffer, length)?;
-    Ok(strings_of(&file, part)?.len())
+    Ok(strictly(buffer, &file).strings(part)?.len())
 }
 
 /// The i-th string of a part, `None` when it has no so many.
@@ -50,7 +132,7 @@ pub fn string(
     i: usize,
 ) -> Result<Option<StringPlace>, Refusal> {
     let file = check(buffer, length)?;
-    Ok(strings_of(&file, part)?.get(i).cloned())
+    Ok(strictly(buffer, &file).strings(part)?.get(i).cloned())
 }
 
 /// All strings of a part, in order, in one row: of each, where its keyword starts, how long it
@@ -63,7 +145,7 @@ pub fn all_strings(
     row: &mut [usize],
 ) -> Result<(), Refusal> {
     let file = check(buffer, length)?;
-    places_of(strings_of(&file, part)?, row)
+    strictly(buffer, &file).places(part, row)
 }
 
 /// What both keyword questions answer by: the first string of a part with the keyword, `None`
@@ -75,9 +157,7 @@ pub fn keyword_string(
     keyword: &[u8],
 ) -> Result<Option<StringPlace>, Refusal> {
     let file = check(buffer, length)?;
-    let strings = strings_of(&file, part)?;
-    let asked_for = |string: &&StringPlace| &buffer[string.keyword.clone()] == keyword;
-    Ok(strings.iter().find(asked_for).cloned())
+    Ok(strictly(buffer, &file).find(part, keyword)?.cloned())
 }
 
 /// "one answers yes, no or the refusal". What cannot be a keyword is a plain no.
@@ -89,10 +169,8 @@ pub fn keyword(buffer: &[u8], length: usize, part: i64, keyword: &[u8]) -> Resul
 /// no or a refusal the empty part at the start of the lent buffer": the range of
 /// the value in the buffer.
 pub fn keyword_value(buffer: &[u8], length: usize, part: i64, keyword: &[u8]) -> Range<usize> {
-    match keyword_string(buffer, length, part, keyword) {
-        Ok(Some(string)) => string.value,
-        Ok(None) | Err(_) => 0..0,
-    }
+    let value = |file: File| strictly(buffer, &file).value(part, keyword);
+    check(buffer, length).and_then(value).unwrap_or(0..0)
 }
 
 /// The lines of a NOTE's value, parted by whole line terminators from the left,
@@ -109,10 +187,7 @@ pub fn samples_as_integers(
     row: &mut [i32],
 ) -> Result<(), Refusal> {
     let file = check(buffer, length)?;
-    let trace = trace_of(&file, trace)?;
-    integers_asked(trace, row.len())?;
-    read_integers(buffer, file.order, trace, row);
-    Ok(())
+    strictly(buffer, &file).integers(trace, row)
 }
 
 /// The bit patterns of a trace of codes 4 and 5, and their classes. Either row
@@ -125,10 +200,7 @@ pub fn samples_as_bits(
     classes: &mut [u8],
 ) -> Result<(), Refusal> {
     let file = check(buffer, length)?;
-    let trace = trace_of(&file, trace)?;
-    bits_asked(trace, row.len(), classes.len())?;
-    read_bits(buffer, file.order, trace, row, classes);
-    Ok(())
+    strictly(buffer, &file).bits(trace, row, classes)
 }
 
 /// Row 32 of a row for these strings, then the row.
@@ -180,22 +252,6 @@ pub(crate) fn read_bits(
     row.copy_from_slice(&samples.unwrap_or_default()[..row.len()]);
     for (class, &bits) in classes.iter_mut().zip(row.iter()) {
         *class = class_of(bits);
-    }
-}
-
-/// Row 18: "no such trace".
-fn trace_of(file: &File, trace: i64) -> Result<&Trace, Refusal> {
-    usize::try_from(trace)
-        .ok()
-        .and_then(|index| file.traces.get(index))
-        .ok_or(Refusal::file(18, 0))
-}
-
-/// Row 18: "(a keyword question also takes -1, the file)".
-fn strings_of(file: &File, part: i64) -> Result<&[StringPlace], Refusal> {
-    match part {
-        FILE_PART => Ok(&file.strings),
-        trace => Ok(&trace_of(file, trace)?.strings),
     }
 }
 

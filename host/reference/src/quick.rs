@@ -10,7 +10,7 @@ use crate::questions::{
     bits_asked, integers_asked, places_of, read_bits, read_integers, strings_asked,
 };
 use crate::refusal::Refusal;
-use crate::strings::{Area, StringPlace, NOTE};
+use crate::strings::{Area, Manner, StringPlace, NOTE};
 use crate::words::Order;
 use std::ops::Range;
 
@@ -243,7 +243,7 @@ impl<'a> Look<'a> {
     fn block(&mut self) -> Result<(Head<'a>, Trace), Refusal> {
         let image = image(self.buffer, self.length)?;
         self.read.push(0..FIXED_PART);
-        let head = Head::check(image, Purpose::Reading)?;
+        let head = Head::check(image, Purpose::Reading(Manner::Strict))?;
         let k = trace_number(self.trace, head.n)?;
         let slot = FIXED_PART + 4 * usize::from(k);
         self.read.push(slot..slot + 4);

@@ -1,4 +1,5 @@
-//! One string, and an area of strings: document 01, "Strings", rows 14 to 17.
+//! One string, and an area of strings: document 01, "Strings", rows 14 to 17, and the lenient
+//! manner of document 02, §11.
 
 use crate::refusal::{refuse_if, Refusal};
 use crate::words::{u16_at, Order};
@@ -28,6 +29,26 @@ impl StringPlace {
 pub struct Terminators {
     pub string: Vec<u8>,
     pub line: Vec<u8>,
+}
+
+/// How strings are read.
+#[derive(Clone, Copy, Debug, PartialEq, Eq)]
+pub enum Manner {
+    /// As document 01 has it.
+    Strict,
+    /// "it takes lower-case keyword letters as upper case, accepts any order and repeats, and
+    /// ends a list where no byte of the area is left" (document 02, §11).
+    Lenient,
+}
+
+impl Manner {
+    /// What a keyword counts as, wherever it is judged or compared.
+    pub fn keyword(self, text: &[u8]) -> Vec<u8> {
+        match self {
+            Manner::Strict => text.to_vec(),
+            Manner::Lenient => text.to_ascii_uppercase(),
+        }
+    }
 }
 
 /// "spaces or tabs": what parts keyword and value.
@@ -98,6 +119,7 @@ pub(crate) struct Area<'a> {
     pub image: &'a [u8],
     pub order: Order,
     pub terminators: &'a Terminators,
+    pub manner: Manner,
     /// The part that refusals name: -1 for the file, else the trace.
     pub part: i64,
     pub range: Range<usize>,
@@ -121,7 +143,7 @@ impl Area<'_> {
     }
 
     /// Rows 14 to 17 of the string at a place, behind the one before it: the string and
-    /// where the next one starts, `None` at the end mark.
+    /// where the next one starts, `None` where the list ends.
     pub fn string_at(
         &self,
         at: usize,
@@ -142,11 +164,14 @@ impl Area<'_> {
         Refusal::new(number, self.part, at)
     }
 
-    /// Row 14: where the next string starts; `None` at the end mark. The offset
+    /// Row 14: where the next string starts; `None` where the list ends. The offset
     /// counts from its own first byte. A missing end mark is an offset that is
-    /// not in the area.
+    /// not in the area, but for the lenient manner where no byte of it is left.
     pub fn next_string(&self, at: usize) -> Result<Option<usize>, Refusal> {
         let end = self.range.end;
+        if self.manner == Manner::Lenient && at == end {
+            return Ok(None);
+        }
         refuse_if(at + 2 > end, self.refusal(14, at))?;
         let offset = usize::from(u16_at(self.image, at, self.order));
         if offset == 0 {
@@ -182,20 +207,24 @@ impl Area<'_> {
         let value_start = (keyword_length..text.len())
             .find(|&i| !is_separator(text[i]))
             .unwrap_or(text.len());
-        let (keyword, value) = (&text[..keyword_length], &text[value_start..]);
+        let keyword = self.manner.keyword(&text[..keyword_length]);
+        let value = &text[value_start..];
         let value_allowed = if keyword == NOTE {
             is_note_value(value, &self.terminators.line)
         } else {
             is_value(value)
         };
-        refuse_if(!is_keyword(keyword) || !value_allowed, self.refusal(16, at))?;
+        refuse_if(
+            !is_keyword(&keyword) || !value_allowed,
+            self.refusal(16, at),
+        )?;
         Ok(StringPlace {
             keyword: body.start..body.start + keyword_length,
             value: body.start + value_start..body.end,
         })
     }
 
-    /// Row 17.
+    /// Row 17, which the lenient manner never gives.
     fn in_order(
         &self,
         at: usize,
@@ -203,8 +232,9 @@ impl Area<'_> {
         string: &StringPlace,
     ) -> Result<(), Refusal> {
         let keyword = |place: &StringPlace| &self.image[place.keyword.clone()];
+        let out_of_order = !may_follow(keyword(previous), keyword(string));
         refuse_if(
-            !may_follow(keyword(previous), keyword(string)),
+            self.manner == Manner::Strict && out_of_order,
             self.refusal(17, at),
         )
     }
@@ -219,6 +249,17 @@ mod tests {
         let allowed: Vec<u8> = (0..=255).filter(|&c| is_keyword_character(c)).collect();
         let expected: Vec<u8> = (33..=96).chain(123..=126).collect();
         assert_eq!(allowed, expected);
+    }
+
+    /// "it takes lower-case keyword letters as upper case": 97 to 122 alone, as 65 to 90.
+    #[test]
+    fn what_keywords_count_as() {
+        let all: Vec<u8> = (0..=255).collect();
+        assert_eq!(Manner::Strict.keyword(&all), all);
+        let counted = Manner::Lenient.keyword(&all);
+        assert_eq!(counted[97..=122], all[65..=90]);
+        assert_eq!(counted[..97], all[..97]);
+        assert_eq!(counted[123..], all[123..]);
     }
 
     #[test]

@@ -1,13 +1,18 @@
 //! An accepted file and its traces. What it is asked about its strings is `Part`'s.
 
-use crate::part::{Part, FULL};
-use crate::{calls, raw, Lines, Location, Number, Order, Pair, Quick, Refusal, Strings, Trace};
+use crate::part::{Calls, Part, FULL, LENIENT, QUICK};
+use crate::{calls, raw, LenientRefusal, Lines, Location, Number, Order, Pair, Refusal};
+use crate::{Strings, Trace};
 
 /// A view of a file that the check has accepted. It borrows the bytes and copies none.
 ///
 /// What is asked of its traces reads one trace each and checks nothing else again
 /// ([`Trace`]). There is no quick form of the questions on the file's own strings: each
 /// checks the whole file, so whoever needs several asks for [`strings`](File::strings) once.
+///
+/// A file of an older recorder, which the check refuses, may still be opened leniently
+/// ([`open_lenient`](File::open_lenient)). Then every question, those of its traces too, is
+/// answered by the lenient reading, and checks the whole file twice.
 ///
 /// ```
 /// # use seg2::{Builder, Order};
@@ -22,7 +27,10 @@ use crate::{calls, raw, Lines, Location, Number, Order, Pair, Quick, Refusal, St
 #[derive(Clone, Copy, Debug)]
 pub struct File<'a> {
     part: Part<'a>,
+    /// What its traces are asked by.
+    of_traces: &'static Calls,
     block: raw::File,
+    strict: Option<Refusal>,
 }
 
 impl<'a> File<'a> {
@@ -53,13 +61,111 @@ impl<'a> File<'a> {
     /// ```
     pub fn open_prefix(buffer: &'a [u8], length: usize) -> Result<File<'a>, Refusal> {
         let block = calls::file_block(buffer, length).told()?;
+        Ok(File::of(buffer, length, block, None))
+    }
+
+    /// Opens a whole slice leniently, as files of older recorders need it (document 02, §11).
+    /// Four things are forgiven, in the file's own strings and in each trace's, and nothing
+    /// else is:
+    ///
+    /// - lower-case letters in a keyword. It counts as its upper-case form, so `Stack` is
+    ///   found by `STACK`; what is asked for is taken as it is given, so `stack` finds nothing.
+    ///   [`strings`](File::strings) has a keyword as it stands in the file;
+    /// - any order of keywords, and repeats. [`value`](File::value) and the like answer the
+    ///   first, [`strings`](File::strings) has them all;
+    /// - a list of strings that fills its area and has no end mark;
+    /// - channel numbers, which are not looked at.
+    ///
+    /// [`strict`](File::strict) tells which rule the file breaks first. If it breaks none, this
+    /// is the view that [`open`](File::open) gives, quick questions and all. If it breaks one,
+    /// every question on it and its traces goes through the whole file twice, so whoever needs
+    /// much asks for [`strings`](File::strings) once. No trace can be added to such a file.
+    ///
+    /// ```
+    /// # use seg2::{Builder, Order};
+    /// # let mut shot = Builder::start(Order::Low, 1, b"UNITS\tMETERS\n")?;
+    /// # shot.add_integers(b"DELAY\t0\nSTACK\t4\n", 1, &[7])?;
+    /// # let mut bytes = shot.finish();
+    /// # let at = bytes.windows(5).position(|w| w == b"DELAY").unwrap();
+    /// // an old recorder wrote `Zelay`, which is neither upper case nor in order
+    /// bytes[at..at + 5].copy_from_slice(b"Zelay");
+    /// assert_eq!(seg2::File::open(&bytes).unwrap_err().number, 16);
+    ///
+    /// let file = seg2::File::open_lenient(&bytes)?;
+    /// assert_eq!(file.strict().map(|refusal| refusal.number), Some(16));
+    /// let trace = file.trace(0)?;
+    /// assert_eq!(trace.value(b"ZELAY"), Some(&b"0"[..]));
+    /// assert_eq!(trace.value(b"Zelay"), None);
+    /// assert_eq!(trace.string(0), Some((&b"Zelay"[..], &b"0"[..])));
+    /// assert_eq!(trace.value(b"STACK"), Some(&b"4"[..]));
+    /// # Ok::<(), Box<dyn std::error::Error>>(())
+    /// ```
+    pub fn open_lenient(bytes: &'a [u8]) -> Result<File<'a>, LenientRefusal> {
+        File::open_lenient_prefix(bytes, bytes.len())
+    }
+
+    /// Opens the first `length` bytes of a buffer leniently. Any length may be given.
+    ///
+    /// ```
+    /// # use seg2::{Builder, Order};
+    /// # let mut shot = Builder::start(Order::Low, 1, b"")?;
+    /// # shot.add_integers(b"", 1, &[7])?;
+    /// # let length = shot.bytes().len();
+    /// # let mut buffer = shot.finish();
+    /// # buffer.resize(1000, 0xEE);
+    /// let file = seg2::File::open_lenient_prefix(&buffer, length)?;
+    /// assert_eq!(file.bytes(), &buffer[..length]);
+    /// let refused = seg2::File::open_lenient_prefix(&buffer, 1001).unwrap_err();
+    /// assert_eq!((refused.refusal.number, refused.strict.number), (1, 1));
+    /// # Ok::<(), Box<dyn std::error::Error>>(())
+    /// ```
+    pub fn open_lenient_prefix(
+        buffer: &'a [u8],
+        length: usize,
+    ) -> Result<File<'a>, LenientRefusal> {
+        let raw::Lenient { answer, strict } = calls::lenient_file_block(buffer, length);
+        let block = LenientRefusal::told(answer.told(), strict)?;
+        Ok(File::of(buffer, length, block, strict.told().err()))
+    }
+
+    /// A file that keeps the rules is asked by the strict calls, which cost less: the lenient
+    /// ones answer the same.
+    fn of(buffer: &'a [u8], length: usize, block: raw::File, strict: Option<Refusal>) -> File<'a> {
+        let (calls, of_traces) = match strict {
+            None => (&FULL, &QUICK),
+            Some(_) => (&LENIENT, &LENIENT),
+        };
         let part = Part {
             buffer,
             length,
             number: -1,
-            calls: &FULL,
+            calls,
         };
-        Ok(File { part, block })
+        File {
+            part,
+            of_traces,
+            block,
+            strict,
+        }
+    }
+
+    /// The first row of the strict check that the file meets, 14, 16, 17 or 34: none for a
+    /// file that keeps the rules, so always none behind [`open`](File::open). Free.
+    ///
+    /// ```
+    /// # use seg2::{Builder, Order};
+    /// # let mut shot = Builder::start(Order::Low, 1, b"UNITS\tMETERS\n")?;
+    /// # shot.add_integers(b"", 1, &[7])?;
+    /// # let mut bytes = shot.finish();
+    /// assert_eq!(seg2::File::open_lenient(&bytes)?.strict(), None);
+    /// let at = bytes.windows(5).position(|w| w == b"UNITS").unwrap();
+    /// bytes[at] = b'u';
+    /// let refusal = seg2::File::open_lenient(&bytes)?.strict();
+    /// assert_eq!(refusal, seg2::check(&bytes, bytes.len()).err());
+    /// # Ok::<(), Box<dyn std::error::Error>>(())
+    /// ```
+    pub fn strict(&self) -> Option<Refusal> {
+        self.strict
     }
 
     /// The file's bytes, without what stands behind them in the buffer. Free.
@@ -165,7 +271,7 @@ impl<'a> File<'a> {
     }
 
     /// A trace, counted from 0; 18 where there is none. A quick call: it reads the trace's
-    /// block and no other.
+    /// block and no other. (A lenient one where the file was read leniently.)
     ///
     /// ```
     /// # use seg2::{Builder, Order};
@@ -178,11 +284,12 @@ impl<'a> File<'a> {
     /// # Ok::<(), seg2::Refusal>(())
     /// ```
     pub fn trace(&self, index: usize) -> Result<Trace<'a>, Refusal> {
-        let quick = Quick::prefix(self.part.buffer, self.part.length);
-        Ok(Trace::of(*self, quick, index, quick.block(index)?))
+        let part = self.part.trace(index, self.of_traces);
+        Ok(Trace::of(*self, part, index, part.block()?))
     }
 
-    /// All traces in order. One quick call for each.
+    /// All traces in order. One quick call for each, or a lenient one where the file was read
+    /// leniently.
     ///
     /// ```
     /// # use seg2::{Builder, Order};
@@ -358,7 +465,8 @@ impl<'a> File<'a> {
         Lines::of(Some(value), self.line_terminator())
     }
 
-    /// The lines of the file's NOTE; none at all where it has none.
+    /// The lines of the file's NOTE; none at all where it has none. Of a file that was read
+    /// leniently, the first NOTE, be it `Note` or `note`.
     ///
     /// ```
     /// # use seg2::{Builder, Order};

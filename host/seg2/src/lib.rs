@@ -34,6 +34,13 @@
 //! To show something of one trace without any check of the file there is [`Quick`]: it
 //! reads that trace and judges what it reads.
 //!
+//! # Older recorders
+//!
+//! Recorders from before our own put strings in any order, in lower case, and without an end
+//! mark. [`File::open_lenient`] reads such files too, and [`File::strict`] tells which rule
+//! they break. On a file that breaks one, every question checks the whole file twice; a file
+//! that keeps the rules is asked as ever. Adding a trace needs the strict check.
+//!
 //! # Threads and stack
 //!
 //! The library has no state: any number of threads may use it. 32 KiB of stack are
@@ -57,7 +64,7 @@ pub use file::{File, Traces};
 pub use number::{Location, Number};
 pub use part::{Lines, Pair, Strings};
 pub use quick::Quick;
-pub use refusal::{numbers, text, Place, Refusal};
+pub use refusal::{numbers, text, LenientRefusal, Place, Refusal};
 pub use trace::{Bits, Block, Class, Trace};
 pub use write::{add_bits, add_integers, start, Builder};
 
@@ -152,6 +159,36 @@ pub enum Order {
 pub fn check(buffer: &[u8], length: usize) -> Result<(), Refusal> {
     calls::check(buffer, length).told()?;
     Ok(())
+}
+
+/// Whether the first `length` bytes of the buffer are a file that can be read leniently, as
+/// [`File::open_lenient`] does: then the first row of the strict check that is forgiven, or
+/// none where the file keeps the rules. If not, both first rows.
+///
+/// ```
+/// # use seg2::{Builder, Order};
+/// # let mut shot = Builder::start(Order::Low, 1, b"UNITS\tMETERS\n")?;
+/// # shot.add_integers(b"", 1, &[7])?;
+/// # let mut bytes = shot.finish();
+/// # let length = bytes.len();
+/// assert_eq!(seg2::check_lenient(&bytes, length)?, None);
+///
+/// // a small letter in the file's only keyword
+/// let at = bytes.windows(5).position(|w| w == b"UNITS").unwrap();
+/// bytes[at] = b'u';
+/// let forgiven = seg2::check_lenient(&bytes, length)?.unwrap();
+/// assert_eq!((forgiven.number, forgiven.part), (16, -1));
+///
+/// // a sign that no keyword may have
+/// bytes[at + 1] = 0xE9;
+/// let refused = seg2::check_lenient(&bytes, length).unwrap_err();
+/// assert_eq!(refused.refusal.number, 16);
+/// # Ok::<(), Box<dyn std::error::Error>>(())
+/// ```
+pub fn check_lenient(buffer: &[u8], length: usize) -> Result<Option<Refusal>, LenientRefusal> {
+    let raw::Lenient { answer, strict } = calls::lenient_check(buffer, length);
+    LenientRefusal::told(answer.told(), strict)?;
+    Ok(strict.told().err())
 }
 
 /// The page for the app programmer: its lines of Rust are run as a test.

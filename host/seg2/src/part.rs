@@ -1,23 +1,38 @@
-//! The questions that the file and a trace share: strings, keywords, numbers in values.
-//! `File`, `Trace` and `Quick` hand them on, each with an example of its own.
+//! The questions of a part: strings, keywords and numbers in values, which the file and a
+//! trace share, and a trace's block and samples. `File`, `Trace` and `Quick` hand them on,
+//! each with an example of its own.
 
-use crate::{calls, raw, Location, Number, Refusal};
+use crate::{calls, code, raw, Bits, Block, Location, Number, Refusal};
 
-/// The calls that answer them. A full question and its quick form differ in this alone.
+/// A call on the buffer, the file's length in it, and a part.
+type Ask<A> = fn(&[u8], usize, i32) -> A;
+/// The same with a keyword.
+type AskKey<A> = fn(&[u8], usize, i32, &[u8]) -> A;
+/// The same with a row that is filled.
+type Fill<E> = fn(&[u8], usize, i32, &mut [E]) -> raw::Verdict;
+/// The same with two of them.
+type FillBoth<E, F> = fn(&[u8], usize, i32, &mut [E], &mut [F]) -> raw::Verdict;
+
+/// The calls that answer them. A full question, its quick form and its lenient form differ
+/// in this alone.
 #[derive(Debug)]
 pub struct Calls {
-    string_count: fn(&[u8], usize, i32) -> raw::Count,
+    trace_block: Ask<raw::Trace>,
+    string_count: Ask<raw::Count>,
     string: fn(&[u8], usize, i32, usize) -> raw::Text,
-    strings: fn(&[u8], usize, i32, &mut [usize]) -> raw::Verdict,
-    keyword: fn(&[u8], usize, i32, &[u8]) -> raw::Keyword,
-    value: fn(&[u8], usize, i32, &[u8]) -> raw::Value,
-    number: fn(&[u8], usize, i32, &[u8]) -> raw::Number,
-    double: fn(&[u8], usize, i32, &[u8]) -> raw::Double,
-    location: fn(&[u8], usize, i32, &[u8]) -> raw::Location,
+    strings: Fill<usize>,
+    keyword: AskKey<raw::Keyword>,
+    value: AskKey<raw::Value>,
+    number: AskKey<raw::Number>,
+    double: AskKey<raw::Double>,
+    location: AskKey<raw::Location>,
+    integers: Fill<i32>,
+    bits: FillBoth<u64, u8>,
 }
 
-/// Each checks the whole file first. The file's own strings have no others.
+/// Each checks the whole file first. The file's own strings have no quick ones.
 pub static FULL: Calls = Calls {
+    trace_block: calls::trace_block,
     string_count: calls::string_count,
     string: calls::string,
     strings: calls::strings,
@@ -26,10 +41,13 @@ pub static FULL: Calls = Calls {
     number: calls::number,
     double: calls::double,
     location: calls::location,
+    integers: calls::integers,
+    bits: calls::bits,
 };
 
 /// Each reads one trace, and judges what it reads.
 pub static QUICK: Calls = Calls {
+    trace_block: calls::quick_trace_block,
     string_count: calls::quick_string_count,
     string: calls::quick_string,
     strings: calls::quick_strings,
@@ -38,6 +56,24 @@ pub static QUICK: Calls = Calls {
     number: calls::quick_number,
     double: calls::quick_double,
     location: calls::quick_location,
+    integers: calls::quick_integers,
+    bits: calls::quick_bits,
+};
+
+/// Each checks the whole file twice, leniently and strictly. The strict verdict beside an
+/// answer is the same for all of them, so it is kept once, in the file.
+pub static LENIENT: Calls = Calls {
+    trace_block: |b, n, part| calls::lenient_trace_block(b, n, part).answer,
+    string_count: |b, n, part| calls::lenient_string_count(b, n, part).answer,
+    string: |b, n, part, index| calls::lenient_string(b, n, part, index).answer,
+    strings: |b, n, part, row| calls::lenient_strings(b, n, part, row).answer,
+    keyword: |b, n, part, key| calls::lenient_keyword(b, n, part, key).answer,
+    value: |b, n, part, key| calls::lenient_value(b, n, part, key).answer,
+    number: |b, n, part, key| calls::lenient_number(b, n, part, key).answer,
+    double: |b, n, part, key| calls::lenient_double(b, n, part, key).answer,
+    location: |b, n, part, key| calls::lenient_location(b, n, part, key).answer,
+    integers: |b, n, part, row| calls::lenient_integers(b, n, part, row).answer,
+    bits: |b, n, part, row, classes| calls::lenient_bits(b, n, part, row, classes).answer,
 };
 
 /// Keyword and value of a string: the buffer's own bytes.
@@ -56,8 +92,8 @@ pub type Pair<'a> = (&'a [u8], &'a [u8]);
 /// A part of a file: the file itself (-1) or a trace.
 ///
 /// The buffer is borrowed and so cannot change. So where the check has accepted the file,
-/// a question that names a part of it is never refused by 1 to 18 again. What is answered
-/// lies in the buffer.
+/// a question that names a part of it is never refused by 1 to 18 again; nor is a lenient
+/// one, where the lenient check has. What is answered lies in the buffer.
 #[derive(Clone, Copy, Debug)]
 pub struct Part<'a> {
     pub buffer: &'a [u8],
@@ -67,6 +103,21 @@ pub struct Part<'a> {
 }
 
 impl<'a> Part<'a> {
+    /// A trace of the same file, to be asked by these calls. A file has far fewer traces than
+    /// 31 bits count, so a larger number is 18 as well.
+    pub fn trace(self, index: usize, calls: &'static Calls) -> Part<'a> {
+        Part {
+            number: i32::try_from(index).unwrap_or(i32::MAX),
+            calls,
+            ..self
+        }
+    }
+
+    pub fn block(self) -> Result<Block, Refusal> {
+        let answer = (self.calls.trace_block)(self.buffer, self.length, self.number);
+        Ok(Block::of(answer.told()?))
+    }
+
     pub fn string_count(self) -> Result<usize, Refusal> {
         let answer = (self.calls.string_count)(self.buffer, self.length, self.number);
         Ok(answer.told()?.count)
@@ -119,6 +170,46 @@ impl<'a> Part<'a> {
     pub fn location(self, keyword: &[u8]) -> Result<Location, Refusal> {
         let answer = (self.calls.location)(self.buffer, self.length, self.number, keyword);
         Ok(Location::of(answer.told()?))
+    }
+
+    pub fn integers_into(self, row: &mut [i32]) -> Result<(), Refusal> {
+        (self.calls.integers)(self.buffer, self.length, self.number, row).told()?;
+        Ok(())
+    }
+
+    /// The samples of a trace with this block.
+    pub fn integers(self, block: Block) -> Result<Vec<i32>, Refusal> {
+        let mut row = vec![0; block.sample_count];
+        self.integers_into(&mut row)?;
+        Ok(row)
+    }
+
+    pub fn bits_into(self, row: &mut [u64], classes: &mut [u8]) -> Result<(), Refusal> {
+        (self.calls.bits)(self.buffer, self.length, self.number, row, classes).told()?;
+        Ok(())
+    }
+
+    /// The patterns of a trace with this block, and their classes.
+    pub fn bits(self, block: Block) -> Result<Bits, Refusal> {
+        let mut bits = Bits {
+            patterns: vec![0; block.sample_count],
+            classes: vec![0; block.sample_count],
+        };
+        self.bits_into(&mut bits.patterns, &mut bits.classes)?;
+        Ok(bits)
+    }
+
+    pub fn doubles(self, block: Block) -> Result<Vec<f64>, Refusal> {
+        if block.is_integers() {
+            let integers = self.integers(block)?.into_iter();
+            return Ok(integers.map(f64::from).collect());
+        }
+        let patterns = self.bits(block)?.patterns.into_iter();
+        Ok(match block.code {
+            // a pattern of code 4 has 32 bits
+            code::FLOAT_32 => patterns.map(|p| f32::from_bits(p as u32).into()).collect(),
+            _ => patterns.map(f64::from_bits).collect(),
+        })
     }
 }
 

@@ -2,7 +2,7 @@
 //! nobody has checked, and judge what they read.
 
 use crate::part::{Part, QUICK};
-use crate::{calls, code, Bits, Block, Lines, Location, Number, Pair, Refusal, Strings};
+use crate::{Bits, Block, Lines, Location, Number, Pair, Refusal, Strings};
 
 /// A file that was **not checked**, to be asked about one trace at a time. It borrows the
 /// bytes, copies none, and is free to make.
@@ -94,8 +94,7 @@ impl<'a> Quick<'a> {
     /// # Ok::<(), seg2::Refusal>(())
     /// ```
     pub fn block(&self, trace: usize) -> Result<Block, Refusal> {
-        let answer = calls::quick_trace_block(self.buffer, self.length, number(trace));
-        Ok(Block::of(answer.told()?))
+        self.part(trace).block()
     }
 
     /// How many strings a trace has: all of them are read.
@@ -260,13 +259,7 @@ impl<'a> Quick<'a> {
     /// # Ok::<(), seg2::Refusal>(())
     /// ```
     pub fn integers(&self, trace: usize) -> Result<Vec<i32>, Refusal> {
-        self.integers_of(trace, self.block(trace)?)
-    }
-
-    pub(crate) fn integers_of(&self, trace: usize, block: Block) -> Result<Vec<i32>, Refusal> {
-        let mut row = vec![0; block.sample_count];
-        self.integers_into(trace, &mut row)?;
-        Ok(row)
+        self.part(trace).integers(self.block(trace)?)
     }
 
     /// The samples of codes 1 to 3 into a row of exactly S elements: 33 for another code,
@@ -285,8 +278,7 @@ impl<'a> Quick<'a> {
     /// # Ok::<(), seg2::Refusal>(())
     /// ```
     pub fn integers_into(&self, trace: usize, row: &mut [i32]) -> Result<(), Refusal> {
-        calls::quick_integers(self.buffer, self.length, number(trace), row).told()?;
-        Ok(())
+        self.part(trace).integers_into(row)
     }
 
     /// The bit patterns of codes 4 and 5 with their classes; 33 for the others. Two calls:
@@ -303,16 +295,7 @@ impl<'a> Quick<'a> {
     /// # Ok::<(), seg2::Refusal>(())
     /// ```
     pub fn bits(&self, trace: usize) -> Result<Bits, Refusal> {
-        self.bits_of(trace, self.block(trace)?)
-    }
-
-    pub(crate) fn bits_of(&self, trace: usize, block: Block) -> Result<Bits, Refusal> {
-        let mut bits = Bits {
-            patterns: vec![0; block.sample_count],
-            classes: vec![0; block.sample_count],
-        };
-        self.bits_into(trace, &mut bits.patterns, &mut bits.classes)?;
-        Ok(bits)
+        self.part(trace).bits(self.block(trace)?)
     }
 
     /// The bit patterns of codes 4 and 5 and their classes into two rows of exactly S
@@ -335,8 +318,7 @@ impl<'a> Quick<'a> {
         row: &mut [u64],
         classes: &mut [u8],
     ) -> Result<(), Refusal> {
-        calls::quick_bits(self.buffer, self.length, number(trace), row, classes).told()?;
-        Ok(())
+        self.part(trace).bits_into(row, classes)
     }
 
     /// The samples of any code as doubles, as [`Trace::doubles`](crate::Trace::doubles) has
@@ -353,30 +335,18 @@ impl<'a> Quick<'a> {
     /// # Ok::<(), seg2::Refusal>(())
     /// ```
     pub fn doubles(&self, trace: usize) -> Result<Vec<f64>, Refusal> {
-        self.doubles_of(trace, self.block(trace)?)
+        self.part(trace).doubles(self.block(trace)?)
     }
 
-    pub(crate) fn doubles_of(&self, trace: usize, block: Block) -> Result<Vec<f64>, Refusal> {
-        if block.is_integers() {
-            let integers = self.integers_of(trace, block)?.into_iter();
-            return Ok(integers.map(f64::from).collect());
-        }
-        let patterns = self.bits_of(trace, block)?.patterns.into_iter();
-        Ok(match block.code {
-            // a pattern of code 4 has 32 bits
-            code::FLOAT_32 => patterns.map(|p| f32::from_bits(p as u32).into()).collect(),
-            _ => patterns.map(f64::from_bits).collect(),
-        })
-    }
-
-    /// The trace as a part, for the questions on its strings.
+    /// The trace as a part.
     fn part(&self, trace: usize) -> Part<'a> {
-        Part {
+        let file = Part {
             buffer: self.buffer,
             length: self.length,
-            number: number(trace),
+            number: -1,
             calls: &QUICK,
-        }
+        };
+        file.trace(trace, &QUICK)
     }
 
     /// The characters behind the length in byte 11. To be asked behind an answer: rows 1 to 7
@@ -384,10 +354,4 @@ impl<'a> Quick<'a> {
     fn line_terminator(&self) -> &'a [u8] {
         &self.buffer[12..12 + usize::from(self.buffer[11])]
     }
-}
-
-/// The trace as the call takes it. A file has far fewer traces than 31 bits count, so a
-/// larger number is 18 as well.
-fn number(trace: usize) -> i32 {
-    i32::try_from(trace).unwrap_or(i32::MAX)
 }

@@ -1,6 +1,6 @@
 //! The exported functions as they are: what `include/seg2.h` declares, in Rust. The
-//! answers' fields have the header's names, as those of `crates/face` and
-//! `crates/face_values` have.
+//! answers' fields have the header's names, as those of `crates/face`,
+//! `crates/face_values` and `crates/face_lenient` have.
 //!
 //! A slice goes as its pointer and its size, one behind the other. A struct of more
 //! than 16 bytes comes back through a place that is the first argument, on x86-64 and
@@ -92,6 +92,17 @@ answer!(
     Length { length: usize }
 );
 
+/// A lenient answer, and beside it the strict check's own first row, or no refusal where the
+/// file keeps the rules. The second stands there whatever the first is.
+#[repr(C)]
+#[derive(Clone, Copy, Debug, PartialEq)]
+pub struct Lenient<A> {
+    /// The answer of the lenient reading, or its refusal.
+    pub answer: A,
+    /// The verdict of the strict check.
+    pub strict: Verdict,
+}
+
 #[rustfmt::skip]
 #[allow(missing_docs)]
 extern "C" {
@@ -119,6 +130,19 @@ extern "C" {
     pub fn seg2_quick_location(answer: *mut Location, buffer: *const u8, size: usize, length: usize, trace: i32, key: *const u8, key_size: usize);
     pub fn seg2_quick_integers(buffer: *const u8, size: usize, length: usize, trace: i32, row: *mut i32, row_size: usize) -> Verdict;
     pub fn seg2_quick_bits(buffer: *const u8, size: usize, length: usize, trace: i32, row: *mut u64, row_size: usize, classes: *mut u8, classes_size: usize) -> Verdict;
+    pub fn seg2_lenient_check(answer: *mut Lenient<Verdict>, buffer: *const u8, size: usize, length: usize);
+    pub fn seg2_lenient_file_block(answer: *mut Lenient<File>, buffer: *const u8, size: usize, length: usize);
+    pub fn seg2_lenient_trace_block(answer: *mut Lenient<Trace>, buffer: *const u8, size: usize, length: usize, trace: i32);
+    pub fn seg2_lenient_string_count(answer: *mut Lenient<Count>, buffer: *const u8, size: usize, length: usize, part: i32);
+    pub fn seg2_lenient_string(answer: *mut Lenient<Text>, buffer: *const u8, size: usize, length: usize, part: i32, index: usize);
+    pub fn seg2_lenient_strings(answer: *mut Lenient<Verdict>, buffer: *const u8, size: usize, length: usize, part: i32, row: *mut usize, row_size: usize);
+    pub fn seg2_lenient_keyword(answer: *mut Lenient<Keyword>, buffer: *const u8, size: usize, length: usize, part: i32, key: *const u8, key_size: usize);
+    pub fn seg2_lenient_value(answer: *mut Lenient<Value>, buffer: *const u8, size: usize, length: usize, part: i32, key: *const u8, key_size: usize);
+    pub fn seg2_lenient_number(answer: *mut Lenient<Number>, buffer: *const u8, size: usize, length: usize, part: i32, key: *const u8, key_size: usize);
+    pub fn seg2_lenient_double(answer: *mut Lenient<Double>, buffer: *const u8, size: usize, length: usize, part: i32, key: *const u8, key_size: usize);
+    pub fn seg2_lenient_location(answer: *mut Lenient<Location>, buffer: *const u8, size: usize, length: usize, part: i32, key: *const u8, key_size: usize);
+    pub fn seg2_lenient_integers(answer: *mut Lenient<Verdict>, buffer: *const u8, size: usize, length: usize, trace: i32, row: *mut i32, row_size: usize);
+    pub fn seg2_lenient_bits(answer: *mut Lenient<Verdict>, buffer: *const u8, size: usize, length: usize, trace: i32, row: *mut u64, row_size: usize, classes: *mut u8, classes_size: usize);
     pub fn seg2_read_number(answer: *mut Number, text: *const u8, size: usize);
     pub fn seg2_write_number(answer: *mut Length, text: *mut u8, size: usize, minus: u32, coefficient: u64, power: i32, decimals: u32);
     pub fn seg2_start(answer: *mut Length, buffer: *mut u8, size: usize, order: u32, slots: u32, sheet: *const u8, sheet_size: usize);

@@ -1,5 +1,6 @@
 //! Refusals and their words.
 
+use crate::raw;
 use std::fmt;
 
 /// A refusal of the table: which row, in which part, at which place.
@@ -106,6 +107,57 @@ impl fmt::Display for Refusal {
 }
 
 impl std::error::Error for Refusal {}
+
+/// Why a file is not even read leniently, and the strict check's own row: the same, or one
+/// of 14, 16, 17 and 34 that it meets earlier.
+///
+/// ```
+/// let refused = seg2::check_lenient(&[0; 32], 32).unwrap_err();
+/// assert_eq!(refused.refusal, refused.strict);
+/// assert_eq!(refused.to_string(), refused.refusal.to_string());
+///
+/// let earlier = seg2::Refusal { number: 17, part: -1, place: 48 };
+/// let refused = seg2::LenientRefusal { strict: earlier, ..refused };
+/// assert_eq!(
+///     refused.to_string(),
+///     "refused (2) in the file: the first two bytes are not those of a SEG-2 file; the strict check stops earlier: \
+///      refused (17) in the file at byte 48: the keyword is out of order, or there twice \
+///      (only RECEIVER_GEOMETRY and SOURCE_GEOMETRY may repeat)"
+/// );
+/// ```
+#[derive(Clone, Copy, Debug, PartialEq, Eq)]
+pub struct LenientRefusal {
+    /// The first row that the lenient reading meets.
+    pub refusal: Refusal,
+    /// The first row that the strict check meets.
+    pub strict: Refusal,
+}
+
+impl LenientRefusal {
+    /// A lenient answer, or its refusal with the strict verdict that stands beside it.
+    pub(crate) fn told<A>(
+        answer: Result<A, Refusal>,
+        strict: raw::Verdict,
+    ) -> Result<A, LenientRefusal> {
+        answer.map_err(|refusal| LenientRefusal {
+            refusal,
+            // what the lenient reading refuses, the strict one refuses too
+            strict: strict.told().err().unwrap_or(refusal),
+        })
+    }
+}
+
+impl fmt::Display for LenientRefusal {
+    fn fmt(&self, out: &mut fmt::Formatter<'_>) -> fmt::Result {
+        write!(out, "{}", self.refusal)?;
+        if self.strict == self.refusal {
+            return Ok(());
+        }
+        write!(out, "; the strict check stops earlier: {}", self.strict)
+    }
+}
+
+impl std::error::Error for LenientRefusal {}
 
 /// The table: each row's number with its words for a crew, in the order of the numbers.
 #[rustfmt::skip]

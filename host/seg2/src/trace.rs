@@ -1,13 +1,19 @@
 //! A trace of an accepted file: its block, its strings, its samples. What it is asked is
-//! `Quick`'s.
+//! `Part`'s.
 
-use crate::{code, raw, File, Lines, Location, Number, Pair, Quick, Refusal, Strings};
+use crate::part::Part;
+use crate::{code, raw, File, Lines, Location, Number, Pair, Refusal, Strings};
 
 /// A trace of an accepted file: its block, its strings, its samples.
 ///
 /// The check of the file was made when it was opened. So every question here is a quick one
-/// ([`Quick`]): it reads this trace and no other, however many there are, and no row of the
-/// check refuses it again; what is left are 20 to 23 of a value, 32 and 33 of samples.
+/// ([`Quick`](crate::Quick)): it reads this trace and no other, however many there are, and no
+/// row of the check refuses it again; what is left are 20 to 23 of a value, 32 and 33 of
+/// samples.
+///
+/// Where the file was opened leniently and breaks a rule ([`File::open_lenient`]), every
+/// question is a lenient one instead: it checks the whole file twice, and has no other
+/// refusals either.
 ///
 /// ```
 /// # use seg2::{Builder, Order};
@@ -23,16 +29,16 @@ use crate::{code, raw, File, Lines, Location, Number, Pair, Quick, Refusal, Stri
 #[derive(Clone, Copy, Debug)]
 pub struct Trace<'a> {
     file: File<'a>,
-    quick: Quick<'a>,
+    part: Part<'a>,
     index: usize,
     block: Block,
 }
 
 impl<'a> Trace<'a> {
-    pub(crate) fn of(file: File<'a>, quick: Quick<'a>, index: usize, block: Block) -> Trace<'a> {
+    pub(crate) fn of(file: File<'a>, part: Part<'a>, index: usize, block: Block) -> Trace<'a> {
         Trace {
             file,
-            quick,
+            part,
             index,
             block,
         }
@@ -67,7 +73,7 @@ impl<'a> Trace<'a> {
         self.index
     }
 
-    /// Its block, as [`Quick::block`] answers it. Free.
+    /// Its block, as [`Quick::block`](crate::Quick::block) answers it. Free.
     ///
     /// ```
     /// # use seg2::{Builder, Order};
@@ -178,7 +184,7 @@ impl<'a> Trace<'a> {
     /// # Ok::<(), seg2::Refusal>(())
     /// ```
     pub fn string_count(&self) -> usize {
-        self.quick.string_count(self.index).unwrap_or_default()
+        self.part.string_count().unwrap_or_default()
     }
 
     /// Keyword and value of the string with this index; none past the last.
@@ -194,7 +200,7 @@ impl<'a> Trace<'a> {
     /// # Ok::<(), seg2::Refusal>(())
     /// ```
     pub fn string(&self, index: usize) -> Option<Pair<'a>> {
-        self.quick.string(self.index, index).unwrap_or_default()
+        self.part.string(index).unwrap_or_default()
     }
 
     /// Keyword and value of each string of its block, in order. Two calls, however many
@@ -211,7 +217,7 @@ impl<'a> Trace<'a> {
     /// # Ok::<(), seg2::Refusal>(())
     /// ```
     pub fn strings(&self) -> Strings<'a> {
-        self.quick.strings(self.index).unwrap_or_default()
+        self.part.strings().unwrap_or_default()
     }
 
     /// Whether its block has a keyword.
@@ -225,7 +231,7 @@ impl<'a> Trace<'a> {
     /// # Ok::<(), seg2::Refusal>(())
     /// ```
     pub fn has(&self, keyword: &[u8]) -> bool {
-        self.quick.has(self.index, keyword).unwrap_or_default()
+        self.part.has(keyword).unwrap_or_default()
     }
 
     /// The value of a keyword as the buffer's own bytes; none where the keyword is
@@ -249,7 +255,7 @@ impl<'a> Trace<'a> {
     /// # Ok::<(), seg2::Refusal>(())
     /// ```
     pub fn value(&self, keyword: &[u8]) -> Option<&'a [u8]> {
-        self.quick.value(self.index, keyword).unwrap_or_default()
+        self.part.value(keyword).unwrap_or_default()
     }
 
     /// The value of a keyword as a number; refusals as [`File::number`].
@@ -263,7 +269,7 @@ impl<'a> Trace<'a> {
     /// # Ok::<(), seg2::Refusal>(())
     /// ```
     pub fn number(&self, keyword: &[u8]) -> Result<Number, Refusal> {
-        self.quick.number(self.index, keyword)
+        self.part.number(keyword)
     }
 
     /// The value of a keyword as a double; refusals as [`File::double`].
@@ -277,7 +283,7 @@ impl<'a> Trace<'a> {
     /// # Ok::<(), seg2::Refusal>(())
     /// ```
     pub fn double(&self, keyword: &[u8]) -> Result<f64, Refusal> {
-        self.quick.double(self.index, keyword)
+        self.part.double(keyword)
     }
 
     /// The value of a keyword as a location; refusals as [`File::location`].
@@ -292,10 +298,11 @@ impl<'a> Trace<'a> {
     /// # Ok::<(), seg2::Refusal>(())
     /// ```
     pub fn location(&self, keyword: &[u8]) -> Result<Location, Refusal> {
-        self.quick.location(self.index, keyword)
+        self.part.location(keyword)
     }
 
-    /// The lines of its NOTE; none at all where it has none.
+    /// The lines of its NOTE; none at all where it has none. As [`File::note`] where the file
+    /// was read leniently.
     ///
     /// ```
     /// # use seg2::{Builder, Order};
@@ -335,7 +342,7 @@ impl<'a> Trace<'a> {
     /// # Ok::<(), seg2::Refusal>(())
     /// ```
     pub fn integers(&self) -> Result<Vec<i32>, Refusal> {
-        self.quick.integers_of(self.index, self.block)
+        self.part.integers(self.block)
     }
 
     /// The samples of codes 1 to 3 into a row of exactly S elements: 33 for another code,
@@ -354,7 +361,7 @@ impl<'a> Trace<'a> {
     /// # Ok::<(), seg2::Refusal>(())
     /// ```
     pub fn integers_into(&self, row: &mut [i32]) -> Result<(), Refusal> {
-        self.quick.integers_into(self.index, row)
+        self.part.integers_into(row)
     }
 
     /// The bit patterns of codes 4 and 5 with their classes; 33 for the others.
@@ -370,7 +377,7 @@ impl<'a> Trace<'a> {
     /// # Ok::<(), seg2::Refusal>(())
     /// ```
     pub fn bits(&self) -> Result<Bits, Refusal> {
-        self.quick.bits_of(self.index, self.block)
+        self.part.bits(self.block)
     }
 
     /// The bit patterns of codes 4 and 5 and their classes into two rows of exactly S
@@ -388,7 +395,7 @@ impl<'a> Trace<'a> {
     /// # Ok::<(), seg2::Refusal>(())
     /// ```
     pub fn bits_into(&self, row: &mut [u64], classes: &mut [u8]) -> Result<(), Refusal> {
-        self.quick.bits_into(self.index, row, classes)
+        self.part.bits_into(row, classes)
     }
 
     /// The samples of any code as doubles, for a plot. Exact but for one thing: a "not a
@@ -406,11 +413,11 @@ impl<'a> Trace<'a> {
     /// # Ok::<(), seg2::Refusal>(())
     /// ```
     pub fn doubles(&self) -> Result<Vec<f64>, Refusal> {
-        self.quick.doubles_of(self.index, self.block)
+        self.part.doubles(self.block)
     }
 }
 
-/// A trace block: [`Quick::block`] and [`Trace::block`].
+/// A trace block: [`Quick::block`](crate::Quick::block) and [`Trace::block`].
 ///
 /// ```
 /// # use seg2::{Builder, Order};
@@ -462,7 +469,7 @@ impl Block {
     }
 }
 
-/// Samples of codes 4 and 5: [`Trace::bits`] and [`Quick::bits`].
+/// Samples of codes 4 and 5: [`Trace::bits`] and [`Quick::bits`](crate::Quick::bits).
 ///
 /// ```
 /// # use seg2::{Builder, Order};

@@ -258,6 +258,156 @@ static void quickly(size_t length) {
     printf("%s\n", memcmp(before, buffer, size) == 0 ? "unchanged" : "changed");
 }
 
+/* The strict verdict that stands beside a lenient answer; the answer follows on the same line. */
+static void strictly(seg2_verdict strict) {
+    printf("strict %u %d %lu, ", (unsigned)strict.number, (int)strict.part, (unsigned long)strict.place);
+}
+
+/* Every lenient question, on a first trace of integers with two strings, each answer written to its place. */
+static void leniently_all(size_t length) {
+    const size_t size = sizeof buffer;
+    int32_t row[3] = {7, 7, 7};
+    uint64_t patterns[3] = {7, 7, 7};
+    uint8_t classes[3] = {7, 7, 7};
+    size_t places[8] = {7, 7, 7, 7, 7, 7, 7, 7};
+    seg2_lenient_verdict verdict;
+    seg2_lenient_file file;
+    seg2_lenient_trace trace;
+    seg2_lenient_count count;
+    struct seg2_lenient_string string;
+    struct seg2_lenient_keyword keyword;
+    struct seg2_lenient_value value;
+    struct seg2_lenient_number number;
+    struct seg2_lenient_double twice;
+    struct seg2_lenient_location location;
+
+    seg2_lenient_check(&verdict, buffer, size, length);
+    strictly(verdict.strict);
+    told_verdict("lenient check", verdict.answer);
+    seg2_lenient_file_block(&file, buffer, size, length);
+    strictly(file.strict);
+    refusal("lenient file", file.answer.number, file.answer.part, file.answer.place);
+    printf(" order %u M %lu N %lu terminators %lu %lu\n", (unsigned)file.answer.order, (unsigned long)file.answer.pointer_room,
+           (unsigned long)file.answer.trace_count, (unsigned long)file.answer.string_terminator_size,
+           (unsigned long)file.answer.line_terminator_size);
+    seg2_lenient_trace_block(&trace, buffer, size, length, 0);
+    strictly(trace.strict);
+    told_trace("lenient trace", trace.answer);
+    seg2_lenient_string_count(&count, buffer, size, length, 0);
+    strictly(count.strict);
+    told_count("lenient count", count.answer);
+    seg2_lenient_string(&string, buffer, size, length, 0, 1);
+    strictly(string.strict);
+    told_string("lenient string", string.answer);
+    seg2_lenient_strings(&verdict, buffer, size, length, 0, places, 8);
+    strictly(verdict.strict);
+    told_verdict("lenient strings", verdict.answer);
+    told_places(places);
+    told_places(places + 4);
+    seg2_lenient_keyword(&keyword, buffer, size, length, 0, bytes("STACK"), 5);
+    strictly(keyword.strict);
+    refusal("lenient keyword", keyword.answer.number, keyword.answer.part, keyword.answer.place);
+    printf(" found %u\n", (unsigned)keyword.answer.found);
+    seg2_lenient_value(&value, buffer, size, length, 0, bytes("STACK"), 5);
+    strictly(value.strict);
+    refusal("lenient value", value.answer.number, value.answer.part, value.answer.place);
+    printf(" '%.*s' at %lu\n", (int)value.answer.value_length, (const char *)buffer + value.answer.value_start,
+           (unsigned long)value.answer.value_start);
+    seg2_lenient_number(&number, buffer, size, length, 0, bytes("STACK"), 5);
+    strictly(number.strict);
+    told_number("lenient number", number.answer);
+    seg2_lenient_double(&twice, buffer, size, length, 0, bytes("STACK"), 5);
+    strictly(twice.strict);
+    told_double("lenient double", twice.answer);
+    seg2_lenient_location(&location, buffer, size, length, 0, bytes("STACK"), 5);
+    strictly(location.strict);
+    told_location("lenient location", location.answer);
+    seg2_lenient_integers(&verdict, buffer, size, length, 0, row, 3);
+    strictly(verdict.strict);
+    told_verdict("lenient integers", verdict.answer);
+    printf("row %d %d %d\n", (int)row[0], (int)row[1], (int)row[2]);
+    seg2_lenient_bits(&verdict, buffer, size, length, 0, patterns, 3, classes, 3);
+    strictly(verdict.strict);
+    told_verdict("lenient bits", verdict.answer);
+    printf("row %lu %u\n", (unsigned long)patterns[0], (unsigned)classes[0]);
+}
+
+/* Their own refusals and noes, in the form that returns the answer. */
+static void leniently_wrongly(size_t length) {
+    const size_t size = sizeof buffer;
+    int32_t row[4] = {7, 7, 7, 7};
+    uint64_t patterns[3] = {7, 7, 7};
+    uint8_t classes[3] = {7, 7, 7};
+    size_t places[8] = {7, 7, 7, 7, 7, 7, 7, 7};
+
+    strictly(seg2_lenient_file_block_of(buffer, size, size + 1).strict);
+    told_verdict("lenient over the buffer", seg2_lenient_check_of(buffer, size, size + 1).answer);
+    told_trace("lenient trace -1", seg2_lenient_trace_block_of(buffer, size, length, -1).answer);
+    told_count("lenient count of trace 1", seg2_lenient_string_count_of(buffer, size, length, 1).answer);
+    told_string("lenient string past the last", seg2_lenient_string_of(buffer, size, length, 0, 2).answer);
+    told_verdict("7 lenient places", seg2_lenient_strings_of(buffer, size, length, 0, places, 7).answer);
+    printf("no lenient keyword: %u\n", (unsigned)seg2_lenient_keyword_of(buffer, size, length, 0, bytes(""), 0).answer.found);
+    printf("asked in small letters: %u\n", (unsigned)seg2_lenient_keyword_of(buffer, size, length, 0, bytes("stack"), 5).answer.found);
+    printf("no lenient value: %lu\n", (unsigned long)seg2_lenient_value_of(buffer, size, length, -1, bytes("STACK"), 5).answer.value_start);
+    told_number("no lenient number", seg2_lenient_number_of(buffer, size, length, -1, bytes("UNITS"), 5).answer);
+    told_double("no lenient double", seg2_lenient_double_of(buffer, size, length, -1, bytes("STACK"), 5).answer);
+    told_location("no lenient location", seg2_lenient_location_of(buffer, size, length, 0, bytes("UNITS"), 5).answer);
+    told_verdict("a lenient row of 4", seg2_lenient_integers_of(buffer, size, length, 0, row, 4).answer);
+    told_verdict("lenient bits of trace 1", seg2_lenient_bits_of(buffer, size, length, 1, patterns, 3, classes, 3).answer);
+    printf("row %d %lu %u\n", (int)row[0], (unsigned long)patterns[0], (unsigned)classes[0]);
+    told_places(places);
+}
+
+/* document 02, section 11: a file that keeps the rules, then as older recorders have it, one habit after the other */
+static void leniently(void) {
+    const size_t size = sizeof buffer;
+    const int32_t samples[3] = {1, -1, 256};
+    const uint64_t doubles[2] = {0x7FF0000000000000u, 0x8000000000000000u};
+    uint64_t patterns[2] = {7, 7};
+    uint8_t classes[2] = {7, 7};
+    seg2_length answer;
+    size_t length = told_length("start", seg2_start_of(buffer, size, SEG2_LOW_FIRST, 2, bytes("UNITS\tMETERS\n"), 13));
+    size_t strings;
+
+    length = told_length("add", seg2_add_integers_of(buffer, size, length, bytes("DELAY\t2\nSTACK\t4.50\n"), 19, SEG2_FIXED_16, samples, 3));
+    strings = seg2_trace_block_of(buffer, size, length, 0).start + 32;
+    printf("strings at %lu\n", (unsigned long)strings);
+    leniently_all(length);
+
+    /* small letters, and the first keyword again: offset, keyword, space, value and terminator are 10 bytes */
+    memcpy(buffer + strings + 2, "stack", 5);
+    memcpy(buffer + strings + 12, "Stack", 5);
+    memcpy(before, buffer, size);
+    leniently_all(length);
+    leniently_wrongly(length);
+    printf("%s\n", memcmp(before, buffer, size) == 0 ? "unchanged" : "changed");
+    told_length("no addition", seg2_add_integers_of(buffer, size, length, bytes(""), 0, SEG2_FIXED_16, samples, 3));
+
+    /* what is not forgiven, behind what is: the strict row is the earlier one */
+    buffer[strings + 12] = 0xE9;
+    leniently_all(length);
+    buffer[strings + 12] = 'S';
+
+    /* no end mark: the second string takes the 2 bytes of the mark and the 3 behind it, so it ends where the block does */
+    memcpy(buffer + strings + 2, "DELAY", 5);
+    memcpy(buffer + strings + 12, "STACK", 5);
+    buffer[strings + 10] = 18;
+    memcpy(buffer + strings + 22, "00000", 6);
+    leniently_all(length);
+
+    /* floats, in a file that is read leniently alone */
+    length = told_length("start", seg2_start_of(buffer, size, SEG2_HIGH_FIRST, 1, bytes("UNITS\tMETERS\n"), 13));
+    seg2_add_bits(&answer, buffer, size, length, bytes(""), 0, SEG2_FLOAT_64, doubles, 2);
+    length = told_length("add", answer);
+    buffer[38] = 'u';
+    {
+        seg2_lenient_verdict verdict = seg2_lenient_bits_of(buffer, size, length, 0, patterns, 2, classes, 2);
+        strictly(verdict.strict);
+        told_verdict("lenient bits", verdict.answer);
+        told_patterns(patterns, classes);
+    }
+}
+
 /* A number that a user typed, and its text as a sheet gets it: with its own decimals. No file is needed for either. */
 static void numbers_and_texts(void) {
     const char *const typed[] = {"0.250", "12", "2.50E-3", "-00.0", "0,25", "1E100", "", "-1.23456789012345678E-99"};
@@ -381,6 +531,7 @@ int main(void) {
         printf("%u in trace %d at its first string %d: %s\n", (unsigned)v.number, (int)v.part, v.place == offset, seg2_text(v.number));
     }
     channels();
+    leniently();
     for (i = 0; i < 100; i++) {
         printf("%u %s\n", (unsigned)i, seg2_text(i));
     }

@@ -169,6 +169,98 @@ unchanged
 channel 2: 0 -1 0 length 184
 both: 0 -1 0
 34 in trace 1 where its strings start 1
+start: 0 -1 0 length 60
+add: 0 -1 0 length 128
+strings at 92
+strict 0 -1 0, lenient check: 0 -1 0
+strict 0 -1 0, lenient file: 0 -1 0 order 0 M 8 N 1 terminators 1 1
+strict 0 -1 0, lenient trace: 0 -1 0 p 60 B 60 D 8 S 3 code 1
+strict 0 -1 0, lenient count: 0 -1 0 2
+strict 0 -1 0, lenient string: 0 -1 0 found 1 'STACK' '4.50'
+strict 0 -1 0, lenient strings: 0 -1 0
+places 94 5 100 1
+places 104 5 110 4
+strict 0 -1 0, lenient keyword: 0 -1 0 found 1
+strict 0 -1 0, lenient value: 0 -1 0 '4.50' at 110
+strict 0 -1 0, lenient number: 0 -1 0 minus 0 450 E -2 decimals 2
+strict 0 -1 0, lenient double: 0 -1 0 4.5
+strict 0 -1 0, lenient location: 0 -1 0 count 1 4.5 0 0 decimals 2 0 0
+strict 0 -1 0, lenient integers: 0 -1 0
+row 1 -1 256
+strict 0 -1 0, lenient bits: 33 -1 0
+row 7 7
+strict 16 0 92, lenient check: 0 -1 0
+strict 16 0 92, lenient file: 0 -1 0 order 0 M 8 N 1 terminators 1 1
+strict 16 0 92, lenient trace: 0 -1 0 p 60 B 60 D 8 S 3 code 1
+strict 16 0 92, lenient count: 0 -1 0 2
+strict 16 0 92, lenient string: 0 -1 0 found 1 'Stack' '4.50'
+strict 16 0 92, lenient strings: 0 -1 0
+places 94 5 100 1
+places 104 5 110 4
+strict 16 0 92, lenient keyword: 0 -1 0 found 1
+strict 16 0 92, lenient value: 0 -1 0 '2' at 100
+strict 16 0 92, lenient number: 0 -1 0 minus 0 2 E 0 decimals 0
+strict 16 0 92, lenient double: 0 -1 0 2
+strict 16 0 92, lenient location: 0 -1 0 count 1 2 0 0 decimals 0 0 0
+strict 16 0 92, lenient integers: 0 -1 0
+row 1 -1 256
+strict 16 0 92, lenient bits: 33 -1 0
+row 7 7
+strict 1 -1 0, lenient over the buffer: 1 -1 0
+lenient trace -1: 18 -1 0 p 0 B 0 D 0 S 0 code 0
+lenient count of trace 1: 18 -1 0 0
+lenient string past the last: 0 -1 0 found 0 '' ''
+7 lenient places: 32 -1 0
+no lenient keyword: 0
+asked in small letters: 0
+no lenient value: 0
+no lenient number: 20 -1 0 minus 0 0 E 0 decimals 0
+no lenient double: 20 -1 0 0
+no lenient location: 23 -1 0 count 0 0 0 0 decimals 0 0 0
+a lenient row of 4: 32 -1 0
+lenient bits of trace 1: 18 -1 0
+row 7 7 7
+places 7 7 7 7
+unchanged
+no addition: 16 0 92 length 0
+strict 16 0 92, lenient check: 16 0 102
+strict 16 0 92, lenient file: 16 0 102 order 0 M 0 N 0 terminators 0 0
+strict 16 0 92, lenient trace: 16 0 102 p 0 B 0 D 0 S 0 code 0
+strict 16 0 92, lenient count: 16 0 102 0
+strict 16 0 92, lenient string: 16 0 102 found 0 '' ''
+strict 16 0 92, lenient strings: 16 0 102
+places 7 7 7 7
+places 7 7 7 7
+strict 16 0 92, lenient keyword: 16 0 102 found 0
+strict 16 0 92, lenient value: 16 0 102 '' at 0
+strict 16 0 92, lenient number: 16 0 102 minus 0 0 E 0 decimals 0
+strict 16 0 92, lenient double: 16 0 102 0
+strict 16 0 92, lenient location: 16 0 102 count 0 0 0 0 decimals 0 0 0
+strict 16 0 92, lenient integers: 16 0 102
+row 7 7 7
+strict 16 0 92, lenient bits: 16 0 102
+row 7 7
+strict 14 0 120, lenient check: 0 -1 0
+strict 14 0 120, lenient file: 0 -1 0 order 0 M 8 N 1 terminators 1 1
+strict 14 0 120, lenient trace: 0 -1 0 p 60 B 60 D 8 S 3 code 1
+strict 14 0 120, lenient count: 0 -1 0 2
+strict 14 0 120, lenient string: 0 -1 0 found 1 'STACK' '4.5000000'
+strict 14 0 120, lenient strings: 0 -1 0
+places 94 5 100 1
+places 104 5 110 9
+strict 14 0 120, lenient keyword: 0 -1 0 found 1
+strict 14 0 120, lenient value: 0 -1 0 '4.5000000' at 110
+strict 14 0 120, lenient number: 0 -1 0 minus 0 45000000 E -7 decimals 7
+strict 14 0 120, lenient double: 0 -1 0 4.5
+strict 14 0 120, lenient location: 0 -1 0 count 1 4.5 0 0 decimals 7 0 0
+strict 14 0 120, lenient integers: 0 -1 0
+row 1 -1 256
+strict 14 0 120, lenient bits: 33 -1 0
+row 7 7
+start: 0 -1 0 length 56
+add: 0 -1 0 length 108
+strict 16 -1 36, lenient bits: 0 -1 0
+row 7FF0000000000000 3 8000000000000000 0
 ";
 
 /// The answers, then the words of each number of two digits, which are those of the Rust
@@ -224,7 +316,7 @@ fn a_size_t_of_32_bits_is_refused() {
 
 #[test]
 fn a_cpp_program_gets_them_too() {
-    let options = ["-x", "c++", "-std=c++11"];
+    let options = [&["-x", "c++", "-std=c++11"], &SANITIZED[..]].concat();
     match compiled(
         "c++",
         &options,
@@ -339,4 +431,28 @@ fn the_lines_on_one_trace_in_the_docs_work() {
     );
     let told = printed_by("one-trace", &program);
     assert_eq!(told, "8\n0 DELAY=0\n0 STACK=4\n1 STACK=8\n");
+}
+
+#[test]
+fn the_lines_on_older_recorders_in_the_docs_work() {
+    let (before, list) = (before(), lines_of_c(4));
+    let program = format!(
+        "{before}{list}
+        int main(void) {{
+            static uint8_t buffer[400];
+            const size_t size = sizeof buffer;
+            const int32_t row[1] = {{1}};
+            size_t length = seg2_start_of(buffer, size, SEG2_LOW_FIRST, 1, TEXT(\"UNITS\\tMETERS\\n\")).length;
+            length = seg2_add_integers_of(buffer, size, length, TEXT(\"DELAY\\t0\\nSTACK\\t4\\n\"), SEG2_FIXED_16, row, 1).length;
+            list_old(buffer, size, length, 0);
+            buffer[seg2_value_of(buffer, size, length, 0, TEXT(\"STACK\")).value_start - 5] = 't';
+            list_old(buffer, size, length, 0);
+            list_old(buffer, size, length - 1, 0);
+            return 0;
+        }}\n"
+    );
+    let (small, cut) = (seg2::text(16), seg2::text(11));
+    let listed = "DELAY=0\nSTACK=4\n";
+    let told = format!("{listed}an old file: {small}\n{listed}refused: {cut}\n");
+    assert_eq!(printed_by("older-recorders", &program), told);
 }

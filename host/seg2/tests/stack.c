@@ -55,7 +55,7 @@ static int32_t integers[SAMPLES];
 static uint64_t patterns[SAMPLES];
 static uint8_t classes[SAMPLES];
 static size_t samples;
-static size_t places[4 * (STRINGS + 1)];
+static size_t places[4 * (STRINGS + 1)], lenient_places[4 * (STRINGS + 1)];
 static uint32_t order = SEG2_HIGH_FIRST, code_of_integers, code_of_bits;
 static int32_t part;
 static const uint8_t key[] = "NOTE";
@@ -78,6 +78,16 @@ static struct seg2_value quick_value;
 static struct seg2_number quick_number;
 static struct seg2_double quick_twice;
 static struct seg2_location quick_location;
+static seg2_lenient_verdict lenient_verdict;
+static seg2_lenient_file lenient_file;
+static seg2_lenient_trace lenient_trace;
+static seg2_lenient_count lenient_count;
+static struct seg2_lenient_string lenient_string;
+static struct seg2_lenient_keyword lenient_keyword;
+static struct seg2_lenient_value lenient_value;
+static struct seg2_lenient_number lenient_number;
+static struct seg2_lenient_double lenient_twice;
+static struct seg2_lenient_location lenient_location;
 static seg2_length written;
 /* the number whose text has the most bytes, and its text as a user types it: every part of a number is there */
 static const uint8_t typed[] = "-1.23456789012345678E-99";
@@ -110,6 +120,21 @@ static void call_quick_double(void) { seg2_quick_double(&quick_twice, buffer, si
 static void call_quick_location(void) { seg2_quick_location(&quick_location, buffer, size, length, 0, key, 4); }
 static void call_quick_integers(void) { quick_verdict = seg2_quick_integers(buffer, size, length, 0, integers, samples); }
 static void call_quick_bits(void) { quick_verdict = seg2_quick_bits(buffer, size, length, 1, patterns, samples, classes, samples); }
+static void call_lenient_check(void) { seg2_lenient_check(&lenient_verdict, buffer, size, length); }
+static void call_lenient_file_block(void) { seg2_lenient_file_block(&lenient_file, buffer, size, length); }
+static void call_lenient_trace_block(void) { seg2_lenient_trace_block(&lenient_trace, buffer, size, length, 0); }
+static void call_lenient_string_count(void) { seg2_lenient_string_count(&lenient_count, buffer, size, length, part); }
+static void call_lenient_string(void) { seg2_lenient_string(&lenient_string, buffer, size, length, part, lenient_count.answer.count - 1); }
+static void call_lenient_strings(void) {
+    seg2_lenient_strings(&lenient_verdict, buffer, size, length, part, lenient_places, 4 * lenient_count.answer.count);
+}
+static void call_lenient_keyword(void) { seg2_lenient_keyword(&lenient_keyword, buffer, size, length, part, key, 4); }
+static void call_lenient_value(void) { seg2_lenient_value(&lenient_value, buffer, size, length, part, key, 4); }
+static void call_lenient_number(void) { seg2_lenient_number(&lenient_number, buffer, size, length, part, key, 4); }
+static void call_lenient_double(void) { seg2_lenient_double(&lenient_twice, buffer, size, length, part, key, 4); }
+static void call_lenient_location(void) { seg2_lenient_location(&lenient_location, buffer, size, length, part, key, 4); }
+static void call_lenient_integers(void) { seg2_lenient_integers(&lenient_verdict, buffer, size, length, 0, integers, samples); }
+static void call_lenient_bits(void) { seg2_lenient_bits(&lenient_verdict, buffer, size, length, 1, patterns, samples, classes, samples); }
 static void call_read_number(void) { seg2_read_number(&read_back, typed, sizeof typed - 1); }
 static void call_write_number(void) { seg2_write_number(&text_length, text, sizeof text, 1, 123456789012345678u, -116, 17); }
 static void call_start(void) { seg2_start(&written, buffer, size, order, TRACES, sheet, sheet_size); }
@@ -148,6 +173,19 @@ static struct {
     {"seg2_quick_location", call_quick_location, 0},
     {"seg2_quick_integers", call_quick_integers, 0},
     {"seg2_quick_bits", call_quick_bits, 0},
+    {"seg2_lenient_check", call_lenient_check, 0},
+    {"seg2_lenient_file_block", call_lenient_file_block, 0},
+    {"seg2_lenient_trace_block", call_lenient_trace_block, 0},
+    {"seg2_lenient_string_count", call_lenient_string_count, 0},
+    {"seg2_lenient_string", call_lenient_string, 0},
+    {"seg2_lenient_strings", call_lenient_strings, 0},
+    {"seg2_lenient_keyword", call_lenient_keyword, 0},
+    {"seg2_lenient_value", call_lenient_value, 0},
+    {"seg2_lenient_number", call_lenient_number, 0},
+    {"seg2_lenient_double", call_lenient_double, 0},
+    {"seg2_lenient_location", call_lenient_location, 0},
+    {"seg2_lenient_integers", call_lenient_integers, 0},
+    {"seg2_lenient_bits", call_lenient_bits, 0},
     {"seg2_read_number", call_read_number, 0},
     {"seg2_write_number", call_write_number, 0},
 };
@@ -166,8 +204,26 @@ static void run(size_t i) {
     }
 }
 
-/* A file with so many traces and samples, sheets of so many strings: written, then asked everything. */
+/* The lenient answers of what `whole` has written, with this strict row beside each. */
+static void read_leniently(uint32_t strict, size_t traces, size_t strings) {
+    must(lenient_verdict.answer.number == 0 && lenient_verdict.strict.number == strict, "another lenient verdict");
+    must(lenient_file.answer.trace_count == traces && lenient_file.strict.number == strict, "another block of the file, read leniently");
+    must(lenient_trace.answer.sample_count == samples && lenient_trace.strict.number == strict, "another block, read leniently");
+    must(lenient_count.answer.count == strings + 1 && lenient_count.strict.number == strict, "another number of strings, counted leniently");
+    must(lenient_string.answer.found == 1 && lenient_string.strict.number == strict, "no last string, read leniently");
+    must(lenient_places[4 * strings] == lenient_string.answer.key_start, "another last keyword in the lenient row");
+    must(lenient_places[4 * strings + 3] == 3, "another last value in the lenient row");
+    must(lenient_keyword.answer.found == 1 && lenient_keyword.strict.number == strict, "no NOTE found leniently");
+    must(lenient_value.answer.value_length == 3 && lenient_value.strict.number == strict, "another NOTE, read leniently");
+    must(lenient_number.answer.coefficient == 15 && lenient_number.strict.number == strict, "another number, read leniently");
+    must(lenient_twice.answer.value == 1.5 && lenient_twice.strict.number == strict, "another double, read leniently");
+    must(lenient_location.answer.x == 1.5 && lenient_location.strict.number == strict, "another location, read leniently");
+}
+
+/* A file with so many traces and samples, sheets of so many strings: written, then asked everything; the lenient questions also where its
+ * first keyword begins with a small letter, so that the strict check stops there and the lenient one goes on. */
 static void whole(uint32_t of_integers, uint32_t of_bits, size_t traces, size_t samples_each, size_t strings) {
+    const size_t first = 32 + 4 * TRACES + 2; /* where the keyword of the file's first string begins */
     size_t i;
     samples = samples_each;
     code_of_integers = of_integers;
@@ -211,6 +267,15 @@ static void whole(uint32_t of_integers, uint32_t of_bits, size_t traces, size_t 
         must(quick_trace.sample_count == samples && quick_trace.start == trace.start, "another block, read quickly");
         must(read_back.coefficient == 123456789012345678u && read_back.power == -116 && read_back.decimals == 17, "another number was typed");
         must(text_length.length == sizeof typed - 1 && memcmp(text, typed, sizeof text) == 0, "another text was written");
+        read_leniently(SEG2_ACCEPTED, traces, strings);
+        buffer[first] = 'k';
+        for (i = 3; i < sizeof all / sizeof all[0]; i++) {
+            if (strncmp(all[i].name, "seg2_lenient_", 13) == 0) {
+                run(i);
+            }
+        }
+        buffer[first] = 'K';
+        read_leniently(SEG2_CHARACTER, traces, strings);
     }
 }
 

@@ -56,7 +56,7 @@ fn every_function_runs_on_a_stack_of_32_kib() {
     let face = std::fs::read_to_string(root().join("crates/seg2/src/lib.rt")).expect("the face");
     let exported = face.split("extern \"C\" fn ").skip(1);
     let names: Vec<&str> = exported.filter_map(|rest| rest.split('(').next()).collect();
-    assert!(names.len() >= 29);
+    assert!(names.len() >= 42);
     for name in names {
         let line = used
             .lines()
@@ -87,7 +87,7 @@ fn code_3_is_read_on_at_most_64_bytes_more_than_code_2() {
 fn no_call_goes_deeper_than_its_frames() {
     let used = numbers(&printed(&program("stack-frames")));
     let bounds = bounds();
-    assert!(bounds.len() >= 29);
+    assert!(bounds.len() >= 42);
     for (name, bound) in bounds {
         // in the paint is also what the test has above the call: what a call of nothing
         // has, and at most 64 bytes of the function that makes it

@@ -31,6 +31,7 @@ const fn known(name: &'static str, value: &'static str, does: &'static str) -> K
 }
 
 const JSON: Known = known("--json", "", "an object a line for each file");
+const LENIENT: Known = known("--lenient", "", "reads files of older recorders too");
 
 pub const COMMANDS: [Command; 7] = [
     Command {
@@ -43,6 +44,7 @@ pub const COMMANDS: [Command; 7] = [
                 "",
                 "tells of refused files alone, without the last line",
             ),
+            LENIENT,
             JSON,
         ],
         more: "
@@ -50,8 +52,19 @@ A folder stands for every plain file in it and in its folders, in sorted order; 
 folders are not followed. Behind several files a last line counts the accepted and the
 refused ones.
 
+--lenient forgives what older recorders do: keywords in lower case, in any order or several
+times, lists of strings that fill their room and have no end mark, channel numbers in some
+traces alone. It forgives nothing else. A file that keeps the rules is accepted; one that
+needs this is accepted leniently, and the rule that it breaks first is told, what is
+forgiven there, and what in the whole file. The exit status is 0 for both, and the last line
+counts them apart. No trace can be added to a file that is accepted leniently.
+
 --json: name, accepted; where it is not, number, part (-1 the file, else the trace),
-place, text, found, to_do; where the file cannot be read, error instead.
+place, text, found, to_do; where the file cannot be read, error instead. With --lenient
+also lenient: true where the file is accepted leniently alone. Then strict has the refusal
+of the strict rules (number to to_do), and forgiven the counts lower_case, order (keywords
+out of order or repeated), end_marks and channel_numbers. A refused file has strict where
+the strict rules stop at another place or by another number.
 ",
         run: check::run,
     },
@@ -59,18 +72,23 @@ place, text, found, to_do; where the file cannot be read, error instead.
         name: "list",
         words: "FILE..",
         does: "its blocks and strings, with tabs between the fields",
-        options: &[JSON],
+        options: &[LENIENT, JSON],
         more: "
 Lines: SEG2, order, traces, bytes of pointer room; S, part (F the file), keyword, value;
 T, trace, code, samples; R, number, part, place where the file is refused. A tab in a
 value is printed as a space, each line of a NOTE as a line of its own. Of several files
 each begins with a line FILE, name.
 
+--lenient reads what `seg2 check --lenient` accepts. Keywords are listed in capitals, as
+they count, in the order of the file, repeats too. Where the strict rules refuse the file,
+standard error says so, and the exit status is 0.
+
 --json: name, accepted, order, pointer_room, strings, traces; a trace has index, code,
 sample_count, strings; a string has keyword and value, a NOTE also lines. Strings are
 bytes: one outside ASCII is told as the character of its number, so E9h as \\u00e9. The
 name is told as text; where it is none, byte by byte as well, with its bytes in
-hexadecimal as name_bytes. A refused file is told as by check --json.
+hexadecimal as name_bytes. A refused file is told as by check --json; with --lenient there
+are also lenient and strict, as by check.
 ",
         run: list::run,
     },
@@ -183,10 +201,10 @@ one directly behind the other. Where a file, a sheet or samples are read, - is s
 input. --name=value is --name value; behind -- stand no options. `seg2 COMMAND --help`
 tells more of a command, `seg2 --version` the version.
 
-Exit status: 0 done, and every file that was checked is accepted; 1 a file, a sheet or a
-sample was refused, or a keyword is not there; 2 something cannot be read, written or
-understood. A file is checked whole before anything of it is told, but for the text of a
-trace's value.
+Exit status: 0 done, and every file that was checked is accepted, with --lenient perhaps
+leniently; 1 a file, a sheet or a sample was refused, or a keyword is not there; 2 something
+cannot be read, written or understood. A file is checked whole before anything of it is
+told, but for the text of a trace's value.
 ";
 
 /// What --version prints.

@@ -1,6 +1,6 @@
 //! JSON, as much as the tool prints: objects, rows, texts and whole numbers.
 
-use crate::words::Told;
+use crate::words::{Forgiven, Leniently, Told};
 use std::ffi::OsStr;
 use std::fmt::Write as _;
 use std::os::unix::ffi::OsStrExt;
@@ -51,17 +51,52 @@ impl Object {
 
 /// A file that is refused, as every command tells it.
 pub fn refused(name: &OsStr, told: &Told) -> String {
-    let refusal = told.refusal;
+    refusal(Object::of(name).field("accepted", false), told).end()
+}
+
+/// The same with --lenient: the strict refusal too, where it is another.
+pub fn refused_leniently(name: &OsStr, told: &Told) -> String {
     let object = Object::of(name).field("accepted", false);
+    let object = refusal(object.field("lenient", false), told);
+    match &told.strict {
+        Some(strict) => object.field("strict", refusal(Object::new(), strict).end()),
+        None => object,
+    }
+    .end()
+}
+
+/// With --lenient: a file that is accepted, and whether leniently alone. Then the strict
+/// refusal follows.
+pub fn accepted_leniently(name: &OsStr, leniently: Option<&Leniently>) -> Object {
+    let object = Object::of(name).field("accepted", true);
+    let object = object.field("lenient", leniently.is_some());
+    match leniently {
+        Some(Leniently { strict, .. }) => {
+            object.field("strict", refusal(Object::new(), strict).end())
+        }
+        None => object,
+    }
+}
+
+/// How often the strict rules are broken in such a file.
+pub fn forgiven(all: &Forgiven) -> String {
+    Object::new()
+        .field("lower_case", all.letters)
+        .field("order", all.order)
+        .field("end_marks", all.marks)
+        .field("channel_numbers", all.channels)
+        .end()
+}
+
+/// The fields of a refusal.
+fn refusal(object: Object, told: &Told) -> Object {
+    let refusal = told.refusal;
     let object = object
         .field("number", refusal.number)
         .field("part", refusal.part)
         .field("place", refusal.place);
     let object = object.text("text", refusal.text());
-    object
-        .text("found", &told.found)
-        .text("to_do", told.to_do)
-        .end()
+    object.text("found", &told.found).text("to_do", &told.to_do)
 }
 
 /// A file that cannot be read.

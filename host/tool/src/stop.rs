@@ -33,6 +33,11 @@ pub fn unheard() -> Stop {
     unusable(String::new())
 }
 
+/// Says on standard error what stands beside an answer, and ends nothing.
+pub fn say_beside(sentence: &str) {
+    let _ = writeln!(std::io::stderr(), "seg2: {sentence}");
+}
+
 impl Stop {
     pub fn is_unheard(&self) -> bool {
         self.sentence.is_empty()

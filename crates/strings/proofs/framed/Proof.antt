@@ -13,31 +13,17 @@ framed-spec =
     tie.close
     (tie.spec
     (λ c κs. search needs)
-    (λ c. frame-short _ _ _ _ (sym (c .before .is-cut .ensures) ∙ c .if1 .taken))
-    (λ c. frame-none _ _ _ _ (sym (c .before .before .is-cut .ensures) ∙ c .before .if1 .left) (c .if2 .taken))
+    (λ c. frame-short _ _ _ _ (sym (c .before .is-cut .ensures) ∙ c .if2 .taken))
+    (λ c. frame-none _ _ _ _ (sym (c .before .is-cut .ensures) ∙ c .if2 .left) (c .before .before .if1 .taken))
     (λ c κs. search needs)
-    (λ c.
-    let at-word2 = c .before in
-    let at-if1 = at-word2 .before .before in
-    let at-is-cut = at-if1 .before in
-    frame-end _ _ _ _ _ (at-word2 .word2 .ensures .0) (sym (at-is-cut .is-cut .ensures) ∙ at-if1 .if1 .left) (c .if3 .taken))
-    (λ c.
-    let at-word2 = c .before .before in
-    let at-if1 = at-word2 .before .before in
-    let at-is-cut = at-if1 .before in
-    frame-small _ _ _ _ _ (at-word2 .word2 .ensures .0) (sym (at-is-cut .is-cut .ensures) ∙ at-if1 .if1 .left) (omega
-    arith) (omega arith))
+    (λ c. let at-word2 = c .before in frame-end _ _ _ _ _ (at-word2 .word2 .ensures .0) (omega arith) (c .if3 .taken))
+    (λ c. let at-word2 = c .before .before in frame-small _ _ _ _ _ (at-word2 .word2 .ensures .0) (omega arith) (omega arith) (omega arith))
     (λ c.
     let at-word2 = c .before .before .before in
-    let at-if1 = at-word2 .before .before in
-    let at-is-cut = at-if1 .before in
-    frame-small _ _ _ _ _ (at-word2 .word2 .ensures .0) (sym (at-is-cut .is-cut .ensures) ∙ at-if1 .if1 .left) (omega
-    arith) (omega arith))
+    frame-small _ _ _ _ _ (at-word2 .word2 .ensures .0) (omega arith) (omega arith) (omega arith))
     (λ c.
     let at-word2 = c .before .before .before .before in
-    let at-if1 = at-word2 .before .before in
-    let at-is-cut = at-if1 .before in
-    frame-past _ _ _ _ _ (at-word2 .word2 .ensures .0) (sym (at-is-cut .is-cut .ensures) ∙ at-if1 .if1 .left) (omega arith) (omega arith))
+    frame-past _ _ _ _ _ (at-word2 .word2 .ensures .0) (omega arith) (omega arith) (omega arith))
     (λ c. search needs)
     (λ c. search needs)
     (λ c. search needs)
@@ -46,14 +32,10 @@ framed-spec =
     (λ c.
     let at-is-same = c .before in
     let at-word2 = at-is-same .before .before .before .before .before .before in
-    let at-if1 = at-word2 .before .before in
-    let at-is-cut = at-if1 .before in
-    frame-open _ _ _ _ _ (at-word2 .word2 .ensures .0) (sym (at-is-cut .is-cut .ensures) ∙ at-if1 .if1 .left) (omega
-    arith) (omega arith) (sym (at-is-same .is-same .ensures) ∙ not-true _ (c .if7 .taken)))
+    frame-open _ _ _ _ _ (at-word2 .word2 .ensures .0) (omega arith) (omega arith) (omega arith)
+    (sym (at-is-same .is-same .ensures) ∙ not-true _ (c .if7 .taken)))
     (λ c.
     let at-is-same = c .before in
     let at-word2 = at-is-same .before .before .before .before .before .before in
-    let at-if1 = at-word2 .before .before in
-    let at-is-cut = at-if1 .before in
-    frame-text _ _ _ _ _ (at-word2 .word2 .ensures .0) (sym (at-is-cut .is-cut .ensures) ∙ at-if1 .if1 .left) (omega
-    arith) (omega arith) (sym (at-is-same .is-same .ensures) ∙ not-false _ (c .if7 .left))))
+    frame-text _ _ _ _ _ (at-word2 .word2 .ensures .0) (omega arith) (omega arith) (omega arith)
+    (sym (at-is-same .is-same .ensures) ∙ not-false _ (c .if7 .left))))

@@ -9,11 +9,17 @@ use crate::refusal::Refusal;
 
 /// A valid file with random changes; nothing is known about it.
 pub fn mutated(rng: &mut Rng) -> (Vec<u8>, usize) {
+    let laid = Model::random(rng).lay();
+    mutated_laid(rng, laid)
+}
+
+/// The given file with random changes.
+pub(super) fn mutated_laid(rng: &mut Rng, laid: Laid) -> (Vec<u8>, usize) {
     let Laid {
         mut buffer,
         mut length,
         ..
-    } = Model::random(rng).lay();
+    } = laid;
     for _ in 0..rng.between(1, 5) {
         let at = rng.between(0, buffer.len() - 1);
         // Most often in the fixed part, the pointers and the first strings.

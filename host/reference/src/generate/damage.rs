@@ -24,6 +24,8 @@ pub struct Way {
     pub number: u8,
     pub name: &'static str,
     pub scope: Scope,
+    /// Whether the lenient reading takes what it does (document 02, §11).
+    pub forgiven: bool,
     how: How,
 }
 
@@ -163,7 +165,7 @@ pub fn several_damages(rng: &mut Rng) -> Damaged {
 /// When a refusal's row has its turn: "1 to 7 first, then the first pointer, then
 /// the file's strings, then each trace 8 to 17. Strings are taken one by one, 14
 /// to 17 each"; 34 "after 17 within each trace".
-fn turn(refusal: &Refusal) -> (i64, u64, u8) {
+pub(super) fn turn(refusal: &Refusal) -> (i64, u64, u8) {
     let Refusal {
         number,
         part,
@@ -185,7 +187,17 @@ impl Way {
             number,
             name,
             scope,
+            // "17 and 34 are never given here"
+            forgiven: matches!(number, 17 | 34),
             how,
+        }
+    }
+
+    /// One of the three points in which 14 and 16 are not as in document 01.
+    pub(super) const fn forgiven(self) -> Way {
+        Way {
+            forgiven: true,
+            ..self
         }
     }
 

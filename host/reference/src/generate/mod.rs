@@ -6,8 +6,8 @@
 //! breaks one rule of such a file in one named way and knows the refusal it must
 //! give. The inputs of rows 18 to 33 and 35 are in [`asking`], [`numbers`], [`forged`],
 //! [`sheets`] and [`writing`], the values of rows 34 and 35 in [`channels`], questions of one
-//! trace in [`quick`]; [`plain`] makes a file around one text or data block. The same seed
-//! gives the same cases on every machine.
+//! trace in [`quick`], files of older recorders in [`old`]; [`plain`] makes a file around one
+//! text or data block. The same seed gives the same cases on every machine.
 
 pub mod asking;
 pub mod channels;
@@ -17,6 +17,7 @@ pub mod forged;
 pub mod lay;
 pub mod model;
 pub mod numbers;
+pub mod old;
 pub mod plain;
 pub mod quick;
 pub mod rng;
@@ -31,6 +32,7 @@ pub use forged::{forged_number, number_edges};
 pub use lay::Laid;
 pub use model::Model;
 pub use numbers::{location_case, number_case, LocationCase, NumberCase};
+pub use old::{mutated_old, old_case, old_damaged, OldCase};
 pub use plain::{plain_file, PlainTrace};
 pub use quick::{quick_case, quick_key, QuickAsked, QuickCase, QuickTold};
 pub use rng::Rng;

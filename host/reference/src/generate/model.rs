@@ -223,6 +223,14 @@ impl Model {
     }
 
     /// The area of a part; -1 is the file.
+    pub fn area(&self, part: i64) -> &AreaModel {
+        match part {
+            -1 => &self.area,
+            trace => &self.traces[trace as usize].area,
+        }
+    }
+
+    /// The same, to be changed.
     pub fn area_mut(&mut self, part: i64) -> &mut AreaModel {
         match part {
             -1 => &mut self.area,

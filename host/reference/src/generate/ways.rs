@@ -81,8 +81,9 @@ fn any(_: &Laid, _: &StringPlace) -> bool {
     true
 }
 
+/// In files of older recorders in any letters.
 fn is_note(laid: &Laid, string: &StringPlace) -> bool {
-    &laid.buffer[string.keyword.clone()] == b"NOTE"
+    laid.buffer[string.keyword.clone()].eq_ignore_ascii_case(b"NOTE")
 }
 
 fn is_no_note(laid: &Laid, string: &StringPlace) -> bool {
@@ -154,9 +155,15 @@ fn next_multiple(number: usize) -> usize {
 }
 
 /// Some part of the model with a string that is to be last: its area is given an
-/// exact size by lengthening the last value.
+/// exact size.
 fn last_string_to(rng: &mut Rng, model: &mut Model, remainder: usize) -> Option<i64> {
     let part = rng.between(0, model.traces.len()) as i64 - 1;
+    lengthen_last(model, part, remainder)?;
+    Some(part)
+}
+
+/// A part's area is given an exact size by lengthening the last value.
+pub(super) fn lengthen_last(model: &mut Model, part: i64, remainder: usize) -> Option<()> {
     let string_terminator = model.string_terminator.clone();
     let line_terminator = model.line_terminator.clone();
     let area = model.area_mut(part);
@@ -168,7 +175,7 @@ fn last_string_to(rng: &mut Rng, model: &mut Model, remainder: usize) -> Option<
         let last = area.strings.last_mut()?;
         last.lines.last_mut()?.push(b'x');
     }
-    Some(part)
+    Some(())
 }
 
 /// Some part of the model and the index of a string of it that is no NOTE.
@@ -211,14 +218,16 @@ fn put_keywords(rng: &mut Rng, model: &mut Model, part: i64, keywords: &[&str]) 
     *model.area_mut(part) = AreaModel { strings, end };
 }
 
-/// Whether a string is a trace's channel number; one of the file itself is none.
+/// Whether a string is a trace's channel number with something in it; one of the file itself is
+/// none.
 fn is_channel(laid: &Laid, string: &StringPlace) -> bool {
     let traces = laid
         .file
         .traces
         .first()
         .map_or(laid.length, |t| t.p as usize);
-    string.keyword.start > traces && &laid.buffer[string.keyword.clone()] == KEYWORD
+    let of_trace = string.keyword.start > traces && !string.value.is_empty();
+    of_trace && &laid.buffer[string.keyword.clone()] == KEYWORD
 }
 
 /// Bytes of some trace's channel number changed, refused at p+32.
@@ -465,7 +474,8 @@ pub const WAYS: &[Way] = &[
         let part = last_string_to(rng, model, 0)?;
         model.area_mut(part).end = End::Nothing;
         Some(Spot::AreaEnd(part))
-    }),
+    })
+    .forgiven(),
     shape(14, "one byte left", |rng, model| {
         let part = last_string_to(rng, model, 3)?;
         model.area_mut(part).end = End::Byte(rng.byte());
@@ -496,7 +506,8 @@ pub const WAYS: &[Way] = &[
         let (part, string) = some_string(rng, laid, any)?;
         let at = rng.between(string.keyword.start, string.keyword.end - 1);
         put_in_string(part, string, at, &[rng.between(97, 122) as u8])
-    }),
+    })
+    .forgiven(),
     bytes(16, "no ASCII or no print in a keyword", |rng, laid| {
         let (part, string) = some_string(rng, laid, any)?;
         let at = rng.between(string.keyword.start, string.keyword.end - 1);
@@ -523,6 +534,15 @@ pub const WAYS: &[Way] = &[
         let line = &laid.file.line_terminator;
         let fits = at + line.len() <= string.value.end;
         fits.then(|| put_in_string(part, string, at, line))?
+    }),
+    shape(16, "lines in a neighbour of NOTE", |rng, model| {
+        let near = ["N", "NOT", "NOTE0", "NOTES", "NOTE_", "NOTENOTE"];
+        let keyword = rng.pick(&near);
+        let part = with_keywords(rng, model, &[]);
+        let lines = ["first", "second"].map(|line| line.as_bytes().to_vec());
+        let string = StringModel::new(rng, keyword.into(), lines.to_vec());
+        model.area_mut(part).strings.push(string);
+        Some(Spot::String(part, 0))
     }),
     bytes(16, "half a line terminator in a NOTE", |rng, laid| {
         let (part, string) = some_string(rng, laid, is_note)?;

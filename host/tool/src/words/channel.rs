@@ -5,6 +5,11 @@ use super::quoted;
 
 const KEYWORD: &[u8] = b"CHANNEL_NUMBER";
 
+/// Whether row 34 refuses a trace with this value beside trace 0's.
+pub fn is_refused(own: Option<&[u8]>, first: Option<&[u8]>) -> bool {
+    own.is_some() != first.is_some() || own.and_then(fault).is_some()
+}
+
 /// What is found of row 34: the trace's value beside trace 0's.
 pub fn trace_found(own: Option<&[u8]>, first: Option<&[u8]>) -> String {
     let Some(value) = own else {

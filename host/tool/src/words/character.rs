@@ -7,6 +7,11 @@ pub fn in_keyword(byte: u8) -> bool {
     matches!(byte, 33..=126) && !byte.is_ascii_lowercase()
 }
 
+/// The small letters too, as the lenient reading takes a keyword.
+pub fn in_lenient_keyword(byte: u8) -> bool {
+    matches!(byte, 33..=126)
+}
+
 /// Codes 32 to 126; whoever allows a tab says so.
 pub fn in_value(byte: u8) -> bool {
     matches!(byte, 32..=126)

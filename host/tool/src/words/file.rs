@@ -104,6 +104,14 @@ pub fn found(bytes: &[u8], refusal: &Refusal) -> Found {
     }
 }
 
+/// The same of the lenient reading, which differs in the strings alone.
+pub fn found_leniently(bytes: &[u8], refusal: &Refusal) -> Found {
+    match refusal.number {
+        14..=16 => strings::found_leniently(Raw { bytes }, refusal).into(),
+        _ => found(bytes, refusal),
+    }
+}
+
 /// The same of a question that reads one trace alone (document 02, §5), where no other has a
 /// say in row 8; and row 18, as the bytes that tell how many there are have been judged.
 pub fn found_in_trace(bytes: &[u8], asked: usize, refusal: &Refusal) -> Found {
@@ -230,7 +238,9 @@ fn samples_found(raw: Raw, block: usize) -> String {
 mod tests {
     use super::*;
     use seg2::{Builder, Order, Quick};
-    use seg2_reference::generate::{damaged, mutated, plain_file, Model, PlainTrace, Rng, WAYS};
+    use seg2_reference::generate::{
+        damaged, mutated, old_case, plain_file, Model, PlainTrace, Rng, WAYS,
+    };
     use seg2_reference::worked::example;
 
     /// What is said of bytes that are refused, with the number before it.
@@ -289,6 +299,102 @@ mod tests {
             said(&example()[..31]),
             "1: cut off: 31 bytes there, at least 32 needed"
         );
+    }
+
+    /// What is said of bytes that are not even read leniently, of the lenient refusal.
+    fn said_leniently(bytes: &[u8]) -> String {
+        let refused = seg2::check_lenient(bytes, bytes.len()).expect_err("a refusal");
+        let found = found_leniently(bytes, &refused.refusal);
+        format!("{}: {}", refused.refusal.number, found.text)
+    }
+
+    /// Document 02, §11: small letters are none of the faults that are told.
+    #[test]
+    fn the_lenient_reading_says_what_it_does_not_forgive() {
+        let cases: &[(usize, &[u8], &str)] = &[
+            (0, &[0], "2: it starts with 00h 3Ah"),
+            (
+                88,
+                &[2],
+                "14: the offset is 2, and the shortest string has 4 bytes",
+            ),
+            // the string has 11 of the 12 bytes of its area
+            (
+                88,
+                b"\x0B\0STACK 11\0",
+                "14: byte 99 is left behind the last string, and an end mark has 2 bytes",
+            ),
+            (
+                97,
+                b"A",
+                "15: byte 97 is 41h, and the string of `STACK` ends with 00h",
+            ),
+            (
+                90,
+                b"st\xE9ck",
+                "16: byte 92 is E9h, no ASCII character, in the keyword `st\\xe9ck`",
+            ),
+            (
+                90,
+                b"stack \xE9",
+                "16: byte 96 is E9h, no ASCII character, in the value of `stack`",
+            ),
+            (
+                90,
+                b"stack \n",
+                "16: byte 96 is 0Ah, a control character, in the value of `stack`",
+            ),
+            (
+                90,
+                b"note  \x07",
+                "16: byte 96 is 07h, a control character, in the value of `note`",
+            ),
+            (
+                90,
+                b" ",
+                "16: the keyword is empty: byte 90 is a space (20h)",
+            ),
+        ];
+        for (at, new, words) in cases {
+            assert_eq!(said_leniently(&changed(&[(*at, new)])), *words);
+        }
+        // half a line terminator, in a NOTE of any letters
+        let bytes = changed(&[(11, &[2, 13, 10]), (90, b"nOte  \n")]);
+        let words = "16: byte 96 is 0Ah, a control character, and no whole line terminator, in the value of `nOte`";
+        assert_eq!(said_leniently(&bytes), words);
+    }
+
+    /// The byte that is told is the one: with a good one there, something else is said.
+    #[test]
+    fn what_the_lenient_reading_refuses_is_told_by_what_was_found() {
+        let mut rng = Rng::new(412);
+        let mut told = 0;
+        for _ in 0..4000 {
+            let case = old_case(&mut rng);
+            let bytes = case.buffer.get(..case.length).unwrap_or(&case.buffer);
+            let Err(refused) = seg2::check_lenient(bytes, bytes.len()) else {
+                continue;
+            };
+            let words = said_leniently(bytes);
+            if refused.refusal.number != 16 {
+                assert!(!words.is_empty());
+                continue;
+            }
+            let (_, rest) = words.split_once("byte ").expect("a place");
+            let place = rest.split(' ').next().and_then(|n| n.parse::<usize>().ok());
+            let mended = changed_at(bytes, place.expect("a number"), b'A');
+            if seg2::check_lenient(&mended, mended.len()).is_err() {
+                assert_ne!(said_leniently(&mended), words);
+            }
+            told += 1;
+        }
+        assert!(told > 50, "{told}");
+    }
+
+    fn changed_at(bytes: &[u8], place: usize, byte: u8) -> Vec<u8> {
+        let mut bytes = bytes.to_vec();
+        bytes[place] = byte;
+        bytes
     }
 
     /// A file whose block has two strings, the second one's start given.

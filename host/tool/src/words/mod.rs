@@ -4,18 +4,20 @@
 mod channel;
 mod character;
 mod file;
+mod lenient;
 mod number;
 mod sheet;
 mod strings;
 
 pub use channel::sheet_found;
+pub use lenient::{Forgiven, Leniently};
 pub use number::{no_such_trace, value_found, Asked};
 pub use sheet::line_found;
 
 use crate::explain;
 use crate::files::{grouped, told_name};
 use crate::stop::{refused, Stop};
-use seg2::Refusal;
+use seg2::{LenientRefusal, Refusal};
 use std::ffi::OsStr;
 use std::fmt::Write as _;
 
@@ -25,9 +27,11 @@ pub struct Told {
     name: String,
     pub refusal: Refusal,
     pub found: String,
-    pub to_do: &'static str,
+    pub to_do: String,
     /// Bytes around the place.
     shown: String,
+    /// Of a file that is not even read leniently: the strict refusal, where it is another.
+    pub strict: Option<Box<Told>>,
 }
 
 /// What was found.
@@ -65,11 +69,12 @@ impl Told {
             refusal: *refusal,
             found: found.text,
             to_do: if found.cut_off {
-                CUT_OFF
+                CUT_OFF.into()
             } else {
-                explain::to_do(refusal.number)
+                explain::to_do(refusal.number).into()
             },
             shown: String::new(),
+            strict: None,
         }
     }
 
@@ -78,6 +83,27 @@ impl Told {
         Told {
             shown: around(bytes, refusal),
             ..Told::new(name, refusal, file::found(bytes, refusal))
+        }
+    }
+
+    /// The same of a command that can read leniently, for a file which that helps.
+    pub fn of_file_with_hint(name: &OsStr, bytes: &[u8], refusal: &Refusal) -> Told {
+        let mut told = Told::of_file(name, bytes, refusal);
+        let may_be = matches!(refusal.number, 14 | 16 | 17 | 34);
+        if may_be && seg2::check_lenient(bytes, bytes.len()).is_ok() {
+            told.to_do += "; or use --lenient, which reads this file as it is";
+        }
+        told
+    }
+
+    /// A refusal of the lenient reading, and the strict one where it is another.
+    pub fn of_lenient(name: &OsStr, bytes: &[u8], refused: &LenientRefusal) -> Told {
+        let LenientRefusal { refusal, strict } = refused;
+        let other = (strict != refusal).then(|| Box::new(Told::of_file(name, bytes, strict)));
+        Told {
+            shown: around(bytes, refusal),
+            strict: other,
+            ..Told::new(name, refusal, file::found_leniently(bytes, refusal))
         }
     }
 
@@ -96,6 +122,10 @@ impl Told {
         let _ = writeln!(out, "    found: {}", self.found);
         let _ = writeln!(out, "    to do: {}", self.to_do);
         out += &self.shown;
+        if let Some(strict) = &self.strict {
+            let _ = writeln!(out, "    by the strict rules: {}", strict.refusal);
+            let _ = writeln!(out, "        found: {}", strict.found);
+        }
         let _ = writeln!(out, "    more: ./seg2 explain {}", refusal.number);
         out
     }
@@ -153,6 +183,16 @@ fn quoted(bytes: &[u8]) -> String {
 fn hex(bytes: &[u8]) -> String {
     let bytes: Vec<String> = bytes.iter().map(|byte| format!("{byte:02X}h")).collect();
     bytes.join(" ")
+}
+
+/// Whether a keyword may follow another by the strict rules.
+fn may_follow(before: &[u8], keyword: &[u8]) -> bool {
+    match (before, keyword) {
+        (b"NOTE", _) => false,
+        (_, b"NOTE") => true,
+        (b"RECEIVER_GEOMETRY" | b"SOURCE_GEOMETRY", _) if before == keyword => true,
+        _ => before < keyword,
+    }
 }
 
 /// Why a keyword may not follow another.

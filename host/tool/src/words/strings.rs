@@ -1,6 +1,6 @@
 //! Rows 14 to 17: the strings of a block; a keyword's value among them.
 
-use super::character::{blank, in_keyword, in_value, told};
+use super::character::{blank, in_keyword, in_lenient_keyword, in_value, told};
 use super::file::Raw;
 use super::{hex, order_found, quoted};
 use seg2::Refusal;
@@ -11,9 +11,34 @@ pub fn found(raw: Raw, refusal: &Refusal) -> String {
     match refusal.number {
         14 => offset_found(raw, refusal),
         15 => end_found(raw, &string),
-        16 => string.bad_character(raw),
+        16 => string.bad_character(raw, in_keyword, string.keyword == b"NOTE"),
         _ => order_found(keyword_before(raw, refusal), string.keyword),
     }
+}
+
+/// The same where the lenient reading refuses it (document 02, §11): it has other words only
+/// where it forgives something of a row.
+pub fn found_leniently(raw: Raw, refusal: &Refusal) -> String {
+    let string = Text::at(raw, refusal.place);
+    let (_, end) = raw.area(refusal.part);
+    match refusal.number {
+        14 if refusal.place + 1 == end => {
+            format!(
+                "byte {} is left behind the last string, and an end mark has 2 bytes",
+                end - 1
+            )
+        }
+        16 => {
+            let is_note = string.keyword.eq_ignore_ascii_case(b"NOTE");
+            string.bad_character(raw, in_lenient_keyword, is_note)
+        }
+        _ => found(raw, refusal),
+    }
+}
+
+/// The keyword of the string at a place whose frame is good.
+pub fn keyword_at(raw: Raw<'_>, place: usize) -> &[u8] {
+    Text::at(raw, place).keyword
 }
 
 /// A string whose frame is good: keyword and value, and where each stands.
@@ -42,22 +67,20 @@ impl<'a> Text<'a> {
         }
     }
 
-    /// The character that is not allowed, at its own byte.
-    fn bad_character(&self, raw: Raw) -> String {
+    /// The character that is not allowed, at its own byte: what a keyword may have is told,
+    /// and whether this is a NOTE, which has lines.
+    fn bad_character(&self, raw: Raw, allowed: fn(u8) -> bool, is_note: bool) -> String {
         let at = self.start + 2;
         if self.keyword.is_empty() {
             let first = told(raw.part(at, 4));
             return format!("the keyword is empty: byte {at} is {first}");
         }
-        if let Some(bad) = self.keyword.iter().position(|&c| !in_keyword(c)) {
+        if let Some(bad) = self.keyword.iter().position(|&c| !allowed(c)) {
             let keyword = quoted(self.keyword);
             let said = told(&self.keyword[bad..]);
             return format!("byte {} is {said}, in the keyword {keyword}", at + bad);
         }
-        let lines = match self.keyword {
-            b"NOTE" => raw.line_terminator(),
-            _ => &[],
-        };
+        let lines = if is_note { raw.line_terminator() } else { &[] };
         let bad = bad_in_value(self.value, lines).unwrap_or(0);
         let said = told(&self.value[bad.min(self.value.len())..]);
         let partly = match self.value.get(bad) {
@@ -127,7 +150,7 @@ pub fn value<'a>(raw: Raw<'a>, part: i32, keyword: &[u8]) -> Option<&'a [u8]> {
 }
 
 /// The keyword of the string before a place.
-fn keyword_before<'a>(raw: Raw<'a>, refusal: &Refusal) -> &'a [u8] {
+pub fn keyword_before<'a>(raw: Raw<'a>, refusal: &Refusal) -> &'a [u8] {
     let (mut at, _) = raw.area(refusal.part);
     let mut keyword: &[u8] = &[];
     while at < refusal.place {

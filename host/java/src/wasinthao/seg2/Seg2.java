@@ -4,6 +4,7 @@ import java.nio.ByteBuffer;
 import java.nio.ByteOrder;
 import java.nio.IntBuffer;
 import java.nio.charset.StandardCharsets;
+import java.util.Arrays;
 
 /**
  * SEG-2 shot files, read and written by a proved library: the functions of {@code seg2.h}, for Java and Kotlin.
@@ -18,6 +19,9 @@ import java.nio.charset.StandardCharsets;
  * answer's other fields are 0 and no lent memory has changed. Every question about a file checks the whole file first, so its refusal may
  * be any row from 1 to 17 of the table, or 34, before one of its own. The methods with quick in their name do not: each reads one trace,
  * and judges what it reads ({@link #quickTraceBlock}). Whoever wants much of a file asks {@link #check} once, and then the quick ones.
+ *
+ * <p><b>Older recorders.</b> The methods with lenient in their name also read files whose strings stand in any order, in lower case or
+ * without an end mark, and tell the strict refusal beside their answer ({@link #lenientCheck}).
  *
  * <p><b>Misuse is an {@link IllegalArgumentException}</b>, before the library is called: null, a buffer that is not direct, a read-only
  * one where something is written, a row in another byte order than the machine's, or one that lies in the file's own memory.
@@ -437,6 +441,23 @@ public final class Seg2 {
         }
     }
 
+    /** What a lenient question tells: its own answer, and beside it, also after a refusal, what the strict check says of the file. */
+    public static final class Lenient<A extends Answer> {
+        /** The lenient answer, or its refusal. */
+        public final A answer;
+        /** What {@link #check} answers: no refusal, or the first row that the file meets, 1 to 17 or 34. Only where there is none can a
+         * trace be added to the file. */
+        public final Verdict strict;
+
+        private Lenient(A answer, long[] a) {
+            this.answer = answer;
+            strict = new Verdict(Arrays.copyOfRange(a, a.length - STRICT, a.length));
+        }
+    }
+
+    /** So many numbers stand behind those of a lenient answer: the strict verdict's number, part and place. */
+    private static final int STRICT = 3;
+
     // ---- questions
 
     /** Whether the first {@code length} bytes are a file that keeps the rules; if not, the first row of the table that they meet, 1 to 17 or
@@ -731,6 +752,159 @@ public final class Seg2 {
         return new Verdict(a);
     }
 
+    // ---- older recorders (document 02, section 11): a lenient reading beside the strict one
+
+    /**
+     * Whether the first {@code length} bytes are a file that can be read leniently; if not, the first row that they meet. Recorders from
+     * before our own put strings in any order, in lower case, and leave out the end mark in a full area. Every question on a file has such a
+     * lenient form, with the same arguments; beside the same answer, {@link Lenient#strict} is what {@link #check} says of the file.
+     *
+     * <p>Forgiven are, in the file's own strings and in each trace's:
+     * <ul>
+     * <li>lower-case letters in a keyword, which counts as its upper-case form; so note is NOTE, and its value may have lines;
+     * <li>any order of keywords, and repeats: 17 is never given;
+     * <li>a list of strings without an end mark, where no byte of its area is left (one byte left is still 14);
+     * <li>channel numbers, whatever they are and whichever traces have them: 34 is never given.
+     * </ul>
+     * Nothing else is: the refusals are 1 to 16 but for these points, then those of the question. Where {@link #check} accepts the file,
+     * each answers as the method without lenient in its name, rows included.
+     *
+     * <p>A key is asked as it is given, so in upper case: one with a lower-case letter is a no, as always. Of a keyword that repeats, the
+     * questions on it answer the first; {@link #lenientString} and {@link #lenientStrings} have them all. Starts lead to the bytes as they
+     * stand in the file, lower case too.
+     *
+     * <p>Each call checks the file twice, in both ways, and there are no quick forms: where {@link Lenient#strict} has no refusal, the
+     * quick methods answer the same in less time. An addition needs the strict check.
+     */
+    public static Lenient<Verdict> lenientCheck(ByteBuffer buffer, long length) {
+        long[] a = new long[3 + STRICT];
+        nativeLenientCheck(lent(buffer), buffer.limit(), length, a);
+        return new Lenient<>(new Verdict(a), a);
+    }
+
+    /** The file block, as {@link #fileBlock}. */
+    public static Lenient<FileBlock> lenientFileBlock(ByteBuffer buffer, long length) {
+        long[] a = new long[8 + STRICT];
+        nativeLenientFileBlock(lent(buffer), buffer.limit(), length, a);
+        return new Lenient<>(new FileBlock(a, buffer), a);
+    }
+
+    /** The block of a trace, as {@link #traceBlock}: 18. */
+    public static Lenient<TraceBlock> lenientTraceBlock(ByteBuffer buffer, long length, int trace) {
+        long[] a = new long[8 + STRICT];
+        nativeLenientTraceBlock(lent(buffer), buffer.limit(), length, trace, a);
+        return new Lenient<>(new TraceBlock(a), a);
+    }
+
+    /** How many strings a part has, repeats counted, as {@link #stringCount}: 18. */
+    public static Lenient<Count> lenientStringCount(ByteBuffer buffer, long length, int part) {
+        long[] a = new long[4 + STRICT];
+        nativeLenientStringCount(lent(buffer), buffer.limit(), length, part, a);
+        return new Lenient<>(new Count(a), a);
+    }
+
+    /**
+     * The string of a part with this index, in the order of the file, as {@link #string}: 18. {@link Entry#keyText()} is the keyword as it
+     * stands there; it counts as {@code keyText().toUpperCase(Locale.ROOT)}.
+     */
+    public static Lenient<Entry> lenientString(ByteBuffer buffer, long length, int part, long index) {
+        long[] a = new long[8 + STRICT];
+        nativeLenientString(lent(buffer), buffer.limit(), length, part, index, a);
+        return new Lenient<>(new Entry(a, buffer), a);
+    }
+
+    /** All strings of a part into a row of four elements each, as {@link #strings}: 18, then 32 where the row has not exactly 4 times
+     * {@link #lenientStringCount} elements. */
+    public static Lenient<Verdict> lenientStrings(ByteBuffer buffer, long length, int part, long[] row) {
+        long[] a = new long[3 + STRICT];
+        nativeLenientStrings(lent(buffer), buffer.limit(), length, part, there(row, "row"), a);
+        return new Lenient<>(new Verdict(a), a);
+    }
+
+    /** Whether a part has a keyword in any case of its letters, as {@link #keyword}: yes, no, or 18. */
+    public static Lenient<Keyword> lenientKeyword(ByteBuffer buffer, long length, int part, byte[] key) {
+        long[] a = new long[4 + STRICT];
+        nativeLenientKeyword(lent(buffer), buffer.limit(), length, part, there(key, "keyword"), a);
+        return new Lenient<>(new Keyword(a), a);
+    }
+
+    /** The same, of a keyword in a String. */
+    public static Lenient<Keyword> lenientKeyword(ByteBuffer buffer, long length, int part, String key) {
+        return lenientKeyword(buffer, length, part, bytesOf(key, "keyword"));
+    }
+
+    /** The value of the first such keyword as the buffer's own bytes, as {@link #value}: 18. */
+    public static Lenient<Value> lenientValue(ByteBuffer buffer, long length, int part, byte[] key) {
+        long[] a = new long[5 + STRICT];
+        nativeLenientValue(lent(buffer), buffer.limit(), length, part, there(key, "keyword"), a);
+        return new Lenient<>(new Value(a, buffer), a);
+    }
+
+    /** The same, of a keyword in a String. */
+    public static Lenient<Value> lenientValue(ByteBuffer buffer, long length, int part, String key) {
+        return lenientValue(buffer, length, part, bytesOf(key, "keyword"));
+    }
+
+    /** That value as a number: then 20 or 21, as {@link #number}. */
+    public static Lenient<Decimal> lenientNumber(ByteBuffer buffer, long length, int part, byte[] key) {
+        long[] a = new long[7 + STRICT];
+        nativeLenientNumber(lent(buffer), buffer.limit(), length, part, there(key, "keyword"), a);
+        return new Lenient<>(new Decimal(a), a);
+    }
+
+    /** The same, of a keyword in a String. */
+    public static Lenient<Decimal> lenientNumber(ByteBuffer buffer, long length, int part, String key) {
+        return lenientNumber(buffer, length, part, bytesOf(key, "keyword"));
+    }
+
+    /** That value as a double: then 20 to 22, as {@link #doubleValue}. */
+    public static Lenient<DoubleValue> lenientDoubleValue(ByteBuffer buffer, long length, int part, byte[] key) {
+        long[] a = new long[4 + STRICT];
+        nativeLenientDouble(lent(buffer), buffer.limit(), length, part, there(key, "keyword"), a);
+        return new Lenient<>(new DoubleValue(a), a);
+    }
+
+    /** The same, of a keyword in a String. */
+    public static Lenient<DoubleValue> lenientDoubleValue(ByteBuffer buffer, long length, int part, String key) {
+        return lenientDoubleValue(buffer, length, part, bytesOf(key, "keyword"));
+    }
+
+    /** That value as a location: then 23, and 20 to 22 value by value, as {@link #location}. */
+    public static Lenient<Location> lenientLocation(ByteBuffer buffer, long length, int part, byte[] key) {
+        long[] a = new long[10 + STRICT];
+        nativeLenientLocation(lent(buffer), buffer.limit(), length, part, there(key, "keyword"), a);
+        return new Lenient<>(new Location(a), a);
+    }
+
+    /** The same, of a keyword in a String. */
+    public static Lenient<Location> lenientLocation(ByteBuffer buffer, long length, int part, String key) {
+        return lenientLocation(buffer, length, part, bytesOf(key, "keyword"));
+    }
+
+    /** The samples of a trace of code 1 to 3 into an array of exactly S elements, by way of a copy: 18, 33, then 32, as {@link #integers}. */
+    public static Lenient<Verdict> lenientIntegers(ByteBuffer buffer, long length, int trace, int[] row) {
+        long[] a = new long[3 + STRICT];
+        nativeLenientIntegersArray(lent(buffer), buffer.limit(), length, trace, there(row, "row"), a);
+        return new Lenient<>(new Verdict(a), a);
+    }
+
+    /** The same, straight into a direct buffer's memory, without a copy, as {@link #integers(ByteBuffer, long, int, IntBuffer)} has it. */
+    public static Lenient<Verdict> lenientIntegers(ByteBuffer buffer, long length, int trace, IntBuffer row) {
+        long[] a = new long[3 + STRICT];
+        nativeLenientIntegersBuffer(lent(buffer), buffer.limit(), length, trace, filled(row), row.limit(), a);
+        return new Lenient<>(new Verdict(a), a);
+    }
+
+    /**
+     * The bit patterns of the samples of a trace of code 4 or 5 and their classes into two arrays of exactly S elements, by way of a copy:
+     * 18, 33, then 32, as {@link #bits}.
+     */
+    public static Lenient<Verdict> lenientBits(ByteBuffer buffer, long length, int trace, long[] row, byte[] classes) {
+        long[] a = new long[3 + STRICT];
+        nativeLenientBits(lent(buffer), buffer.limit(), length, trace, there(row, "row"), there(classes, "classes' row"), a);
+        return new Lenient<>(new Verdict(a), a);
+    }
+
     // ---- a number and its text: no file is lent, so no row of its check comes first
 
     /**
@@ -890,7 +1064,7 @@ public final class Seg2 {
         return new String(copy, StandardCharsets.ISO_8859_1);
     }
 
-    // ---- the native side: each fills `answer` with number, part, place and its fields
+    // ---- the native side: each fills `answer` with number, part, place and its fields; behind them a lenient one puts the strict verdict
 
     private static native String nativeText(int number);
 
@@ -934,6 +1108,28 @@ public final class Seg2 {
 
     private static native void nativeQuickLocation(ByteBuffer buffer, int size, long length, int trace, byte[] key, long[] answer);
 
+    private static native void nativeLenientCheck(ByteBuffer buffer, int size, long length, long[] answer);
+
+    private static native void nativeLenientFileBlock(ByteBuffer buffer, int size, long length, long[] answer);
+
+    private static native void nativeLenientTraceBlock(ByteBuffer buffer, int size, long length, int trace, long[] answer);
+
+    private static native void nativeLenientStringCount(ByteBuffer buffer, int size, long length, int part, long[] answer);
+
+    private static native void nativeLenientString(ByteBuffer buffer, int size, long length, int part, long index, long[] answer);
+
+    private static native void nativeLenientStrings(ByteBuffer buffer, int size, long length, int part, long[] row, long[] answer);
+
+    private static native void nativeLenientKeyword(ByteBuffer buffer, int size, long length, int part, byte[] key, long[] answer);
+
+    private static native void nativeLenientValue(ByteBuffer buffer, int size, long length, int part, byte[] key, long[] answer);
+
+    private static native void nativeLenientNumber(ByteBuffer buffer, int size, long length, int part, byte[] key, long[] answer);
+
+    private static native void nativeLenientDouble(ByteBuffer buffer, int size, long length, int part, byte[] key, long[] answer);
+
+    private static native void nativeLenientLocation(ByteBuffer buffer, int size, long length, int part, byte[] key, long[] answer);
+
     private static native void nativeReadNumber(byte[] text, long[] answer);
 
     private static native void nativeWriteNumber(byte[] text, boolean minus, long coefficient, int power, int decimals, long[] answer);
@@ -949,6 +1145,12 @@ public final class Seg2 {
     private static native void nativeQuickIntegersBuffer(ByteBuffer buffer, int size, long length, int trace, IntBuffer row, int count, long[] answer);
 
     private static native void nativeQuickBits(ByteBuffer buffer, int size, long length, int trace, long[] row, byte[] classes, long[] answer);
+
+    private static native void nativeLenientIntegersArray(ByteBuffer buffer, int size, long length, int trace, int[] row, long[] answer);
+
+    private static native void nativeLenientIntegersBuffer(ByteBuffer buffer, int size, long length, int trace, IntBuffer row, int count, long[] answer);
+
+    private static native void nativeLenientBits(ByteBuffer buffer, int size, long length, int trace, long[] row, byte[] classes, long[] answer);
 
     private static native void nativeStart(ByteBuffer buffer, int size, int order, int slots, byte[] sheet, long[] answer);
 

@@ -431,13 +431,35 @@ public final class Seg2Test {
         return b;
     }
 
+    // The fields of an answer as one row, to be compared.
+
+    private static long[] numbers(Seg2.Decimal a) {
+        return new long[] {a.minus ? 1 : 0, a.coefficient, a.power, a.decimals};
+    }
+
+    private static double[] numbers(Seg2.Location a) {
+        return new double[] {a.count, a.x, a.y, a.z, a.xDecimals, a.yDecimals, a.zDecimals};
+    }
+
+    private static long[] numbers(Seg2.Entry a) {
+        return new long[] {a.found ? 1 : 0, a.keyStart, a.keyLength, a.valueStart, a.valueLength};
+    }
+
+    /** As a row of all strings has them. */
+    private static long[] places(Seg2.Entry a) {
+        return new long[] {a.keyStart, a.keyLength, a.valueStart, a.valueLength};
+    }
+
+    private static long[] numbers(Seg2.TraceBlock a) {
+        return new long[] {a.start, a.blockSize, a.dataSize, a.sampleCount, a.formatCode};
+    }
+
     /** The value of a keyword as a number, a double and a location, quickly and fully. */
     private static void sameNumbers(ByteBuffer b, int n, int trace, String key) {
         Seg2.Decimal number = Seg2.number(b, n, trace, key);
         Seg2.Decimal quick = Seg2.quickNumber(b, n, trace, key);
         same(number.refusal(), quick.refusal());
-        same(new long[] {number.minus ? 1 : 0, number.coefficient, number.power, number.decimals},
-            new long[] {quick.minus ? 1 : 0, quick.coefficient, quick.power, quick.decimals});
+        same(numbers(number), numbers(quick));
         Seg2.DoubleValue value = Seg2.doubleValue(b, n, trace, key);
         Seg2.DoubleValue quickValue = Seg2.quickDoubleValue(b, n, trace, key);
         same(value.refusal(), quickValue.refusal());
@@ -445,8 +467,7 @@ public final class Seg2Test {
         Seg2.Location at = Seg2.location(b, n, trace, key);
         Seg2.Location quickAt = Seg2.quickLocation(b, n, trace, key);
         same(at.refusal(), quickAt.refusal());
-        same(new double[] {at.count, at.x, at.y, at.z, at.xDecimals, at.yDecimals, at.zDecimals},
-            new double[] {quickAt.count, quickAt.x, quickAt.y, quickAt.z, quickAt.xDecimals, quickAt.yDecimals, quickAt.zDecimals});
+        same(numbers(at), numbers(quickAt));
     }
 
     /** The strings of a trace: how many, each, and all of them in one row, quickly and fully. */
@@ -463,12 +484,10 @@ public final class Seg2Test {
             Seg2.Entry entry = Seg2.string(b, n, trace, i);
             Seg2.Entry quickEntry = Seg2.quickString(b, n, trace, i);
             same(entry.refusal(), quickEntry.refusal());
-            same(entry.found, quickEntry.found);
-            long[] four = {entry.keyStart, entry.keyLength, entry.valueStart, entry.valueLength};
-            same(four, new long[] {quickEntry.keyStart, quickEntry.keyLength, quickEntry.valueStart, quickEntry.valueLength});
+            same(numbers(entry), numbers(quickEntry));
             same(i < count.count, entry.found);
             if (entry.found) {
-                same(four, Arrays.copyOfRange(places, 4 * i, 4 * i + 4));
+                same(places(entry), Arrays.copyOfRange(places, 4 * i, 4 * i + 4));
             }
         }
     }
@@ -478,8 +497,7 @@ public final class Seg2Test {
         Seg2.TraceBlock block = Seg2.traceBlock(b, n, trace);
         Seg2.TraceBlock quick = Seg2.quickTraceBlock(b, n, trace);
         same(block.refusal(), quick.refusal());
-        same(new int[] {block.start, block.blockSize, block.dataSize, block.sampleCount, block.formatCode},
-            new int[] {quick.start, quick.blockSize, quick.dataSize, quick.sampleCount, quick.formatCode});
+        same(numbers(block), numbers(quick));
         int[] row = new int[block.sampleCount];
         int[] quickRow = new int[block.sampleCount];
         IntBuffer view = direct(new int[block.sampleCount]);
@@ -637,6 +655,345 @@ public final class Seg2Test {
         b.put(36, (byte) 1);
         refused(8, 1, 36, Seg2.quickValue(b, n, 1, "STACK"));
         refused(18, -1, 0, Seg2.quickValue(b, n, 3, "STACK"));
+    }
+
+    /** An area of strings as an older recorder may have it, high byte first: offset, text and terminator of each, then the given tail. */
+    private static byte[] area(String tail, String... texts) {
+        StringBuilder bytes = new StringBuilder();
+        for (String text : texts) {
+            bytes.append('\0').append((char) (text.length() + 3)).append(text).append('\0');
+        }
+        bytes.append(tail);
+        same(0, bytes.length() % 4); // as blocks and pointers ask
+        return bytes.toString().getBytes(StandardCharsets.ISO_8859_1);
+    }
+
+    /** A file laid out by hand: its own strings from byte 32 + 4 * traces on, then a block for each trace, with the samples 1 and -1. */
+    private static ByteBuffer laid(byte[] own, byte[]... traces) {
+        int room = 4 * traces.length;
+        ByteBuffer b = ByteBuffer.allocateDirect(4096);
+        b.putShort((short) 0x3A55).putShort((short) 1).putShort((short) room).putShort((short) traces.length);
+        b.put(new byte[] {1, 0, 0, 1, '\n', 0});
+        b.position(32 + room);
+        b.put(own);
+        for (int k = 0; k < traces.length; k++) {
+            int p = b.position();
+            b.putInt(32 + 4 * k, p);
+            b.putShort((short) 0x4422).putShort((short) (32 + traces[k].length)).putInt(4).putInt(2).put((byte) Seg2.FIXED_16);
+            b.position(p + 32);
+            b.put(traces[k]).putShort((short) 1).putShort((short) -1);
+        }
+        b.limit(b.position());
+        return b;
+    }
+
+    /** The end mark with zeros behind it, so many bytes in all. */
+    private static String mark(int size) {
+        return new String(new char[size]);
+    }
+
+    /** A trace that keeps the rules. */
+    private static final byte[] GOOD = area(mark(2), "STACK 4");
+
+    /** Mixed case, any order, repeats, a note in the middle, full areas without a mark, a channel number in one trace alone. */
+    private static ByteBuffer olderFile() {
+        byte[] own = area("", "Units METERS", "note one\ntwo", "units FEET", "Date x");
+        byte[] first = area("", "stack 4", "Delay -0.020", "receiver_location 1 2.50 0", "STACK 5");
+        return laid(own, first, area(mark(4), "Channel_Number none", "STACK 8"));
+    }
+
+    /** The answers of all lenient methods. */
+    private static List<Seg2.Lenient<?>> lenientAnswers(ByteBuffer b, long n, int part, String key) {
+        List<Seg2.Lenient<?>> answers = new ArrayList<>();
+        answers.add(Seg2.lenientCheck(b, n));
+        answers.add(Seg2.lenientFileBlock(b, n));
+        answers.addAll(lenientAnswersOnAPart(b, n, part, key));
+        return answers;
+    }
+
+    private static List<Seg2.Lenient<?>> lenientAnswersOnAPart(ByteBuffer b, long n, int part, String key) {
+        return Arrays.asList(Seg2.lenientTraceBlock(b, n, part), Seg2.lenientStringCount(b, n, part), Seg2.lenientString(b, n, part, 0),
+            Seg2.lenientStrings(b, n, part, new long[4]), Seg2.lenientKeyword(b, n, part, key), Seg2.lenientValue(b, n, part, key),
+            Seg2.lenientNumber(b, n, part, key), Seg2.lenientDoubleValue(b, n, part, key), Seg2.lenientLocation(b, n, part, key),
+            Seg2.lenientIntegers(b, n, part, new int[3]), Seg2.lenientIntegers(b, n, part, direct(0, 0, 0)),
+            Seg2.lenientBits(b, n, part, new long[3], new byte[3]));
+    }
+
+    /** The file is read, and every answer has the strict check's own row beside it, which an addition is refused by. */
+    private static void forgiven(int number, int part, long place, ByteBuffer b) {
+        int n = b.limit();
+        refused(number, part, place, Seg2.check(b, n));
+        for (Seg2.Lenient<?> told : lenientAnswers(b, n, Seg2.FILE, "STACK")) {
+            refused(number, part, place, told.strict);
+        }
+        accepted(Seg2.lenientCheck(b, n).answer);
+        byte[] before = copy(b);
+        refused(number, part, place, Seg2.addIntegers(b, n, "", Seg2.FIXED_16, new int[1]));
+        refused(number, part, place, Seg2.addBits(b, n, "", Seg2.FLOAT_32, new long[1]));
+        same(before, copy(b));
+    }
+
+    /** Each thing that is forgiven by itself, with the row that the strict check has for it. */
+    private static void whatIsForgiven() {
+        forgiven(16, -1, 36, laid(area(mark(2), "Units M"), GOOD));
+        forgiven(16, 0, 76, laid(area(mark(4)), area(mark(4), "units"), GOOD));
+        forgiven(17, -1, 42, laid(area(mark(4), "B 1", "A 2"), GOOD));
+        forgiven(17, -1, 42, laid(area(mark(4), "A 1", "A 2"), GOOD));
+        forgiven(17, -1, 45, laid(area(mark(6), "NOTE 1", "NOTE 2"), GOOD));
+        forgiven(17, 0, 81, laid(area(mark(4)), area(mark(3), "NOTE 1", "A")));
+        forgiven(14, -1, 44, laid(area("", "UNITS"), GOOD));
+        forgiven(14, 0, 76, laid(new byte[0], area("", "UNITS")));
+        forgiven(34, 0, 76, laid(area(mark(4)), area(mark(5), "CHANNEL_NUMBER 0"), area(mark(5), "CHANNEL_NUMBER 1")));
+        forgiven(34, 1, 136, laid(area(mark(4)), area(mark(4), "CHANNEL_NUMBER 01"), GOOD));
+    }
+
+    /** An older recorder's file, seen whole. */
+    private static void olderRecorders() {
+        ByteBuffer b = olderFile();
+        int n = b.limit();
+        forgiven(16, -1, 40, b);
+        b.position(17);
+        Seg2.Lenient<Seg2.FileBlock> file = Seg2.lenientFileBlock(b, n);
+        accepted(file.answer);
+        same("1 8 2", file.answer.order + " " + file.answer.pointerRoom + " " + file.answer.traceCount);
+        same("\0\n", file.answer.stringTerminator + file.answer.lineTerminator);
+        same("Units=METERS|note=one\ntwo|units=FEET|Date=x|", listed(b, Seg2.FILE));
+        same("stack=4|Delay=-0.020|receiver_location=1 2.50 0|STACK=5|", listed(b, 0));
+        same("Channel_Number=none|STACK=8|", listed(b, 1));
+        // keywords count as upper case, and the first of them is answered; a key is asked as it is given
+        same("METERS", Seg2.lenientValue(b, n, Seg2.FILE, "UNITS").answer.text());
+        same("one\ntwo", Seg2.lenientValue(b, n, Seg2.FILE, "NOTE").answer.text());
+        same("none", Seg2.lenientValue(b, n, 1, "CHANNEL_NUMBER".getBytes(StandardCharsets.US_ASCII)).answer.text());
+        for (String key : new String[] {"units", "Units", "note", "DATES", "DAT", "", "\u00c4"}) {
+            Seg2.Lenient<Seg2.Keyword> no = Seg2.lenientKeyword(b, n, Seg2.FILE, key);
+            accepted(no.answer);
+            same(false, no.answer.found);
+            same(0, Seg2.lenientValue(b, n, Seg2.FILE, key).answer.bytes().remaining());
+        }
+        same(true, Seg2.lenientKeyword(b, n, Seg2.FILE, "DATE").answer.found);
+        Seg2.Decimal delay = Seg2.lenientNumber(b, n, 0, "DELAY").answer;
+        same("-0.020", delay.text());
+        same(4L, Seg2.lenientNumber(b, n, 0, "STACK").answer.coefficient);
+        same(-0.020, Seg2.lenientDoubleValue(b, n, 0, "DELAY").answer.value);
+        Seg2.Location at = Seg2.lenientLocation(b, n, 0, "RECEIVER_LOCATION").answer;
+        same("3 1.0 2.5 0.0 0 2 0", at.count + " " + at.x + " " + at.y + " " + at.z + " " + at.xDecimals + " " + at.yDecimals + " " + at.zDecimals);
+        same(17, b.position());
+        Seg2.Value units = Seg2.lenientValue(b, n, Seg2.FILE, "UNITS").answer;
+        b.put(units.start, (byte) 'X');
+        same((byte) 'X', units.bytes().get(0));
+    }
+
+    /** Keywords and values of a part as they stand: one by one, and the same places in one row. */
+    private static String listed(ByteBuffer b, int part) {
+        int n = b.limit();
+        int count = Seg2.lenientStringCount(b, n, part).answer.count;
+        long[] places = new long[4 * count];
+        accepted(Seg2.lenientStrings(b, n, part, places).answer);
+        StringBuilder told = new StringBuilder();
+        for (int i = 0; i < count; i++) {
+            Seg2.Entry entry = Seg2.lenientString(b, n, part, i).answer;
+            same(true, entry.found);
+            same(places(entry), Arrays.copyOfRange(places, 4 * i, 4 * i + 4));
+            told.append(entry.keyText()).append('=').append(entry.valueText()).append('|');
+        }
+        same(false, Seg2.lenientString(b, n, part, count).answer.found);
+        return told.toString();
+    }
+
+    private static void samplesOfAnOlderFile() {
+        ByteBuffer b = olderFile();
+        int n = b.limit();
+        Seg2.TraceBlock block = Seg2.lenientTraceBlock(b, n, 1).answer;
+        accepted(block);
+        same("4 2 1", block.dataSize + " " + block.sampleCount + " " + block.formatCode);
+        int[] row = new int[2];
+        IntBuffer view = direct(0, 0);
+        Seg2.Lenient<Seg2.Verdict> read = Seg2.lenientIntegers(b, n, 1, row);
+        accepted(read.answer);
+        refused(16, -1, 40, read.strict);
+        accepted(Seg2.lenientIntegers(b, n, 1, view).answer);
+        same(new int[] {1, -1}, row);
+        same(new int[] {1, -1}, new int[] {view.get(0), view.get(1)});
+        // the same four bytes as one pattern of code 4
+        b.put(block.start + 11, (byte) 1);
+        b.put(block.start + 12, (byte) Seg2.FLOAT_32);
+        long[] patterns = new long[1];
+        byte[] classes = new byte[1];
+        read = Seg2.lenientBits(b, n, 1, patterns, classes);
+        accepted(read.answer);
+        refused(16, -1, 40, read.strict);
+        same(0x0001FFFFL, patterns[0]);
+        same(Seg2.CLASS_UNDERFLOW, classes[0]);
+    }
+
+    /** A lenient question's own refusals: the strict row stands beside them, the rest is 0, and lent rows are as they were. */
+    private static void refusedQuestionsOnAnOlderFile() {
+        ByteBuffer b = olderFile();
+        int n = b.limit();
+        for (int part : new int[] {-2, 2, Integer.MIN_VALUE, Integer.MAX_VALUE}) {
+            for (Seg2.Lenient<?> told : lenientAnswersOnAPart(b, n, part, "STACK")) {
+                refused(18, -1, 0, told.answer);
+                refused(16, -1, 40, told.strict);
+            }
+        }
+        refused(18, -1, 0, Seg2.lenientTraceBlock(b, n, Seg2.FILE).answer);
+        int[] row = {7, 7, 7};
+        IntBuffer view = direct(7, 7, 7);
+        long[] places = {7, 7, 7, 7, 7};
+        long[] patterns = {7, 7};
+        byte[] classes = {7, 7};
+        List<Seg2.Lenient<Seg2.Verdict>> refusals = Arrays.asList(Seg2.lenientIntegers(b, n, 0, row), Seg2.lenientIntegers(b, n, 0, view),
+            Seg2.lenientStrings(b, n, 0, places));
+        for (Seg2.Lenient<Seg2.Verdict> told : refusals) {
+            refused(32, -1, 0, told.answer);
+            refused(16, -1, 40, told.strict);
+        }
+        refused(33, -1, 0, Seg2.lenientBits(b, n, 0, patterns, classes).answer);
+        refused(16, -1, 40, Seg2.lenientBits(b, n, 0, patterns, classes).strict);
+        same(new int[] {7, 7, 7}, row);
+        same(7, view.get(0) & view.get(1) & view.get(2));
+        same(new long[] {7, 7, 7, 7, 7}, places);
+        same(new long[] {7, 7}, patterns);
+        same(new byte[] {7, 7}, classes);
+        Seg2.Lenient<Seg2.Decimal> none = Seg2.lenientNumber(b, n, Seg2.FILE, "UNITS");
+        refused(20, -1, 0, none.answer);
+        refused(16, -1, 40, none.strict);
+        same(0L, none.answer.coefficient + none.answer.power + none.answer.decimals);
+        refused(20, -1, 0, Seg2.lenientDoubleValue(b, n, Seg2.FILE, "units").answer);
+        refused(23, -1, 0, Seg2.lenientLocation(b, n, Seg2.FILE, "MISSING").answer);
+    }
+
+    /** Every lenient question on the file is refused by this row, and every strict one beside it by that. */
+    private static void bothRefuse(ByteBuffer b, long n, int[] lenient, int[] strict) {
+        refused(strict[0], strict[1], strict[2], Seg2.check(b, n));
+        for (Seg2.Lenient<?> told : lenientAnswers(b, n, 0, "STACK")) {
+            refused(lenient[0], lenient[1], lenient[2], told.answer);
+            refused(strict[0], strict[1], strict[2], told.strict);
+        }
+        Seg2.FileBlock file = Seg2.lenientFileBlock(b, n).answer;
+        same(0, file.order + file.pointerRoom + file.traceCount + file.stringTerminator.length() + file.lineTerminator.length());
+        int[] row = {7, 7};
+        long[] places = {7, 7, 7, 7};
+        Seg2.lenientIntegers(b, n, 0, row);
+        Seg2.lenientStrings(b, n, 0, places);
+        same(new int[] {7, 7}, row);
+        same(new long[] {7, 7, 7, 7}, places);
+    }
+
+    private static void bothRefuse(int number, int part, int place, ByteBuffer b) {
+        int[] row = {number, part, place};
+        bothRefuse(b, b.limit(), row, row);
+    }
+
+    /** Nothing else is forgiven; and where the strict check meets a forgiven row before, it tells that one. */
+    private static void whatIsNotForgiven() {
+        bothRefuse(14, -1, 43, laid(area("\0", "UNIT"), GOOD)); // one byte left
+        bothRefuse(14, -1, 36, laid(area("\0\3\0\0"), GOOD)); // too small for a keyword
+        bothRefuse(14, -1, 36, laid(area("\0\10A\0"), GOOD)); // past the area
+        bothRefuse(15, -1, 36, laid(area("\0\6A 12" + mark(2)), GOOD));
+        bothRefuse(16, -1, 36, laid(area(mark(2), " 1 2 3 "), GOOD)); // no keyword
+        bothRefuse(16, -1, 36, laid(area(mark(4), "A\177B 1"), GOOD));
+        bothRefuse(16, -1, 36, laid(area(mark(5), "MEMO 1\n2"), GOOD));
+        bothRefuse(16, 0, 72, laid(area(mark(4)), area(mark(5), "MEMO\t\200x2")));
+        ByteBuffer b = olderFile();
+        int n = b.limit();
+        int[] length = {1, -1, 0};
+        bothRefuse(b, n + 1L, length, length);
+        bothRefuse(b, 31, length, length);
+        bothRefuse(b, Long.MIN_VALUE, length, length);
+        int first = b.getInt(32);
+        int second = b.getInt(36);
+        int[] lower = {16, -1, 40};
+        // a terminator that is none, in the last of the first trace's strings
+        b.put(first + 32 + 63, (byte) 1);
+        bothRefuse(b, n, new int[] {15, 0, first + 32 + 54}, lower);
+        b.put(first + 32 + 63, (byte) 0);
+        b.put(second, (byte) 0);
+        bothRefuse(b, n, new int[] {9, 1, second}, lower);
+        b.put(second, (byte) 0x44);
+        b.putInt(36, second + 2);
+        bothRefuse(b, n, new int[] {8, 1, 36}, lower);
+        // what comes before the strings meets both alike
+        b.putInt(32, first + 1);
+        bothRefuse(8, 0, 32, b);
+        b.put(3, (byte) 2);
+        bothRefuse(3, -1, 2, b);
+    }
+
+    /** On a file that keeps the rules every lenient answer is the strict one, and nothing stands beside it. */
+    private static void sameLeniently(ByteBuffer b, int n, int part, String key) {
+        for (Seg2.Lenient<?> told : lenientAnswers(b, n, part, key)) {
+            accepted(told.strict);
+        }
+        same(Seg2.check(b, n).refusal(), Seg2.lenientCheck(b, n).answer.refusal());
+        Seg2.FileBlock file = Seg2.fileBlock(b, n);
+        Seg2.FileBlock lenientFile = Seg2.lenientFileBlock(b, n).answer;
+        same(file.refusal(), lenientFile.refusal());
+        same(file.order + " " + file.pointerRoom + " " + file.traceCount + file.stringTerminator + file.lineTerminator,
+            lenientFile.order + " " + lenientFile.pointerRoom + " " + lenientFile.traceCount + lenientFile.stringTerminator + lenientFile.lineTerminator);
+        Seg2.Keyword found = Seg2.keyword(b, n, part, key);
+        Seg2.Keyword lenientFound = Seg2.lenientKeyword(b, n, part, key).answer;
+        same(found.refusal(), lenientFound.refusal());
+        same(found.found, lenientFound.found);
+        Seg2.Value value = Seg2.value(b, n, part, key);
+        Seg2.Value lenientValue = Seg2.lenientValue(b, n, part, key).answer;
+        same(value.refusal(), lenientValue.refusal());
+        same(new int[] {value.start, value.length}, new int[] {lenientValue.start, lenientValue.length});
+        same(numbers(Seg2.number(b, n, part, key)), numbers(Seg2.lenientNumber(b, n, part, key).answer));
+        same(Seg2.number(b, n, part, key).refusal(), Seg2.lenientNumber(b, n, part, key).answer.refusal());
+        same(Seg2.doubleValue(b, n, part, key).value, Seg2.lenientDoubleValue(b, n, part, key).answer.value);
+        same(Seg2.doubleValue(b, n, part, key).refusal(), Seg2.lenientDoubleValue(b, n, part, key).answer.refusal());
+        same(numbers(Seg2.location(b, n, part, key)), numbers(Seg2.lenientLocation(b, n, part, key).answer));
+        same(Seg2.location(b, n, part, key).refusal(), Seg2.lenientLocation(b, n, part, key).answer.refusal());
+    }
+
+    private static void sameStringsLeniently(ByteBuffer b, int n, int part) {
+        Seg2.Count count = Seg2.stringCount(b, n, part);
+        same(count.refusal(), Seg2.lenientStringCount(b, n, part).answer.refusal());
+        same(count.count, Seg2.lenientStringCount(b, n, part).answer.count);
+        long[] places = new long[4 * count.count];
+        long[] lenientPlaces = new long[4 * count.count];
+        same(Seg2.strings(b, n, part, places).refusal(), Seg2.lenientStrings(b, n, part, lenientPlaces).answer.refusal());
+        same(places, lenientPlaces);
+        for (int i = 0; i <= count.count; i++) {
+            same(numbers(Seg2.string(b, n, part, i)), numbers(Seg2.lenientString(b, n, part, i).answer));
+        }
+    }
+
+    private static void sameSamplesLeniently(ByteBuffer b, int n, int part) {
+        Seg2.TraceBlock block = Seg2.traceBlock(b, n, part);
+        same(block.refusal(), Seg2.lenientTraceBlock(b, n, part).answer.refusal());
+        same(numbers(block), numbers(Seg2.lenientTraceBlock(b, n, part).answer));
+        int[] row = new int[block.sampleCount];
+        int[] lenientRow = new int[block.sampleCount];
+        IntBuffer view = direct(new int[block.sampleCount]);
+        Seg2.Refusal refusal = Seg2.integers(b, n, part, row).refusal();
+        same(refusal, Seg2.lenientIntegers(b, n, part, lenientRow).answer.refusal());
+        same(refusal, Seg2.lenientIntegers(b, n, part, view).answer.refusal());
+        same(row, lenientRow);
+        for (int i = 0; i < row.length; i++) {
+            same(row[i], view.get(i));
+        }
+        long[] patterns = new long[block.sampleCount];
+        long[] lenientPatterns = new long[block.sampleCount];
+        byte[] classes = new byte[block.sampleCount];
+        byte[] lenientClasses = new byte[block.sampleCount];
+        same(Seg2.bits(b, n, part, patterns, classes).refusal(), Seg2.lenientBits(b, n, part, lenientPatterns, lenientClasses).answer.refusal());
+        same(patterns, lenientPatterns);
+        same(classes, lenientClasses);
+    }
+
+    private static void lenientlyOfAnAcceptedFile() {
+        ByteBuffer b = threeTraces();
+        int n = b.limit();
+        for (int part = -2; part < 4; part++) {
+            for (String key : new String[] {"", "A", "CHANNEL_NUMBER", "NOTE", "STACK", "UNITS", "stack", "\u00c4"}) {
+                sameLeniently(b, n, part, key);
+            }
+            sameStringsLeniently(b, n, part);
+            sameSamplesLeniently(b, n, part);
+        }
+        sameLeniently(b.asReadOnlyBuffer(), n, 0, "STACK");
     }
 
     private static void numbersAndLocations() {
@@ -872,6 +1229,20 @@ public final class Seg2Test {
             misused(words, () -> Seg2.quickIntegers(bad, 108, 0, new int[3]));
             misused(words, () -> Seg2.quickIntegers(bad, 108, 0, direct(0, 0, 0)));
             misused(words, () -> Seg2.quickBits(bad, 108, 0, new long[3], new byte[3]));
+            misused(words, () -> Seg2.lenientCheck(bad, 108));
+            misused(words, () -> Seg2.lenientFileBlock(bad, 108));
+            misused(words, () -> Seg2.lenientTraceBlock(bad, 108, 0));
+            misused(words, () -> Seg2.lenientStringCount(bad, 108, 0));
+            misused(words, () -> Seg2.lenientString(bad, 108, 0, 0));
+            misused(words, () -> Seg2.lenientStrings(bad, 108, 0, new long[4]));
+            misused(words, () -> Seg2.lenientKeyword(bad, 108, 0, key));
+            misused(words, () -> Seg2.lenientValue(bad, 108, 0, key));
+            misused(words, () -> Seg2.lenientNumber(bad, 108, 0, key));
+            misused(words, () -> Seg2.lenientDoubleValue(bad, 108, 0, key));
+            misused(words, () -> Seg2.lenientLocation(bad, 108, 0, key));
+            misused(words, () -> Seg2.lenientIntegers(bad, 108, 0, new int[3]));
+            misused(words, () -> Seg2.lenientIntegers(bad, 108, 0, direct(0, 0, 0)));
+            misused(words, () -> Seg2.lenientBits(bad, 108, 0, new long[3], new byte[3]));
             misused(words, () -> Seg2.integers(bad, 108, 0, new int[3]));
             misused(words, () -> Seg2.integers(bad, 108, 0, direct(0, 0, 0)));
             misused(words, () -> Seg2.bits(bad, 108, 0, new long[3], new byte[3]));
@@ -902,6 +1273,13 @@ public final class Seg2Test {
         misused("keyword is null", () -> Seg2.quickNumber(good, 108, 0, none));
         misused("keyword is null", () -> Seg2.quickDoubleValue(good, 108, 0, noText));
         misused("keyword is null", () -> Seg2.quickLocation(good, 108, 0, none));
+        misused("keyword is null", () -> Seg2.lenientKeyword(good, 108, 0, none));
+        misused("keyword is null", () -> Seg2.lenientKeyword(good, 108, 0, noText));
+        misused("keyword is null", () -> Seg2.lenientValue(good, 108, 0, none));
+        misused("keyword is null", () -> Seg2.lenientValue(good, 108, 0, noText));
+        misused("keyword is null", () -> Seg2.lenientNumber(good, 108, 0, none));
+        misused("keyword is null", () -> Seg2.lenientDoubleValue(good, 108, 0, noText));
+        misused("keyword is null", () -> Seg2.lenientLocation(good, 108, 0, none));
         misused("sheet is null", () -> Seg2.start(good, 0, 1, none));
         misused("sheet is null", () -> Seg2.addIntegers(good, 108, noText, 1, new int[1]));
         misused("sheet is null", () -> Seg2.addBits(good, 108, none, 4, new long[1]));
@@ -926,6 +1304,12 @@ public final class Seg2Test {
         misused("row is null", () -> Seg2.quickBits(good, 108, 0, new long[3], null));
         misused("row is null", () -> Seg2.strings(good, 108, 0, null));
         misused("row is null", () -> Seg2.quickStrings(good, 108, 0, null));
+        misused("read-only", () -> Seg2.lenientIntegers(good, 108, 0, direct(0, 0, 0).asReadOnlyBuffer()));
+        misused("row is null", () -> Seg2.lenientIntegers(good, 108, 0, noRow));
+        misused("row is null", () -> Seg2.lenientIntegers(good, 108, 0, noView));
+        misused("row is null", () -> Seg2.lenientBits(good, 108, 0, null, new byte[3]));
+        misused("row is null", () -> Seg2.lenientBits(good, 108, 0, new long[3], null));
+        misused("row is null", () -> Seg2.lenientStrings(good, 108, 0, null));
         misused("row is null", () -> Seg2.addIntegers(good, 108, "", 1, noRow));
         misused("row is null", () -> Seg2.addIntegers(good, 108, "", 1, noView));
         misused("row is null", () -> Seg2.addBits(good, 108, "", 4, null));
@@ -936,12 +1320,14 @@ public final class Seg2Test {
         IntBuffer swapped = ByteBuffer.allocateDirect(12).order(other).asIntBuffer();
         misused("byte order", () -> Seg2.integers(good, 108, 0, swapped));
         misused("byte order", () -> Seg2.quickIntegers(good, 108, 0, swapped));
+        misused("byte order", () -> Seg2.lenientIntegers(good, 108, 0, swapped));
         misused("byte order", () -> Seg2.addIntegers(good, 108, "", 1, swapped));
         ByteBuffer odd = ByteBuffer.allocateDirect(16);
         odd.position(1);
         IntBuffer crooked = odd.slice().order(ByteOrder.nativeOrder()).asIntBuffer();
         misused("multiple of its element's size", () -> Seg2.integers(good, 108, 0, crooked));
         misused("multiple of its element's size", () -> Seg2.quickIntegers(good, 108, 0, crooked));
+        misused("multiple of its element's size", () -> Seg2.lenientIntegers(good, 108, 0, crooked));
     }
 
     private static void rowsInTheFilesOwnMemory() throws Exception {
@@ -956,6 +1342,7 @@ public final class Seg2Test {
         inside.limit(3);
         misused("own memory", () -> Seg2.integers(file, 108, 0, inside));
         misused("own memory", () -> Seg2.quickIntegers(file, 108, 0, inside));
+        misused("own memory", () -> Seg2.lenientIntegers(file, 108, 0, inside));
         misused("own memory", () -> Seg2.addIntegers(file, 108, "", 1, inside));
         arena.position(120);
         IntBuffer beside = arena.slice().order(ByteOrder.nativeOrder()).asIntBuffer();
@@ -964,6 +1351,9 @@ public final class Seg2Test {
         same(256, beside.get(2));
         beside.put(2, 0);
         accepted(Seg2.quickIntegers(file, 108, 0, beside));
+        same(256, beside.get(2));
+        beside.put(2, 0);
+        accepted(Seg2.lenientIntegers(file, 108, 0, beside).answer);
         same(256, beside.get(2));
     }
 
@@ -999,6 +1389,9 @@ public final class Seg2Test {
             sameNumbers(b, length, trace, "RECEIVER_LOCATION");
             sameStrings(b, length, trace);
             sameSamples(b, length, trace);
+            sameLeniently(b, length, trace, "RECEIVER_LOCATION");
+            sameStringsLeniently(b, length, trace);
+            sameSamplesLeniently(b, length, trace);
             if (trace < 3) {
                 int[] row = new int[block.sampleCount];
                 accepted(Seg2.integers(b, length, trace, row));
@@ -1047,6 +1440,12 @@ public final class Seg2Test {
         test("all strings of a part in one row", Seg2Test::stringsInOneRow);
         test("one trace, quickly", Seg2Test::oneTraceQuickly);
         test("one trace of a file that is refused", Seg2Test::quicklyOfARefusedFile);
+        test("an older recorder's file, seen whole", Seg2Test::olderRecorders);
+        test("its samples", Seg2Test::samplesOfAnOlderFile);
+        test("each thing that is forgiven, with the strict row beside it", Seg2Test::whatIsForgiven);
+        test("nothing else is forgiven", Seg2Test::whatIsNotForgiven);
+        test("a refused question on an older file leaves the rows", Seg2Test::refusedQuestionsOnAnOlderFile);
+        test("leniently of a file that keeps the rules", Seg2Test::lenientlyOfAnAcceptedFile);
         test("numbers, doubles and locations", Seg2Test::numbersAndLocations);
         test("numbers as they were typed", Seg2Test::numbersAsTheyWereTyped);
         test("numbers that no text gives", Seg2Test::forgedNumbers);

@@ -1,0 +1,5 @@
+pub mod Eased
+pub mod Forgiven
+pub mod Never
+pub mod Alike
+pub mod Answers
