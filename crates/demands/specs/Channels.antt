@@ -22,7 +22,7 @@ use Rattle.refusal.specs.declared.Written.the-variants.{To}
 use Rattle.text.specs.declared.Manner.the-variants.{Strict}
 use Rattle.head.specs.declared.Purpose.the-variants.{Read}
 use Rattle.strings.specs.Spelled.{Str, hasKey}
-use Rattle.decimal.specs.declared.NumberAnswer.the-variants.{Is}
+use Rattle.decimal_parts.specs.declared.NumberAnswer.the-variants.{Is}
 use Rattle.channel.specs.Count.{countMost, countIn, wholly, pointless, Counts, counted, counts}
 use Rattle.channel.specs.Channel.{channelNumber}
 use Rattle.chars.specs.Runs.{all}

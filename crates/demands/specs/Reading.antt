@@ -20,13 +20,14 @@ use Rattle.refusal.specs.declared.Part.the-variants.{File}
 use Rattle.refusal.specs.declared.Verdict.the-variants.{Accepted}
 use Rattle.refusal.specs.Table.{refusal}
 use Rattle.strings.specs.Spelled.{Str, valueOfKey}
-use Rattle.decimal.specs.declared.Decimal.{Decimal}
+use Rattle.decimal_parts.specs.declared.Decimal.{Decimal}
 use Rattle.location.specs.declared.Coordinates.{Coordinates}
-use Rattle.decimal.specs.declared.NumberAnswer.the-variants as number
+use Rattle.decimal_parts.specs.declared.NumberAnswer.the-variants as number
 use Rattle.double.specs.declared.DoubleAnswer.the-variants as double
 use Rattle.location.specs.declared.LocationAnswer.the-variants as location
-use Rattle.decimal.specs.Grammar.{Parts, Writes, Short, over, under}
-use Rattle.decimal.specs.Number.{decimalOf, noNumber, tooLong, numberIn}
+use Rattle.decimal_parts.specs.Grammar.{Parts, Writes, Short, over, under}
+use Rattle.decimal_parts.specs.Answer.{decimalOf, tooLong}
+use Rattle.decimal.specs.Number.{noNumber, numberIn}
 use Rattle.double.specs.Double.{doubleOf}
 use Rattle.location.specs.Location.{locationOf}
 use Rattle.decimal.specs.Meaning.{Means, number-means}

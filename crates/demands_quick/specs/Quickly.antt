@@ -54,8 +54,8 @@ use Rattle.reader.specs.Questions.{numberAnswer, doubleAnswer, locationAnswer, 
 use Rattle.reader.specs.Questions.{bitsVerdict, bitsRows, bitsAnswer, patternsLeft, classesLeft}
 use Rattle.reader.specs.Reach.{checked, trace-blocked}
 use Rattle.reader.specs.Listed.{Lists, trace-area}
-use Rattle.decimal.specs.declared.NumberAnswer.{NumberAnswer}
-use Rattle.decimal.specs.declared.NumberAnswer.the-variants as number
+use Rattle.decimal_parts.specs.declared.NumberAnswer.{NumberAnswer}
+use Rattle.decimal_parts.specs.declared.NumberAnswer.the-variants as number
 use Rattle.decimal.specs.Number.{numberIn}
 use Rattle.double.specs.declared.DoubleAnswer.{DoubleAnswer}
 use Rattle.double.specs.declared.DoubleAnswer.the-variants as double

@@ -29,8 +29,8 @@ use Rattle.places.specs.Numbers.{numbersOf}
 use Rattle.decode.specs.Sample.{sampleOf, patternOf, classOf}
 use Rattle.sample.specs.Needed.{byCode}
 use Rattle.sample.specs.Run.{valuesFrom}
-use Rattle.decimal.specs.declared.NumberAnswer.{NumberAnswer}
-use Rattle.decimal.specs.declared.NumberAnswer.the-variants as number
+use Rattle.decimal_parts.specs.declared.NumberAnswer.{NumberAnswer}
+use Rattle.decimal_parts.specs.declared.NumberAnswer.the-variants as number
 use Rattle.double.specs.declared.DoubleAnswer.{DoubleAnswer}
 use Rattle.double.specs.declared.DoubleAnswer.the-variants as double
 use Rattle.location.specs.declared.LocationAnswer.{LocationAnswer}

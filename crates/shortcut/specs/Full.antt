@@ -61,7 +61,7 @@ use Rattle.reader.specs.Questions.{findAnswer, keywordAnswer, valueAnswer, span
 use Rattle.reader.specs.Questions.{integersVerdict, bitsVerdict, integersAnswer, integersLeft, bitsAnswer, patternsLeft, classesLeft}
 use Rattle.reader.specs.Reach.{checked, trace-pointed, trace-blocked}
 use Rattle.decimal.specs.Number.{numberIn}
-use Rattle.decimal.specs.declared.NumberAnswer.the-variants as number
+use Rattle.decimal_parts.specs.declared.NumberAnswer.the-variants as number
 use Rattle.double.specs.Double.{doubleOf}
 use Rattle.double.specs.declared.DoubleAnswer.the-variants as double
 use Rattle.location.specs.Location.{locationOf}

@@ -47,7 +47,7 @@ use Rattle.reader.specs.Questions.{isTrace, traceNumber, areaNamed, placesIn, n
 use Rattle.reader.specs.Questions.{blockAt, integersVerdict, bitsVerdict, dataIn, samplesIn, patternsIn, classesIn, samplesOf, patternsOf, classesOf}
 use Rattle.places.specs.Numbers.{numbersOf}
 use Rattle.decimal.specs.Number.{numberIn}
-use Rattle.decimal.specs.declared.NumberAnswer.the-variants as number
+use Rattle.decimal_parts.specs.declared.NumberAnswer.the-variants as number
 use Rattle.double.specs.Double.{doubleOf}
 use Rattle.double.specs.declared.DoubleAnswer.the-variants as double
 use Rattle.location.specs.Location.{locationOf}

@@ -4,7 +4,7 @@
 // `writer` and `samples`.
 // The rules in words: docs/FORMAT.md, "Worked values".
 use chars::Kind;
-use decimal::NumberAnswer;
+use decimal_parts::NumberAnswer;
 use double::DoubleAnswer;
 use fit::Fit;
 use head::Purpose;

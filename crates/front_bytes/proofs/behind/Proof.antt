@@ -1,13 +1,13 @@
--- `decimal::behind` meets its contract: the part to the end is what is left behind the first n bytes. Assumes nothing.
+-- `front_bytes::behind` meets its contract: the part to the end is what is left behind the first n bytes. Assumes nothing.
 use mathlib.Core.Path.{refl, sym, _∙_}
 use native.Mathlib.Omega.{arith}
 use borrow.Author.Needs.{needs}
 use lib.ListN.{length, drop-of-length-le}
 use lib.Seq.{drop-length}
 use Rattle.word.specs.Part.{rest-from}
-use Rattle.decimal.specs.Run.{rest}
-use Rattle.decimal.proofs.behind.Statement.{statement}
-use Rattle.decimal.proofs.behind.Tie as tie
+use Rattle.front_bytes.specs.Run.{rest}
+use Rattle.front_bytes.proofs.behind.Statement.{statement}
+use Rattle.front_bytes.proofs.behind.Tie as tie
 
 pub behind-spec : {M : Type 1} → statement M
 behind-spec =

@@ -1,10 +1,10 @@
--- `decimal::front` meets its contract. Assumes nothing.
+-- `front_bytes::front` meets its contract. Assumes nothing.
 use mathlib.Core.Path.{refl, sym, _∙_}
 use native.Mathlib.Omega.{arith}
 use lib.Seq.{length-take-le, take-all}
 use Rattle.word.specs.Part.{part-front}
-use Rattle.decimal.proofs.front.Statement.{statement}
-use Rattle.decimal.proofs.front.Tie as tie
+use Rattle.front_bytes.proofs.front.Statement.{statement}
+use Rattle.front_bytes.proofs.front.Tie as tie
 
 pub front-spec : {M : Type 1} → statement M
 front-spec =

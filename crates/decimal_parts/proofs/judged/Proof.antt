@@ -1,11 +1,11 @@
--- `decimal::judged` meets its contract: a law for each answer. Assumes nothing.
+-- `decimal_parts::judged` meets its contract: a law for each answer. Assumes nothing.
 use mathlib.Core.Path.{ap, _∙_}
 use native.Mathlib.Omega.{arith}
-use Rattle.decimal.specs.declared.NumberAnswer.the-variants.{Is}
-use Rattle.decimal.specs.Number.{long-before, long-after, within}
+use Rattle.decimal_parts.specs.declared.NumberAnswer.the-variants.{Is}
+use Rattle.decimal_parts.specs.Answer.{long-before, long-after, within}
 use borrow.Author.Needs.{needs}
-use Rattle.decimal.proofs.judged.Statement.{statement}
-use Rattle.decimal.proofs.judged.Tie as tie
+use Rattle.decimal_parts.proofs.judged.Statement.{statement}
+use Rattle.decimal_parts.proofs.judged.Tie as tie
 
 pub judged-spec : {M : Type 1} → statement M
 judged-spec =

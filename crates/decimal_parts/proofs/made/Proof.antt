@@ -1,14 +1,14 @@
--- `decimal::made` meets its contract: at most 18 digits fit 64 bits, and at most 2 stay below a hundred. Assumes
+-- `decimal_parts::made` meets its contract: at most 18 digits fit 64 bits, and at most 2 stay below a hundred. Assumes
 -- nothing.
 use Prim.Native.Nat.{_<_}
 use native.Mathlib.Omega.{arith}
 use mir.Syntax.{w32}
 use Rattle.word.specs.Signed.{kept}
 use borrow.Author.Needs.{needs}
-use Rattle.decimal.specs.Number.{decimalOf}
+use Rattle.decimal_parts.specs.Answer.{decimalOf}
 use Rattle.digits.specs.Value.{room-none, room-behind, two-digits}
-use Rattle.decimal.proofs.made.Statement.{statement}
-use Rattle.decimal.proofs.made.Tie as tie
+use Rattle.decimal_parts.proofs.made.Statement.{statement}
+use Rattle.decimal_parts.proofs.made.Tie as tie
 
 small : (c : tie.After-value3) → c .value3 .result < 100
 small c = rw (c .value3 .ensures) (two-digits _ (omega arith))

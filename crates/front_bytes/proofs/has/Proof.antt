@@ -1,8 +1,8 @@
--- `decimal::has` meets its contract. Assumes nothing.
+-- `front_bytes::has` meets its contract. Assumes nothing.
 use borrow.Author.Needs.{needs}
-use Rattle.decimal.specs.Number.{has-first, has-none}
-use Rattle.decimal.proofs.has.Statement.{statement}
-use Rattle.decimal.proofs.has.Tie as tie
+use Rattle.front_bytes.specs.OneByte.{has-first, has-none}
+use Rattle.front_bytes.proofs.has.Statement.{statement}
+use Rattle.front_bytes.proofs.has.Tie as tie
 
 pub has-spec : {M : Type 1} → statement M
 has-spec =

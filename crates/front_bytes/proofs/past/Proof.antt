@@ -1,11 +1,11 @@
--- `decimal::past` meets its contract. Assumes nothing.
+-- `front_bytes::past` meets its contract. Assumes nothing.
 use mathlib.Core.Path.{refl, sym, _∙_}
 use native.Mathlib.Omega.{arith}
 use borrow.Author.Needs.{needs}
 use Rattle.word.specs.Part.{rest-from}
-use Rattle.decimal.specs.Number.{past-has, past-not}
-use Rattle.decimal.proofs.past.Statement.{statement}
-use Rattle.decimal.proofs.past.Tie as tie
+use Rattle.front_bytes.specs.OneByte.{past-has, past-not}
+use Rattle.front_bytes.proofs.past.Statement.{statement}
+use Rattle.front_bytes.proofs.past.Tie as tie
 
 pub past-spec : {M : Type 1} → statement M
 past-spec =

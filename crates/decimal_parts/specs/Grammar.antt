@@ -8,7 +8,7 @@ use mathlib.Core.List.{List, [], _∷_, _++_}
 use Prim.Native.Nat.{ℕ, _+_, _-_, _*_, _^_, _≤_, _<_}
 use lib.ListN.{length}
 use Rattle.refusal.specs.Rows.{pick}
-use Rattle.decimal.specs.Run.{All}
+use Rattle.front_bytes.specs.Run.{All}
 use Rattle.chars.specs.Chars.{digit}
 
 -- what a text's parts are: a minus, the digits before the point and behind it (none: no point), a minus behind E, and

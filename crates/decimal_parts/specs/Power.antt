@@ -5,7 +5,7 @@ use Prim.Native.Nat.{ℕ, zero, suc, _+_, _-_, _≤_, _<_}
 use native.Mathlib.Omega.{arith}
 use lib.IntN.{pos, negℤ-+ℤ}
 use borrow.Author.Tests.{lt-ltb, le-ltb}
-use Rattle.decimal.specs.Number.{signed, powerOf}
+use Rattle.decimal_parts.specs.Answer.{signed, powerOf}
 
 -- a minus behind E: both lower it
 pub power-down : (e n : ℕ) → signed true (e + n) ≡ powerOf true e n
