@@ -36,7 +36,7 @@ fn begin(buffer: &mut [u8], n: usize, sheet: &[u8], end: usize, code: u32, count
     let u = [buffer[12], buffer[13]];
     let t_len = b.strings;
     let u_len = b.lines;
-    store::zeros(buffer, n, at); // the gap
+    store_bytes::zeros(buffer, n, at); // the gap
     layout::put_head(
         &mut buffer[at..],
         b.high,

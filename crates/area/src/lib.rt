@@ -29,10 +29,10 @@ fn write_line(part: &mut [u8], high: bool, t: &[u8], l: &[u8], w: usize, to: usi
     let d = a + l.len();
     let from = w + 1;
     store::put2(part, high, to, n as u16);
-    store::copy(part, a, &l[..w]);
-    store::copy(part, b, b" ");
-    store::copy(part, c, &l[from..]);
-    store::copy(part, d, t);
+    store_bytes::copy(part, a, &l[..w]);
+    store_bytes::copy(part, b, b" ");
+    store_bytes::copy(part, c, &l[from..]);
+    store_bytes::copy(part, d, t);
     to + n
 }
 
@@ -43,8 +43,8 @@ fn write_more(part: &mut [u8], u: &[u8], v: &[u8], to: usize) -> usize
         × (now (part .exit) ≡ put (now (part .entry)) to (now (u .entry) ++ now (v .entry))) ⌝ }
 {
     let a = to + u.len();
-    store::copy(part, to, u);
-    store::copy(part, a, v);
+    store_bytes::copy(part, to, u);
+    store_bytes::copy(part, a, v);
     a + v.len()
 }
 
@@ -80,10 +80,10 @@ fn write_note(part: &mut [u8], high: bool, t: &[u8], u: &[u8], s: &[u8], to: usi
     let b = a + 5;
     let c = a + n;
     let from = n + 1;
-    store::copy(part, a, b"NOTE ");
-    store::copy(part, b, &s[5..n]);
+    store_bytes::copy(part, a, b"NOTE ");
+    store_bytes::copy(part, b, &s[5..n]);
     let e = write_lines(part, u, &s[from..], c);
-    store::copy(part, e, t);
+    store_bytes::copy(part, e, t);
     let end = e + t.len();
     store::put2(part, high, to, (end - to) as u16);
     end
@@ -123,5 +123,5 @@ pub fn write_area(part: &mut [u8], high: bool, t: &[u8], u: &[u8], sheet: &[u8])
     let a = to + 2;
     let e = word::round_up(a);
     store::put2(part, high, to, 0);
-    store::zeros(part, a, e);
+    store_bytes::zeros(part, a, e);
 }

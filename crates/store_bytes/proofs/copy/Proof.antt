@@ -1,4 +1,4 @@
--- `store::copy` meets its contract. The invariant: what is left to store, stored, makes the whole. Assumes nothing.
+-- `store_bytes::copy` meets its contract. The invariant: what is left to store, stored, makes the whole. Assumes nothing.
 use mathlib.Core.Path.{_≡_, refl, _∙_}
 use mathlib.Core.List.{[]}
 use Prim.Native.Nat.{_+_, _-_}
@@ -6,8 +6,8 @@ use native.Mathlib.Nat.{add-zero}
 use native.Mathlib.Omega.{arith}
 use lib.ListN.{length, drop, length-set, drop-of-length-le}
 use Rattle.word.specs.Put.{put, put-none, copy-turn}
-use Rattle.store.proofs.copy.Statement.{statement}
-use Rattle.store.proofs.copy.Tie as tie
+use Rattle.store_bytes.proofs.copy.Statement.{statement}
+use Rattle.store_bytes.proofs.copy.Tie as tie
 
 abbrev Inv-loop : tie.InvT-loop
 Inv-loop buf₀ at src i₀ buf i = (length buf ≡ length buf₀) × (put buf (at + i) (drop i src) ≡ put buf₀ at src)

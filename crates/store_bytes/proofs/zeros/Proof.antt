@@ -1,11 +1,11 @@
--- `store::zeros` meets its contract. The invariant: what is left to store, stored, makes the whole. Assumes nothing.
+-- `store_bytes::zeros` meets its contract. The invariant: what is left to store, stored, makes the whole. Assumes nothing.
 use mathlib.Core.Path.{_≡_, refl, _∙_}
 use Prim.Native.Nat.{_+_, _-_}
 use native.Mathlib.Omega.{arith}
 use lib.ListN.{length, replicate, length-set}
 use Rattle.word.specs.Put.{put, put-none, fill-turn}
-use Rattle.store.proofs.zeros.Statement.{statement}
-use Rattle.store.proofs.zeros.Tie as tie
+use Rattle.store_bytes.proofs.zeros.Statement.{statement}
+use Rattle.store_bytes.proofs.zeros.Tie as tie
 
 abbrev Inv-loop : tie.InvT-loop
 Inv-loop buf₀ a e i₀ buf i = (length buf ≡ length buf₀) × (put buf i (replicate (e - i) 0) ≡ put buf₀ a (replicate (e - a) 0))
