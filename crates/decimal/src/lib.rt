@@ -34,7 +34,13 @@ fn tail(minus: bool, whole: &[u8], decimals: &[u8], x: &[u8]) -> NumberAnswer
     if 0 < rest.len() {
         return no_number();
     }
-    decimal_parts::judged(minus, whole, decimals, front_bytes::has(z, b'-'), front_bytes::front(y, n))
+    decimal_parts::judged(
+        minus,
+        whole,
+        decimals,
+        front_bytes::has(z, b'-'),
+        front_bytes::front(y, n),
+    )
 }
 
 // The number that a text is (document 01, "Numbers in values"): a comma, a plus, a space and any other byte end the
@@ -54,5 +60,10 @@ pub fn number(text: &[u8]) -> NumberAnswer
     if point & (m == 0) {
         return no_number();
     }
-    tail(front_bytes::has(text, b'-'), front_bytes::front(s, n), front_bytes::front(v, m), front_bytes::behind(v, m))
+    tail(
+        front_bytes::has(text, b'-'),
+        front_bytes::front(s, n),
+        front_bytes::front(v, m),
+        front_bytes::behind(v, m),
+    )
 }

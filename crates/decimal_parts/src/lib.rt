@@ -73,7 +73,13 @@ fn too_long() -> NumberAnswer
 
 // The answer for the parts of a text that the grammar writes: a number, unless it has more than 18 digits before E,
 // leading zeros counted, or more than 2 after it. The counts are compared one by one, so that no sum of them can wrap.
-pub fn judged(minus: bool, whole: &[u8], decimals: &[u8], down: bool, exponent: &[u8]) -> NumberAnswer
+pub fn judged(
+    minus: bool,
+    whole: &[u8],
+    decimals: &[u8],
+    down: bool,
+    exponent: &[u8],
+) -> NumberAnswer
     ensures { λ r. ⌜ r ≡ judged (partsAre minus (now (whole .entry)) (now (decimals .entry)) down
         (now (exponent .entry))) ⌝ }
 {

@@ -13,7 +13,7 @@ use lib.ListN.{length, take}
 use lib.Dec.{ltb, eqb}
 use native.Mathlib.Omega.{arith}
 use borrow.Author.Tests.{ne-eqb}
-use Rattle.head.specs.declared.Purpose.the-variants.{Read}
+use Rattle.head_limits.specs.declared.Purpose.the-variants.{Read}
 use Rattle.text.specs.declared.Manner.{Manner}
 use Rattle.refusal.specs.Verdicts.{andThen, asked}
 use Rattle.refusal.specs.declared.Rule.{Rule}
@@ -39,7 +39,7 @@ use Rattle.decimal.specs.Number.{shapeRows, partsOf, numberIn}
 use Rattle.double.specs.Double.{scaledOf, withSign, noDouble, doubleFrom, onNumber, doubleOf}
 use Rattle.location.specs.Values.{Value, valuesOf}
 use Rattle.location.specs.Location.{valueCount, coordinateOf, alone, together, onCoordinate, oneOf, threeOf, located, locationOf}
-use Rattle.head.specs.Head.{fileBlockOf, highFirst, countOf}
+use Rattle.head_words.specs.HeadWords.{fileBlockOf, highFirst, countOf}
 use Rattle.block.specs.Block.{traceBlockOf}
 use Rattle.image.specs.Image.{checkOf}
 use Rattle.reader.specs.declared.Whose.the-variants.{One, Nobody}

@@ -11,7 +11,7 @@ use native.Mathlib.Omega.{arith}
 use lib.IntN.{ℤ, pos, negsuc}
 use lib.ListN.{length, getD, take}
 use lib.Ieee.{Float, binary64, round}
-use Rattle.head.specs.declared.Purpose.the-variants.{Read, Grow}
+use Rattle.head_limits.specs.declared.Purpose.the-variants.{Read, Grow}
 use Rattle.text.specs.declared.Manner.the-variants.{Strict}
 use Rattle.word.specs.Bytes.{Bytes}
 use Rattle.word.specs.Round.{round4}
@@ -42,7 +42,8 @@ use Rattle.sheet.specs.Sizes.{length-area}
 use Rattle.sheet.specs.Paper.{sheetOf, GoodLines, accepted-lines, lines-read, sheet-lines-once}
 use Rattle.area.specs.Spelling.{measured-size, good-measured}
 use Rattle.area.specs.Meaning.{NoteParted, lines-parted}
-use Rattle.head.specs.Head.{maximum, countOf}
+use Rattle.head_words.specs.HeadWords.{countOf}
+use Rattle.head.specs.Head.{maximum}
 use Rattle.image.specs.Image.{checkOf}
 use Rattle.image.specs.Keeps.{Keeps}
 use Rattle.image.specs.Accepted.{accepted-keeps, keeps-accepted}

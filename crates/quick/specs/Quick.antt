@@ -24,7 +24,7 @@ use Rattle.location.specs.declared.LocationAnswer.the-variants as location
 use Rattle.decimal.specs.Number.{numberIn}
 use Rattle.double.specs.Double.{doubleOf}
 use Rattle.location.specs.Location.{locationOf}
-use Rattle.head.specs.Head.{highFirst}
+use Rattle.head_words.specs.HeadWords.{highFirst}
 use Rattle.terminators.specs.Terminators.{stringEnd, lineEnd}
 use Rattle.block.specs.Block.{dataAt}
 use Rattle.image.specs.Keeps.{traceAt}

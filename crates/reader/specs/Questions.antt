@@ -38,8 +38,9 @@ use Rattle.location.specs.declared.LocationAnswer.the-variants as location
 use Rattle.decimal.specs.Number.{numberIn}
 use Rattle.double.specs.Double.{doubleOf}
 use Rattle.location.specs.Location.{locationOf}
-use Rattle.head.specs.declared.Purpose.the-variants.{Read}
-use Rattle.head.specs.Head.{highFirst, roomOf, countOf, refused, fileBlockOf}
+use Rattle.head_limits.specs.declared.Purpose.the-variants.{Read}
+use Rattle.head_words.specs.HeadWords.{highFirst, roomOf, countOf, fileBlockOf}
+use Rattle.head.specs.Head.{refused}
 use Rattle.terminators.specs.Terminators.{stringEnd}
 use Rattle.block.specs.declared.TraceBlock.{TraceBlock}
 use Rattle.block.specs.Block.{sampleCount, formatCode, dataAt, traceBlockOf}

@@ -39,8 +39,9 @@ use Rattle.until.specs.declared.Turn.the-variants.{Here, Gone, On}
 use Rattle.until.specs.declared.Walked.{Walked}
 use Rattle.until.specs.declared.Walked.the-variants as walked
 use Rattle.until.specs.Until.{passed, byKey, byIndex, toEnd, onTurn, onStep, walkFrom, walkOf}
-use Rattle.head.specs.declared.Purpose.the-variants.{Read}
-use Rattle.head.specs.Head.{highFirst, roomOf, countOf, headOf}
+use Rattle.head_limits.specs.declared.Purpose.the-variants.{Read}
+use Rattle.head_words.specs.HeadWords.{highFirst, roomOf, countOf}
+use Rattle.head.specs.Head.{headOf}
 use Rattle.head.specs.HeadLaws.{head-accepts}
 use Rattle.terminators.specs.Terminators.{stringEnd, lineEnd}
 use Rattle.block.specs.Block.{dataAt, dataSize, endAt, pointerRow, blockOf}

@@ -7,7 +7,7 @@ use chars::Kind;
 use decimal_parts::NumberAnswer;
 use double::DoubleAnswer;
 use fit::Fit;
-use head::Purpose;
+use head_limits::Purpose;
 use location::LocationAnswer;
 use refusal::Part;
 use refusal::Verdict;

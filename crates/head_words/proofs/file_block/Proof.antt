@@ -1,9 +1,9 @@
--- `head::file_block` meets its contract. Assumes nothing.
-use Rattle.head.specs.Head.{fileBlockOf}
-use Rattle.head.specs.HeadLaws.{room-read, count-read}
+-- `head_words::file_block` meets its contract. Assumes nothing.
+use Rattle.head_words.specs.HeadWords.{fileBlockOf}
+use Rattle.head_words.specs.HeadWords.{room-read, count-read}
 use borrow.Author.Needs.{needs}
-use Rattle.head.proofs.file_block.Statement.{statement}
-use Rattle.head.proofs.file_block.Tie as tie
+use Rattle.head_words.proofs.file_block.Statement.{statement}
+use Rattle.head_words.proofs.file_block.Tie as tie
 
 pub file-block-spec : {M : Type 1} → statement M
 unfolding fileBlockOf
