@@ -9,7 +9,7 @@ ghost use lib.ListN.{length};
 ghost use Rattle.word.specs.Put.{put};
 ghost use Rattle.sample.specs.Needed.{room};
 ghost use Rattle.sheet.specs.Area.{areaOf, measuredOf};
-ghost use Rattle.area.specs.Writing.{Writable};
+ghost use Rattle.sheet_texts.specs.Texts.{Writable};
 ghost use Rattle.layout.specs.Layout.{nul, lineFeed, slotsMost, fileBlock, startImage, traceBlock, integers};
 ghost use Rattle.layout.specs.Layout.{patterns, samplesData};
 ghost use Rattle.layout.specs.Stores.{headBytes, Held};

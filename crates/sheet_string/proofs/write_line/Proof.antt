@@ -1,12 +1,12 @@
--- `area::write_line` meets its contract. The stores, one behind the other, are the string. Assumes nothing.
+-- `sheet_string::write_line` meets its contract. The stores, one behind the other, are the string. Assumes nothing.
 use mathlib.Core.Path.{refl, sym}
 use lib.Seq.{length-take-le}
 use Rattle.word.specs.Part.{part-rest}
-use Rattle.area.specs.Writing.{string-written}
+use Rattle.sheet_string.specs.StringBytes.{string-written}
 use borrow.Author.Needs.{needs}
 use native.Mathlib.Omega.{arith}
-use Rattle.area.proofs.write_line.Statement.{statement}
-use Rattle.area.proofs.write_line.Tie as tie
+use Rattle.sheet_string.proofs.write_line.Statement.{statement}
+use Rattle.sheet_string.proofs.write_line.Tie as tie
 
 pub write-line-spec : {M : Type 1} → statement M
 write-line-spec =

@@ -1,15 +1,15 @@
--- `area::write_lines` meets its contract. The invariant: what is left to store, stored, makes the whole. Assumes
+-- `sheet_string::write_lines` meets its contract. The invariant: what is left to store, stored, makes the whole. Assumes
 -- nothing.
 use mathlib.Core.Path.{_≡_, refl}
 use Prim.Native.Nat.{_≤_, _-_}
 use lib.ListN.{length}
 use Rattle.word.specs.Part.{part-rest}
 use Rattle.word.specs.Put.{length-put}
-use Rattle.area.specs.Writing.{Noting, noting-start, noting-fits, noting-turn, noting-over}
+use Rattle.sheet_string.specs.StringBytes.{Noting, noting-start, noting-fits, noting-turn, noting-over}
 use borrow.Author.Needs.{needs}
 use native.Mathlib.Omega.{arith}
-use Rattle.area.proofs.write_lines.Statement.{statement}
-use Rattle.area.proofs.write_lines.Tie as tie
+use Rattle.sheet_string.proofs.write_lines.Statement.{statement}
+use Rattle.sheet_string.proofs.write_lines.Tie as tie
 
 abbrev Inv-loop : tie.InvT-loop
 Inv-loop part₀ u s to at₀ end₀ part at end = (at ≤ length s) × (length part ≡ length part₀) × Noting u s part₀ to at end part

@@ -1,9 +1,9 @@
--- `area::write_more` meets its contract. Assumes nothing.
+-- `sheet_string::write_more` meets its contract. Assumes nothing.
 use mathlib.Core.Path.{refl, _∙_}
-use Rattle.area.specs.Writing.{put-then}
+use Rattle.sheet_string.specs.StringBytes.{put-then}
 use borrow.Author.Needs.{needs}
-use Rattle.area.proofs.write_more.Statement.{statement}
-use Rattle.area.proofs.write_more.Tie as tie
+use Rattle.sheet_string.proofs.write_more.Statement.{statement}
+use Rattle.sheet_string.proofs.write_more.Tie as tie
 
 pub write-more-spec : {M : Type 1} → statement M
 write-more-spec =

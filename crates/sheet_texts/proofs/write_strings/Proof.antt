@@ -1,16 +1,16 @@
--- `area::write_strings` meets its contract. The invariant: what is left to store, stored, makes the whole. Assumes
+-- `sheet_texts::write_strings` meets its contract. The invariant: what is left to store, stored, makes the whole. Assumes
 -- nothing.
 use mathlib.Core.Path.{_≡_, refl, sym, _∙_}
 use Prim.Native.Nat.{_+_, _-_, _≤_, _<_}
 use lib.ListN.{length}
 use Rattle.word.specs.Part.{part, part-rest}
 use Rattle.word.specs.Put.{length-put}
-use Rattle.area.specs.Writing.{Strung, texts-room, strung-start, line-fits, strung-fits, strung-room, strung-turn}
-use Rattle.area.specs.Writing.{strung-headed, strung-note-room, strung-note, strung-over}
+use Rattle.sheet_texts.specs.Texts.{Strung, texts-room, strung-start, line-fits, strung-fits, strung-room, strung-turn}
+use Rattle.sheet_texts.specs.Texts.{strung-headed, strung-note-room, strung-note, strung-over}
 use borrow.Author.Needs.{needs}
 use native.Mathlib.Omega.{arith}
-use Rattle.area.proofs.write_strings.Statement.{statement}
-use Rattle.area.proofs.write_strings.Tie as tie
+use Rattle.sheet_texts.proofs.write_strings.Statement.{statement}
+use Rattle.sheet_texts.proofs.write_strings.Tie as tie
 
 abbrev Inv-loop : tie.InvT-loop
 Inv-loop part₀ high t u sheet at₀ to₀ part at to = (at ≤ length sheet) × (length part ≡ length part₀) × Strung high t u sheet part₀ at to part

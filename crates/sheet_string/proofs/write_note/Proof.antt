@@ -1,4 +1,4 @@
--- `area::write_note` meets its contract. The stores make the string, the offset last. Assumes nothing.
+-- `sheet_string::write_note` meets its contract. The stores make the string, the offset last. Assumes nothing.
 use mathlib.Core.Path.{refl}
 use Prim.Native.Nat.{_+_, _≤_, _<_}
 use lib.ListN.{length}
@@ -6,11 +6,11 @@ use Rattle.word.specs.Part.{part-rest}
 use Rattle.strings.specs.Spelled.{sizeOf}
 use Rattle.sheet.specs.Lines.{sheetLines}
 use Rattle.sheet.specs.Area.{noteOf}
-use Rattle.area.specs.Writing.{NoteAt, note-at, note-written}
+use Rattle.sheet_string.specs.StringBytes.{NoteAt, note-at, note-written}
 use borrow.Author.Needs.{needs}
 use native.Mathlib.Omega.{arith}
-use Rattle.area.proofs.write_note.Statement.{statement}
-use Rattle.area.proofs.write_note.Tie as tie
+use Rattle.sheet_string.proofs.write_note.Statement.{statement}
+use Rattle.sheet_string.proofs.write_note.Tie as tie
 
 -- the NOTE's first line, once its length is known, and the room that the buffer has
 noted : (c : tie.After-line-len)
