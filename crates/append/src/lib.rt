@@ -60,7 +60,7 @@ fn register(buffer: &mut [u8], n: usize)
 {
     let b = head_words::file_block(&buffer[..n]);
     let at = word::round_up(n);
-    store::put4(buffer, b.high, 32 + 4 * b.n, at as u32);
+    store_wide::put4(buffer, b.high, 32 + 4 * b.n, at as u32);
     store::put2(buffer, b.high, 6, b.n as u16 + 1);
 }
 

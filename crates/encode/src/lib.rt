@@ -17,7 +17,7 @@ fn put_word8(part: &mut [u8], high: bool, at: usize, n: u64)
     requires { ⌜ at + 8 ≤ length (now part) ⌝ }
     ensures { λ _. ⌜ now (part .exit) ≡ put (now (part .entry)) at (bytesOf 8 high n) ⌝ }
 {
-    store::put8(part, false, at, sample::turned8(high, n));
+    store_wide::put8(part, false, at, sample::turned8(high, n));
 }
 
 // A sample's bits in two's complement.

@@ -63,8 +63,8 @@ fn put_block(part: &mut [u8], high: bool, b: u16, d: u32, s: u32, code: u8)
 {
     store::put2(part, high, 0, 17442);
     store::put2(part, high, 2, b);
-    store::put4(part, high, 4, d);
-    store::put4(part, high, 8, s);
+    store_wide::put4(part, high, 4, d);
+    store_wide::put4(part, high, 8, s);
     let c = [code];
     store_bytes::copy(part, 12, &c[..]);
     store_bytes::zeros(part, 13, 32);

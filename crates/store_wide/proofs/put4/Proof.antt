@@ -1,10 +1,10 @@
--- `store::put4` meets its contract. It is two writes of half the width, one behind the other. Assumes nothing.
+-- `store_wide::put4` meets its contract. It is two writes of half the width, one behind the other. Assumes nothing.
 use mathlib.Core.Path.{_∙_}
 use native.Mathlib.Omega.{arith}
 use borrow.Author.Needs.{needs}
 use Rattle.word.specs.WordLaws.{put-joined}
-use Rattle.store.proofs.put4.Statement.{statement}
-use Rattle.store.proofs.put4.Tie as tie
+use Rattle.store_wide.proofs.put4.Statement.{statement}
+use Rattle.store_wide.proofs.put4.Tie as tie
 
 pub put4-spec : {M : Type 1} → statement M
 put4-spec =
