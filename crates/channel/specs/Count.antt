@@ -20,7 +20,8 @@ use Rattle.decimal_parts.specs.declared.NumberAnswer.the-variants.{Is}
 use Rattle.front_bytes.specs.Run.{All}
 use Rattle.decimal_parts.specs.Grammar.{Parts, Sign, Sign.dash, Sign.nothing, Fraction, Fraction.no-point, Fraction.point, Power}
 use Rattle.decimal_parts.specs.Grammar.{Power.no-power, Power.power, Writes}
-use Rattle.decimal_parts.specs.Answer.{powerOf, decimalOf, judged}
+use Rattle.decimal_power.specs.Power.{powerOf}
+use Rattle.decimal_parts.specs.Answer.{decimalOf, judged}
 use Rattle.decimal.specs.Number.{numberIn}
 use Rattle.decimal.specs.Agreed.{written, is-number}
 

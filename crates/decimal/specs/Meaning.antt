@@ -19,11 +19,11 @@ use Rattle.front_bytes.specs.Run.{All}
 use Rattle.chars.specs.Chars.{digit}
 use Rattle.decimal_parts.specs.Grammar.{Parts, Fraction, Fraction.no-point, Fraction.point, Power, Power.no-power}
 use Rattle.decimal_parts.specs.Grammar.{Power.power, Writes, placed, over, under}
-use Rattle.decimal_parts.specs.Answer.{powerOf, decimalOf}
+use Rattle.decimal_parts.specs.Answer.{decimalOf}
 use Rattle.decimal.specs.Number.{numberIn}
 use Rattle.digits.specs.Value.{worth, worth-digit, value}
 use Rattle.decimal.specs.Agreed.{is-number}
-use Rattle.decimal_parts.specs.Power.{power-down, power-less, power-more}
+use Rattle.decimal_power.specs.Power.{powerOf, power-down, power-less, power-more}
 
 -- ---- the value of an answer, without its sign: a fraction, `numerator n` / `denominator n`
 

@@ -2,10 +2,9 @@
 -- too many digits.
 -- Assumes nothing.
 use mathlib.Core.Path.{_≡_}
-use mathlib.Core.Bool.{Bool, true, false, _&&_}
+use mathlib.Core.Bool.{Bool, _&&_}
 use mathlib.Core.List.{List, [], _∷_}
 use Prim.Native.Nat.{ℕ, _+_, _≤_, _<_}
-use lib.IntN.{ℤ, pos, negℤ, _-ℤ_}
 use lib.ListN.{length}
 use lib.Dec.{ltb}
 use borrow.Author.Tests.{lt-ltb, le-ltb}
@@ -18,19 +17,13 @@ use Rattle.decimal_parts.specs.declared.NumberAnswer.{NumberAnswer}
 use Rattle.decimal_parts.specs.declared.NumberAnswer.the-variants.{Is, Refused}
 use Rattle.digits.specs.Value.{value}
 use Rattle.decimal_parts.specs.Grammar.{Parts}
+use Rattle.decimal_power.specs.Power.{powerOf}
 
 abbrev pub partsAre : Bool → List ℕ → List ℕ → Bool → List ℕ → Parts
 partsAre m w d down e = record { minus = m; whole = w; decimals = d; down = down; exponent = e }
 
 -- "sign, coefficient as written and power of ten; zero has sign plus", and "how many digits stood after the point"
 -- (document 02 §4)
-abbrev pub signed : Bool → ℕ → ℤ
-signed true n = negℤ (pos n)
-signed false n = pos n
-
-unfoldable pub powerOf : Bool → ℕ → ℕ → ℤ
-powerOf down e n = signed down e -ℤ pos n
-
 unfoldable pub decimalOf : Parts → Decimal
 decimalOf p = record {
   minus = p .minus && ltb 0 (value (value 0 (p .whole)) (p .decimals));

@@ -1,3 +1,2 @@
 pub mod Grammar
 pub mod Answer
-pub mod Power

@@ -1,13 +1,13 @@
 // The parts of a number and the answer for them: sign, coefficient and power of ten, unless there are too many digits
-// (document 01, "Numbers in values", row 21). Grammar has the parts and the text that they write, Answer the answer,
-// Power laws of its power. Stands on `front_bytes`, `digits`, `chars`, `word`, `refusal`.
+// (document 01, "Numbers in values", row 21). Grammar has the parts and the text that they write, Answer the answer.
+// Stands on `decimal_power`, `front_bytes`, `digits`, `chars`, `word`, `refusal`.
 // The rules in words: docs/FORMAT.md, "Numbers in values".
 use refusal::Refusal;
 use refusal::Rule;
 ghost use mathlib.Core.Path.{_≡_};
-ghost use Prim.Native.Nat.{_+_, _<_, _≤_};
+ghost use Prim.Native.Nat.{_+_, _≤_};
 ghost use lib.ListN.{length};
-ghost use Rattle.decimal_parts.specs.Answer.{signed, powerOf, partsAre, decimalOf, tooLong, judged};
+ghost use Rattle.decimal_parts.specs.Answer.{partsAre, decimalOf, tooLong, judged};
 
 // The answer to the number question: sign, coefficient as written and power of ten; zero has sign plus; and how many
 // digits stood after the point (document 02 §4). (It is no `Number`: a struct and a function of one module may not
@@ -24,28 +24,6 @@ pub enum NumberAnswer {
     Refused(Refusal),
 }
 
-// A number that fits, with a sign.
-fn signed(minus: bool, n: u32) -> i32
-    requires { ⌜ n < 2147483648 ⌝ }
-    ensures { λ r. ⌜ r ≡ signed minus n ⌝ }
-{
-    if minus { -(n as i32) } else { n as i32 }
-}
-
-// The power of ten that an exponent and n digits behind the point make.
-fn power(down: bool, e: u32, n: u32) -> i32
-    requires { ⌜ (e < 100) × (n < 100) ⌝ }
-    ensures { λ r. ⌜ r ≡ powerOf down e n ⌝ }
-{
-    if down {
-        signed(true, e + n)
-    } else if n <= e {
-        signed(false, e - n)
-    } else {
-        signed(true, n - e)
-    }
-}
-
 // The number that the parts of a text make. Their digits are few enough: the coefficient fits 64 bits.
 fn made(minus: bool, whole: &[u8], decimals: &[u8], down: bool, exponent: &[u8]) -> Decimal
     requires { ⌜ (length (now whole) + length (now decimals) ≤ 18) × (length (now exponent) ≤ 2) ⌝ }
@@ -59,7 +37,7 @@ fn made(minus: bool, whole: &[u8], decimals: &[u8], down: bool, exponent: &[u8])
     Decimal {
         minus: minus & (0 < c),
         coefficient: c,
-        power: power(down, e, n),
+        power: decimal_power::power(down, e, n),
         decimals: n,
     }
 }

@@ -27,7 +27,8 @@ use Rattle.decimal_parts.specs.declared.NumberAnswer.{NumberAnswer}
 use Rattle.decimal_parts.specs.declared.NumberAnswer.the-variants as answer
 use Rattle.chars.specs.Runs.{run}
 use Rattle.front_bytes.specs.OneByte.{has, past}
-use Rattle.decimal_parts.specs.Answer.{powerOf, decimalOf, judged}
+use Rattle.decimal_power.specs.Power.{powerOf}
+use Rattle.decimal_parts.specs.Answer.{decimalOf, judged}
 use Rattle.decimal.specs.Number.{partsOf, numberIn}
 use Rattle.digits.specs.Value.{worth, value}
 use Rattle.digits.specs.Digits.{onto, digits}

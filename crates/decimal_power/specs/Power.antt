@@ -1,11 +1,18 @@
--- The power of ten that an exponent and the digits behind the point make, by magnitudes. Assumes nothing.
+-- The power of ten that an exponent and the digits behind the point make (document 01, "Numbers in values"), and the same
+-- by magnitudes. Assumes nothing.
 use mathlib.Core.Path.{_≡_, ap}
-use mathlib.Core.Bool.{true, false}
+use mathlib.Core.Bool.{Bool, true, false}
 use Prim.Native.Nat.{ℕ, zero, suc, _+_, _-_, _≤_, _<_}
 use native.Mathlib.Omega.{arith}
-use lib.IntN.{pos, negℤ-+ℤ}
+use lib.IntN.{ℤ, pos, negℤ, _-ℤ_, negℤ-+ℤ}
 use borrow.Author.Tests.{lt-ltb, le-ltb}
-use Rattle.decimal_parts.specs.Answer.{signed, powerOf}
+
+abbrev pub signed : Bool → ℕ → ℤ
+signed true n = negℤ (pos n)
+signed false n = pos n
+
+unfoldable pub powerOf : Bool → ℕ → ℕ → ℤ
+powerOf down e n = signed down e -ℤ pos n
 
 -- a minus behind E: both lower it
 pub power-down : (e n : ℕ) → signed true (e + n) ≡ powerOf true e n

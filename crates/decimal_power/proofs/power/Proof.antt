@@ -1,11 +1,11 @@
--- `decimal_parts::power` meets its contract: a law for each of the three cases. Assumes nothing.
+-- `decimal_power::power` meets its contract: a law for each of the three cases. Assumes nothing.
 use mathlib.Core.Path.{_∙_}
 use mir.Syntax.{w32}
 use Rattle.word.specs.Signed.{kept}
 use borrow.Author.Needs.{needs}
-use Rattle.decimal_parts.specs.Power.{power-down, power-less, power-more}
-use Rattle.decimal_parts.proofs.power.Statement.{statement}
-use Rattle.decimal_parts.proofs.power.Tie as tie
+use Rattle.decimal_power.specs.Power.{power-down, power-less, power-more}
+use Rattle.decimal_power.proofs.power.Statement.{statement}
+use Rattle.decimal_power.proofs.power.Tie as tie
 
 pub power-spec : {M : Type 1} → statement M
 power-spec =

@@ -1,10 +1,10 @@
--- `decimal_parts::signed` meets its contract. Assumes nothing.
+-- `decimal_power::signed` meets its contract. Assumes nothing.
 use Rattle.word.specs.Signed.{negates, negated}
 use borrow.Author.Needs.{needs}
 use mir.Syntax.{w32}
 use mir.Facts.{toZ-pos}
-use Rattle.decimal_parts.proofs.signed.Statement.{statement}
-use Rattle.decimal_parts.proofs.signed.Tie as tie
+use Rattle.decimal_power.proofs.signed.Statement.{statement}
+use Rattle.decimal_power.proofs.signed.Tie as tie
 
 pub signed-spec : {M : Type 1} → statement M
 signed-spec =
