@@ -8,8 +8,8 @@ use Prim.Native.Nat.{ℕ, _+_, _*_, _≤_, _<_}
 use native.Mathlib.Omega.{arith}
 use lib.ListN.{length, getD, take}
 use lib.Dec.{eqb}
-use Rattle.head.specs.declared.Purpose.{Purpose}
-use Rattle.head.specs.declared.Purpose.the-variants.{Grow}
+use Rattle.head_limits.specs.declared.Purpose.{Purpose}
+use Rattle.head_limits.specs.declared.Purpose.the-variants.{Grow}
 use Rattle.text.specs.declared.Manner.the-variants.{Strict}
 use Rattle.word.specs.Tests.{never}
 use Rattle.sheet.specs.Lines.{sheetLines}
@@ -22,7 +22,8 @@ use Rattle.image.specs.Accepted.{withOf}
 use Rattle.sheet.specs.declared.Measured.the-variants.{Size}
 use Rattle.refusal.specs.declared.Verdict.the-variants.{Accepted}
 use Rattle.image.specs.Image.{checkOf}
-use Rattle.head.specs.Head.{maximum, roomOf, countOf}
+use Rattle.head_words.specs.HeadWords.{roomOf, countOf}
+use Rattle.head.specs.Head.{maximum}
 use Rattle.terminators.specs.Terminators.{stringEnd, lineEnd}
 use Rattle.refusal.specs.declared.Written.{Written}
 use Rattle.refusal.specs.declared.Written.the-variants.{To, Refused}

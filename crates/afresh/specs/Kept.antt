@@ -10,8 +10,8 @@ use native.Mathlib.Omega.{arith}
 use lib.ListN.{length, getD, take, replicate, length-append, length-replicate}
 use lib.Dec.{eqb}
 use borrow.Author.Tests.{eqb-true, eqb-false}
-use Rattle.head.specs.declared.Purpose.the-variants.{Grow}
-use Rattle.head.specs.declared.Purpose.{Purpose}
+use Rattle.head_limits.specs.declared.Purpose.the-variants.{Grow}
+use Rattle.head_limits.specs.declared.Purpose.{Purpose}
 use Rattle.text.specs.declared.Manner.the-variants.{Strict}
 use Rattle.word.specs.Part.{part, part-among}
 use Rattle.refusal.specs.Rows.{pick}
@@ -25,7 +25,8 @@ use Rattle.sheet.specs.Area.{sheetStrings, areaOf, areaSize}
 use Rattle.sheet.specs.Sizes.{length-area}
 use Rattle.note.specs.Note.{LineEnd}
 use Rattle.area.specs.Spelling.{measured-size, area-spells}
-use Rattle.head.specs.Head.{maximum, highFirst, countOf}
+use Rattle.head_words.specs.HeadWords.{highFirst, countOf}
+use Rattle.head.specs.Head.{maximum}
 use Rattle.terminators.specs.Terminators.{stringEnd, lineEnd, apart}
 use Rattle.block.specs.Block.{pointerOf, dataSize, dataAt, endAt}
 use Rattle.image.specs.Image.{checkOf}

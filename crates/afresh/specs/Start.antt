@@ -10,7 +10,7 @@ use native.Mathlib.Omega.{arith}
 use lib.ListN.{length, getD}
 use lib.Dec.{ltb, eqb}
 use borrow.Author.Tests.{le-ltb, eq-eqb}
-use Rattle.head.specs.declared.Purpose.the-variants.{Read, Grow}
+use Rattle.head_limits.specs.declared.Purpose.the-variants.{Read, Grow}
 use Rattle.text.specs.declared.Manner.the-variants.{Strict}
 use Rattle.refusal.specs.Verdicts.{andThen}
 use Rattle.word.specs.Tests.{join-neither}
@@ -19,7 +19,9 @@ use Rattle.refusal.specs.declared.Part.the-variants.{File}
 use Rattle.refusal.specs.declared.Verdict.the-variants.{Accepted, Refused}
 use Rattle.refusal.specs.Table.{refusal}
 use Rattle.sheet.specs.Area.{areaSize}
-use Rattle.head.specs.Head.{known, revisionOf, roomOf, countOf, headOf, badRoom}
+use Rattle.head_limits.specs.HeadLimits.{known, badRoom}
+use Rattle.head_words.specs.HeadWords.{revisionOf, roomOf, countOf}
+use Rattle.head.specs.Head.{headOf}
 use Rattle.head.specs.HeadLaws.{own-known, own-revision, own-room, own-count}
 use Rattle.image.specs.Image.{imageOf, checkOf}
 use Rattle.image.specs.ImageLaws.{length-accepts}

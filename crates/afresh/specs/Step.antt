@@ -10,7 +10,7 @@ use native.Mathlib.Omega.{arith}
 use lib.ListN.{length, getD, take, drop, replicate, length-append, replicate-append-replicate}
 use lib.Dec.{eqb}
 use borrow.Author.Tests.{ne-eqb}
-use Rattle.head.specs.declared.Purpose.the-variants.{Grow}
+use Rattle.head_limits.specs.declared.Purpose.the-variants.{Grow}
 use Rattle.text.specs.declared.Manner.the-variants.{Strict}
 use Rattle.word.specs.Put.{put, length-put, take-put, drop-put-after, put-among, take-put-end}
 use Rattle.word.specs.Round.{round4, round4-same}
@@ -22,7 +22,7 @@ use Rattle.channel.specs.Count.{counted}
 use Rattle.channel.specs.Channel.{channelNumber}
 use Rattle.sheet_channel.specs.SheetChannel.{valueOfLine}
 use Rattle.sheet_channel.specs.Meant.{KeepsSheet, sheet-keeps}
-use Rattle.head.specs.Head.{roomOf, countOf}
+use Rattle.head_words.specs.HeadWords.{roomOf, countOf}
 use Rattle.refusal.specs.declared.Written.the-variants.{To}
 use Rattle.layout.specs.Layout.{plainEnds, nul, lineFeed, fileBlock, startImage, startSize, Trace, traceSize}
 use Rattle.layout.specs.Layout.{traceBytes}

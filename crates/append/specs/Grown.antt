@@ -7,7 +7,7 @@ use lib.ListN.{take, replicate}
 use Rattle.word.specs.Put.{put}
 use Rattle.word.specs.Round.{round4}
 use Rattle.word.specs.Word.{bytesOf}
-use Rattle.head.specs.Head.{highFirst, countOf}
+use Rattle.head_words.specs.HeadWords.{highFirst, countOf}
 use Rattle.terminators.specs.Terminators.{stringEnd, lineEnd}
 use Rattle.layout.specs.Layout.{Trace, traceSize, traceBytes}
 

@@ -13,10 +13,11 @@ use Rattle.word.specs.Word.{bytesOf}
 use Rattle.sample.specs.Needed.{room}
 use Rattle.sheet.specs.declared.Measured.the-variants.{Size}
 use Rattle.sheet.specs.Area.{areaSize, measuredOf}
-use Rattle.head.specs.Head.{maximum, highFirst, countOf, fileBlockOf}
+use Rattle.head_words.specs.HeadWords.{highFirst, countOf, fileBlockOf}
+use Rattle.head.specs.Head.{maximum}
 use Rattle.terminators.specs.Terminators.{terminatorAt, stringEnd, lineEnd, goodTerminator}
 use Rattle.terminators.specs.TerminatorLaws.{good-most}
-use Rattle.head.specs.declared.FileBlock.{FileBlock}
+use Rattle.head_words.specs.declared.FileBlock.{FileBlock}
 use Rattle.layout.specs.Layout.{Trace, Samples, count, fitting, samplesData, traceBytes}
 use Rattle.layout.specs.LayoutLaws.{Kinded, room-enough, length-traceBytes}
 use Rattle.layout.specs.Stores.{headBytes, length-headBytes, head-samples}

@@ -7,7 +7,7 @@ ghost use Prim.Native.Nat.{_-_};
 ghost use lib.ListN.{length, take};
 ghost use Rattle.word.specs.Put.{put};
 ghost use Rattle.sample.specs.Needed.{room};
-ghost use Rattle.head.specs.Head.{highFirst};
+ghost use Rattle.head_words.specs.HeadWords.{highFirst};
 ghost use Rattle.layout.specs.Layout.{integers, patterns, integersTrace, patternsTrace};
 ghost use Rattle.layout.specs.Stores.{Held};
 ghost use Rattle.append.specs.GrownLaws.{newFront, registered, Slotted, Begins};
@@ -27,7 +27,7 @@ fn begin(buffer: &mut [u8], n: usize, sheet: &[u8], end: usize, code: u32, count
     ensures left { λ _. ⌜ now (buffer .exit)
         ≡ put (now (buffer .entry)) n (newFront (take n (now (buffer .entry))) n (now (sheet .entry)) code count) ⌝ }
 {
-    let b = head::file_block(&buffer[..n]);
+    let b = head_words::file_block(&buffer[..n]);
     let at = word::round_up(n);
     let c = code as u8;
     let s = count as u32;
@@ -36,7 +36,7 @@ fn begin(buffer: &mut [u8], n: usize, sheet: &[u8], end: usize, code: u32, count
     let u = [buffer[12], buffer[13]];
     let t_len = b.strings;
     let u_len = b.lines;
-    store::zeros(buffer, n, at); // the gap
+    store_bytes::zeros(buffer, n, at); // the gap
     layout::put_head(
         &mut buffer[at..],
         b.high,
@@ -58,9 +58,9 @@ fn register(buffer: &mut [u8], n: usize)
     requires { ⌜ Slotted (now buffer) n ⌝ }
     ensures { λ _. ⌜ now (buffer .exit) ≡ registered (now (buffer .entry)) n ⌝ }
 {
-    let b = head::file_block(&buffer[..n]);
+    let b = head_words::file_block(&buffer[..n]);
     let at = word::round_up(n);
-    store::put4(buffer, b.high, 32 + 4 * b.n, at as u32);
+    store_wide::put4(buffer, b.high, 32 + 4 * b.n, at as u32);
     store::put2(buffer, b.high, 6, b.n as u16 + 1);
 }
 

@@ -15,7 +15,8 @@ use Rattle.strings.specs.Spelled.{Str}
 use Rattle.sheet.specs.Lines.{Line}
 use Rattle.sheet.specs.Area.{strOf, values, noteOf, joined}
 use Rattle.sheet.specs.Paper.{GoodLines}
-use Rattle.area.specs.Spelling.{values-characters, note-next}
+use Rattle.sheet_string.specs.StringBytes.{note-next}
+use Rattle.area.specs.Spelling.{values-characters}
 
 -- ---- before the first NOTE, and from it on
 

@@ -1,7 +1,7 @@
 -- The written area spells exactly the strings that the sheet means, in `strings`' sense, for every order and
 -- terminators that a file can have; its size; and every list of good lines whose area is not too large is let through.
 -- Assumes nothing.
-use mathlib.Core.Path.{_≡_, refl, sym, _∙_}
+use mathlib.Core.Path.{_≡_, refl}
 use mathlib.Core.Bool.{Bool, true, false, _||_}
 use mathlib.Core.List.{List, [], _∷_}
 use Prim.Native.Nat.{ℕ, _%_, _≤_, _<_}
@@ -22,7 +22,6 @@ use Rattle.refusal.specs.declared.Verdict.the-variants.{Accepted, Refused}
 use Rattle.text.specs.declared.Manner.the-variants.{Strict}
 use Rattle.chars.specs.Chars.{blank, valueChar, control, note, blank-value}
 use Rattle.chars.specs.Runs.{all, same, same-eq, same-not, Stops, all-weaker}
-use Rattle.key_order.specs.Order.{rises, rises-note}
 use Rattle.note.specs.Note.{withEnds, Each, Characters, LineEnd, control-ends, characters-are-lines}
 use Rattle.strings.specs.Strings as Strings
 use Rattle.strings.specs.Paper.{spelled-accepted}
@@ -77,20 +76,6 @@ no-value-blank b h = go (blank b) refl
     go false e = refl
 
 -- ---- the lines of a NOTE
-
--- behind a NOTE line there are only NOTE lines
-pub note-next : {prev : List ℕ} {l : Line} → same prev note ≡ true → GoodLine prev l → l .key ≡ note
-unfolding continues
-note-next {prev} {l} n g = same-eq (l .key) note (go (same (l .key) note) refl)
-  where
-    go : (w : Bool) → same (l .key) note ≡ w → w ≡ true
-    go true e = refl
-    go false e =
-        let c : continues prev (l .key) ≡ false = rw (n, e) in
-        let f : rises prev (l .key) ≡ true = g .follows c in
-        let r : false ≡ true = sym (rises-note prev (l .key) n) ∙ f in
-        let z : _≡_ {A = ℕ} 0 1 = cc in
-        absurd (omega arith)
 
 -- the values of good lines are of value characters alone, as the lines of a NOTE are
 pub values-characters : (prev : List ℕ) (ls : List Line) → GoodLines prev ls → Each Characters (values ls)

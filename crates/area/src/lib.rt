@@ -1,116 +1,13 @@
 // A sheet written as an area of strings (document 01, "What we write"): strings in the sheet's order, NOTE's lines
 // joined, the end mark, zeros. Writing has what each store leaves, Spelling and Meaning that the area spells exactly
-// the sheet's list. Stands on `sheet`, `strings`, `text`, `word`. part is the lent memory, to the next free place in
-// it; t, u and `high` are the file's terminators and byte order.
+// the sheet's list. Stands on `sheet_texts`, `sheet_string`, `sheet`, `strings`, `text`, `store`, `store_bytes`, `word`.
+// part is the lent memory, to the next free place in it; t, u and `high` are the file's terminators and byte order.
 // The rules in words: docs/FORMAT.md, "What we write".
-use text::Manner;
 ghost use mathlib.Core.Path.{_≡_};
-ghost use mathlib.Core.List.{_++_};
-ghost use Prim.Native.Nat.{_+_, _≤_, _<_};
 ghost use lib.ListN.{length};
 ghost use Rattle.word.specs.Put.{put};
-ghost use Rattle.strings.specs.Spelled.{sizeOf};
-ghost use Rattle.sheet.specs.Lines.{sheetLines};
-ghost use Rattle.sheet.specs.Area.{strOf, noteOf, sheetStrings, areaOf};
-ghost use Rattle.area.specs.Writing.{stringBytes, textsOf, moreOf, lineAt, Noted, Headed, Writable};
-
-// A line as a string of its own, stored from place `to` on; w is its keyword's length. Answers the place behind it.
-fn write_line(part: &mut [u8], high: bool, t: &[u8], l: &[u8], w: usize, to: usize) -> usize
-    requires { ⌜ (w < length (now l)) × (2 + length (now l) + length (now t) < 65536)
-        × (to + (2 + length (now l) + length (now t)) ≤ length (now part)) ⌝ }
-    ensures { λ r. ⌜ (r ≡ to + (2 + length (now (l .entry)) + length (now (t .entry))))
-        × (now (part .exit) ≡ put (now (part .entry)) to
-        (stringBytes high (now (t .entry)) (strOf (lineAt w (now (l .entry)))))) ⌝ }
-{
-    let n = 2 + l.len() + t.len();
-    let a = to + 2;
-    let b = a + w;
-    let c = b + 1;
-    let d = a + l.len();
-    let from = w + 1;
-    store::put2(part, high, to, n as u16);
-    store::copy(part, a, &l[..w]);
-    store::copy(part, b, b" ");
-    store::copy(part, c, &l[from..]);
-    store::copy(part, d, t);
-    to + n
-}
-
-// A further line of a NOTE: the line terminator and the value v. Answers the place behind it.
-fn write_more(part: &mut [u8], u: &[u8], v: &[u8], to: usize) -> usize
-    requires { ⌜ to + (length (now u) + length (now v)) ≤ length (now part) ⌝ }
-    ensures { λ r. ⌜ (r ≡ to + (length (now (u .entry)) + length (now (v .entry))))
-        × (now (part .exit) ≡ put (now (part .entry)) to (now (u .entry) ++ now (v .entry))) ⌝ }
-{
-    let a = to + u.len();
-    store::copy(part, to, u);
-    store::copy(part, a, v);
-    a + v.len()
-}
-
-// The further lines of a NOTE, of which s has nothing but. Answers the place behind them.
-fn write_lines(part: &mut [u8], u: &[u8], s: &[u8], to: usize) -> usize
-    requires { ⌜ Noted (now s) × (to + length (moreOf (now u) (sheetLines (now s))) ≤ length (now part)) ⌝ }
-    ensures { λ r. ⌜ (r ≡ to + length (moreOf (now (u .entry)) (sheetLines (now (s .entry)))))
-        × (now (part .exit) ≡ put (now (part .entry)) to (moreOf (now (u .entry)) (sheetLines (now (s .entry))))) ⌝ }
-{
-    let mut at: usize = 0;
-    let mut end = to;
-    while at < s.len() {
-        let n = sheet_line::line_len(&s[at..]);
-        let from = at + 5;
-        let e = at + n;
-        end = write_more(part, u, &s[from..e], end);
-        at = e + 1;
-    }
-    end
-}
-
-// A NOTE of all the lines of s, stored from place `to` on. Its offset is stored last: the lines are gone through once,
-// and the place behind them tells its size. Answers the place behind it.
-fn write_note(part: &mut [u8], high: bool, t: &[u8], u: &[u8], s: &[u8], to: usize) -> usize
-    requires { ⌜ Headed (now s) × (sizeOf (now t) (noteOf (now u) (sheetLines (now s))) < 65536)
-        × (to + sizeOf (now t) (noteOf (now u) (sheetLines (now s))) ≤ length (now part)) ⌝ }
-    ensures { λ r. ⌜ (r ≡ to + sizeOf (now (t .entry)) (noteOf (now (u .entry)) (sheetLines (now (s .entry)))))
-        × (now (part .exit) ≡ put (now (part .entry)) to
-        (stringBytes high (now (t .entry)) (noteOf (now (u .entry)) (sheetLines (now (s .entry)))))) ⌝ }
-{
-    let n = sheet_line::line_len(s);
-    let a = to + 2;
-    let b = a + 5;
-    let c = a + n;
-    let from = n + 1;
-    store::copy(part, a, b"NOTE ");
-    store::copy(part, b, &s[5..n]);
-    let e = write_lines(part, u, &s[from..], c);
-    store::copy(part, e, t);
-    let end = e + t.len();
-    store::put2(part, high, to, (end - to) as u16);
-    end
-}
-
-// The strings of a sheet, one behind the other. Answers the place behind them.
-fn write_strings(part: &mut [u8], high: bool, t: &[u8], u: &[u8], sheet: &[u8]) -> usize
-    requires { ⌜ Writable (now t) (now u) (now sheet) (length (now part)) ⌝ }
-    ensures { λ r. ⌜ (r ≡ length (textsOf high (now (t .entry)) (sheetStrings (now (u .entry)) (now (sheet .entry)))))
-        × (now (part .exit) ≡ put (now (part .entry)) 0
-        (textsOf high (now (t .entry)) (sheetStrings (now (u .entry)) (now (sheet .entry))))) ⌝ }
-{
-    let mut at: usize = 0;
-    let mut to: usize = 0;
-    while at < sheet.len() {
-        let n = sheet_line::line_len(&sheet[at..]);
-        let e = at + n;
-        let w = text::key_run(&sheet[at..e], Manner::Strict);
-        let k = at + w;
-        if key_order::is_note(&sheet[at..k]) {
-            return write_note(part, high, t, u, &sheet[at..], to);
-        }
-        to = write_line(part, high, t, &sheet[at..e], w, to);
-        at = e + 1;
-    }
-    to
-}
+ghost use Rattle.sheet.specs.Area.{areaOf};
+ghost use Rattle.sheet_texts.specs.Texts.{Writable};
 
 // The area of a sheet that `measure` gave a size, from the start of `part`, which has room for it; what is past it is
 // left.
@@ -119,9 +16,9 @@ pub fn write_area(part: &mut [u8], high: bool, t: &[u8], u: &[u8], sheet: &[u8])
     ensures { λ _. ⌜ now (part .exit) ≡ put (now (part .entry)) 0 (areaOf high (now (t .entry)) (now (u .entry))
         (now (sheet .entry))) ⌝ }
 {
-    let to = write_strings(part, high, t, u, sheet);
+    let to = sheet_texts::write_strings(part, high, t, u, sheet);
     let a = to + 2;
     let e = word::round_up(a);
     store::put2(part, high, to, 0);
-    store::zeros(part, a, e);
+    store_bytes::zeros(part, a, e);
 }

@@ -8,7 +8,7 @@ use text::Manner;
 ghost use mathlib.Core.Path.{_≡_};
 ghost use lib.ListN.{length};
 ghost use Rattle.text.specs.declared.Manner.the-variants.{Strict, Lenient};
-ghost use Rattle.head.specs.declared.Purpose.the-variants.{Read};
+ghost use Rattle.head_limits.specs.declared.Purpose.the-variants.{Read};
 ghost use Rattle.image.specs.Image.{checkOf};
 ghost use Rattle.reader.specs.Questions.{stringsAnswer, stringsLeft, integersAnswer, integersLeft};
 ghost use Rattle.reader.specs.Questions.{bitsAnswer, patternsLeft, classesLeft};

@@ -8,7 +8,7 @@ use face_lenient::Seg2LenientNumber;
 use text::Manner;
 ghost use mathlib.Core.Path.{_≡_};
 ghost use Rattle.text.specs.declared.Manner.the-variants.{Strict, Lenient};
-ghost use Rattle.head.specs.declared.Purpose.the-variants.{Read};
+ghost use Rattle.head_limits.specs.declared.Purpose.the-variants.{Read};
 ghost use Rattle.image.specs.Image.{checkOf};
 ghost use Rattle.reader.specs.Questions.{numberAnswer, doubleAnswer, locationAnswer};
 ghost use Rattle.face_lenient.specs.FaceLenient.{lenientNumber, lenientDouble, lenientLocation};

@@ -15,12 +15,14 @@ use Rattle.refusal.specs.Rows.{Rows, first, clear}
 use Rattle.chars.specs.Chars.{digit}
 use Rattle.chars.specs.Runs.{all, all-weaker}
 use Rattle.digits.specs.Value.{value, worth-digit}
-use Rattle.decimal.specs.declared.Decimal.{Decimal}
-use Rattle.decimal.specs.declared.NumberAnswer.the-variants.{Is}
-use Rattle.decimal.specs.Run.{All}
-use Rattle.decimal.specs.Grammar.{Parts, Sign, Sign.dash, Sign.nothing, Fraction, Fraction.no-point, Fraction.point, Power}
-use Rattle.decimal.specs.Grammar.{Power.no-power, Power.power, Writes}
-use Rattle.decimal.specs.Number.{powerOf, decimalOf, judged, numberIn}
+use Rattle.decimal_parts.specs.declared.Decimal.{Decimal}
+use Rattle.decimal_parts.specs.declared.NumberAnswer.the-variants.{Is}
+use Rattle.front_bytes.specs.Run.{All}
+use Rattle.decimal_parts.specs.Grammar.{Parts, Sign, Sign.dash, Sign.nothing, Fraction, Fraction.no-point, Fraction.point, Power}
+use Rattle.decimal_parts.specs.Grammar.{Power.no-power, Power.power, Writes}
+use Rattle.decimal_power.specs.Power.{powerOf}
+use Rattle.decimal_parts.specs.Answer.{decimalOf, judged}
+use Rattle.decimal.specs.Number.{numberIn}
 use Rattle.decimal.specs.Agreed.{written, is-number}
 
 -- "1 to 32,767"

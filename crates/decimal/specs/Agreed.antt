@@ -14,17 +14,20 @@ use borrow.Author.Tests.{ltb-true, ltb-false, eqb-true, eqb-false, lt-ltb, ne-eq
 use Rattle.word.specs.Tests.{and-false}
 use Rattle.refusal.specs.Table.{numberOf as codeOf}
 use Rattle.refusal.specs.Rows.{Rows, pick, first, Clear, through}
-use Rattle.decimal.specs.declared.Decimal.{Decimal}
-use Rattle.decimal.specs.declared.NumberAnswer.{NumberAnswer}
-use Rattle.decimal.specs.declared.NumberAnswer.the-variants.{Is, Refused}
+use Rattle.decimal_parts.specs.declared.Decimal.{Decimal}
+use Rattle.decimal_parts.specs.declared.NumberAnswer.{NumberAnswer}
+use Rattle.decimal_parts.specs.declared.NumberAnswer.the-variants.{Is, Refused}
 use Rattle.chars.specs.Runs.{run, Stops, run-stops}
-use Rattle.decimal.specs.Run.{front, behind, run-none, parts, front-all, front-length, run-length, front-is}
-use Rattle.decimal.specs.Run.{behind-is, run-all, behind-all, front-of-all}
+use Rattle.front_bytes.specs.Run.{front, behind, run-none, parts, front-all, front-length, run-length, front-is}
+use Rattle.front_bytes.specs.Run.{behind-is, run-all, behind-all, front-of-all}
 use Rattle.chars.specs.Chars.{digit}
-use Rattle.decimal.specs.Grammar.{Parts, Sign, Sign.dash, Sign.nothing, Digits, Fraction, Fraction.no-point}
-use Rattle.decimal.specs.Grammar.{Fraction.point, Power, Power.no-power, Power.power, Writes, Short}
-use Rattle.decimal.specs.Number.{has, past, has-same, past-same, past-has, past-not, decimalOf, noNumber, tooLong}
-use Rattle.decimal.specs.Number.{judged, tailRows, shapeRows, partsOf, numberIn}
+use Rattle.decimal_parts.specs.Grammar.{Parts, Sign, Sign.dash, Sign.nothing, Digits, Fraction, Fraction.no-point}
+use Rattle.decimal_parts.specs.Grammar.{Fraction.point, Power, Power.no-power, Power.power, Writes, Short}
+use Rattle.front_bytes.specs.OneByte.{has, past, has-same, past-same, past-has, past-not}
+use Rattle.decimal_parts.specs.Answer.{decimalOf, tooLong}
+use Rattle.decimal.specs.Number.{noNumber}
+use Rattle.decimal_parts.specs.Answer.{judged}
+use Rattle.decimal.specs.Number.{tailRows, shapeRows, partsOf, numberIn}
 
 -- ---- from the parts to the text: what is read is what was written
 

@@ -1,7 +1,4 @@
-pub mod Run
-pub mod Grammar
 pub mod Number
-pub mod Power
 pub mod Agreed
 pub mod Marks
 pub mod Meaning

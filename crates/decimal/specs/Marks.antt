@@ -7,10 +7,10 @@ use mathlib.Core.List.{List, _∷_, _++_}
 use Prim.Native.Nat.{ℕ}
 use native.Mathlib.Omega.{arith}
 use lib.Dec.{eqb}
-use Rattle.decimal.specs.Run.{All, all-append, all-among, all-weaker}
+use Rattle.front_bytes.specs.Run.{All, all-append, all-among, all-weaker}
 use Rattle.chars.specs.Chars.{digit}
-use Rattle.decimal.specs.Grammar.{Parts, Sign, Sign.dash, Sign.nothing, Fraction, Fraction.no-point}
-use Rattle.decimal.specs.Grammar.{Fraction.point, Power, Power.no-power, Power.power, Writes}
+use Rattle.decimal_parts.specs.Grammar.{Parts, Sign, Sign.dash, Sign.nothing, Fraction, Fraction.no-point}
+use Rattle.decimal_parts.specs.Grammar.{Fraction.point, Power, Power.no-power, Power.power, Writes}
 use Rattle.decimal.specs.Number.{noNumber, numberIn}
 use Rattle.decimal.specs.Agreed.{no-number}
 

@@ -13,16 +13,17 @@ use lib.Pow.{pow-add}
 use lib.Dec.{ltb, leb}
 use borrow.Author.Tests.{leb-true, leb-false}
 use Rattle.refusal.specs.Rows.{pick}
-use Rattle.decimal.specs.declared.Decimal.{Decimal}
-use Rattle.decimal.specs.declared.NumberAnswer.the-variants.{Is}
-use Rattle.decimal.specs.Run.{All}
+use Rattle.decimal_parts.specs.declared.Decimal.{Decimal}
+use Rattle.decimal_parts.specs.declared.NumberAnswer.the-variants.{Is}
+use Rattle.front_bytes.specs.Run.{All}
 use Rattle.chars.specs.Chars.{digit}
-use Rattle.decimal.specs.Grammar.{Parts, Fraction, Fraction.no-point, Fraction.point, Power, Power.no-power}
-use Rattle.decimal.specs.Grammar.{Power.power, Writes, placed, over, under}
-use Rattle.decimal.specs.Number.{powerOf, decimalOf, numberIn}
+use Rattle.decimal_parts.specs.Grammar.{Parts, Fraction, Fraction.no-point, Fraction.point, Power, Power.no-power}
+use Rattle.decimal_parts.specs.Grammar.{Power.power, Writes, placed, over, under}
+use Rattle.decimal_parts.specs.Answer.{decimalOf}
+use Rattle.decimal.specs.Number.{numberIn}
 use Rattle.digits.specs.Value.{worth, worth-digit, value}
 use Rattle.decimal.specs.Agreed.{is-number}
-use Rattle.decimal.specs.Power.{power-down, power-less, power-more}
+use Rattle.decimal_power.specs.Power.{powerOf, power-down, power-less, power-more}
 
 -- ---- the value of an answer, without its sign: a fraction, `numerator n` / `denominator n`
 

@@ -1,97 +1,30 @@
 -- Numbers in values, as the number question answers them (document 01, "Numbers in values"): the text is read from the
--- left in the longest runs, and the answer is the first row that is met. `Grammar` says what a number is without any
--- order of reading, and `Agreed` that the two agree.
+-- left in the longest runs, and the answer is the first row that is met. decimal_parts/Grammar says what a number is
+-- without any order of reading, and `Agreed` that the two agree.
 -- Assumes nothing.
-use mathlib.Core.Path.{_≡_, refl}
+use mathlib.Core.Path.{_≡_}
 use mathlib.Core.Bool.{Bool, true, false, not, _&&_}
 use mathlib.Core.List.{List, [], _∷_}
-use Prim.Native.Nat.{ℕ, _+_, _-_, _≤_, _<_}
-use native.Mathlib.Omega.{arith}
-use lib.IntN.{ℤ, pos, negℤ, _-ℤ_}
-use lib.ListN.{length, getD, take, drop}
+use Prim.Native.Nat.{ℕ, _≤_, _<_}
+use lib.ListN.{length, take, drop}
 use lib.Dec.{ltb, eqb}
 use borrow.Author.Tests.{lt-ltb, le-ltb, eq-eqb, ne-eqb}
-use Rattle.refusal.specs.Rows.{Rows, pick, first}
+use Rattle.refusal.specs.Rows.{Rows, first}
 use Rattle.refusal.specs.Table.{refusal}
-use Rattle.refusal.specs.declared.Rule.the-variants.{NoNumber, Digits}
+use Rattle.refusal.specs.declared.Rule.the-variants.{NoNumber}
 use Rattle.refusal.specs.declared.Part.the-variants.{File}
-use Rattle.decimal.specs.declared.Decimal.{Decimal}
-use Rattle.decimal.specs.declared.NumberAnswer.{NumberAnswer}
-use Rattle.decimal.specs.declared.NumberAnswer.the-variants.{Is, Refused}
+use Rattle.decimal_parts.specs.declared.NumberAnswer.{NumberAnswer}
+use Rattle.decimal_parts.specs.declared.NumberAnswer.the-variants.{Refused}
 use Rattle.chars.specs.Runs.{run}
-use Rattle.decimal.specs.Run.{front, behind}
+use Rattle.front_bytes.specs.Run.{front, behind}
+use Rattle.front_bytes.specs.OneByte.{has, past}
 use Rattle.chars.specs.Chars.{digit}
-use Rattle.digits.specs.Value.{value}
-use Rattle.decimal.specs.Grammar.{Parts}
+use Rattle.decimal_parts.specs.Grammar.{Parts}
+use Rattle.decimal_parts.specs.Answer.{judged, partsAre}
 
--- ---- one byte at the front
-
--- the byte b stands at the front
-unfoldable pub has : ℕ → List ℕ → Bool
-has b [] = false
-has b (x ∷ xs) = eqb x b
-
--- what is behind it, or all where it does not stand there
-unfoldable pub past : ℕ → List ℕ → List ℕ
-past b t = pick (has b t) (drop 1 t) t
-
-pub has-first : (b : ℕ) (t : List ℕ) → 0 < length t → eqb (getD t 0 0) b ≡ has b t
-unfolding has
-has-first b [] h = absurd (omega arith)
-has-first b (x ∷ xs) h = refl
-
-pub has-none : (b : ℕ) (t : List ℕ) → length t ≤ 0 → false ≡ has b t
-unfolding has
-has-none b [] h = refl
-has-none b (x ∷ xs) h = absurd (omega arith)
-
-pub past-has : (b : ℕ) (t : List ℕ) → has b t ≡ true → past b t ≡ drop 1 t
-unfolding past
-past-has b t e = rw e
-
-pub past-not : (b : ℕ) (t : List ℕ) → has b t ≡ false → past b t ≡ t
-unfolding past
-past-not b t e = rw e
-
-pub has-same : (b : ℕ) (r : List ℕ) → has b (b ∷ r) ≡ true
-unfolding has
-has-same b r = eq-eqb b b refl
-
-pub past-same : (b : ℕ) (r : List ℕ) → past b (b ∷ r) ≡ r
-past-same b r = past-has b (b ∷ r) (has-same b r)
-
--- ---- the answer
-
--- "sign, coefficient as written and power of ten; zero has sign plus", and "how many digits stood after the point"
--- (document 02 §4)
-abbrev pub signed : Bool → ℕ → ℤ
-signed true n = negℤ (pos n)
-signed false n = pos n
-
-unfoldable pub powerOf : Bool → ℕ → ℕ → ℤ
-powerOf down e n = signed down e -ℤ pos n
-
-unfoldable pub decimalOf : Parts → Decimal
-decimalOf p = record {
-  minus = p .minus && ltb 0 (value (value 0 (p .whole)) (p .decimals));
-  coefficient = value (value 0 (p .whole)) (p .decimals);
-  power = powerOf (p .down) (value 0 (p .exponent)) (length (p .decimals));
-  decimals = length (p .decimals);
-}
-
--- a lone number's refusals have place 0; whoever asks for a number inside a text puts the place in
+-- a lone number's refusals have place 0, as with `tooLong`
 abbrev pub noNumber : NumberAnswer
 noNumber = Refused (refusal NoNumber File 0)
-
-abbrev pub tooLong : NumberAnswer
-tooLong = Refused (refusal Digits File 0)
-
--- "At most 18 digits before E, leading zeros counted, and at most 2 after it"
-abbrev pub limits : Parts → Rows NumberAnswer
-limits p = (ltb 18 (length (p .whole) + length (p .decimals)), tooLong) ∷ (ltb 2 (length (p .exponent)), tooLong) ∷ []
-
-unfoldable pub judged : Parts → NumberAnswer
-judged p = first (limits p) (Is (decimalOf p))
 
 -- behind the digits stands x: nothing, or E, a minus or nothing, digits (at y), and no more
 abbrev pub tailRows : List ℕ → Rows NumberAnswer
@@ -101,9 +34,6 @@ tailRows x =
     ∷ (has 69 x && eqb (run digit y) 0, noNumber)
     ∷ (ltb 0 (length (behind digit y)), noNumber)
     ∷ []
-
-abbrev pub partsAre : Bool → List ℕ → List ℕ → Bool → List ℕ → Parts
-partsAre m w d down e = record { minus = m; whole = w; decimals = d; down = down; exponent = e }
 
 abbrev pub tailParts : Bool → List ℕ → List ℕ → List ℕ → Parts
 tailParts m w d x = partsAre m w d (has 45 (past 69 x)) (front digit (past 45 (past 69 x)))
@@ -129,20 +59,6 @@ unfoldable pub numberIn : List ℕ → NumberAnswer
 numberIn t = first (shapeRows t) (judged (partsOf t))
 
 -- ---- a law for each answer, with what the code found and tested
-
-module _ (m : Bool) (w d : List ℕ) (n : Bool) (e : List ℕ) where
-  pub long-before : 18 < length w + length d → tooLong ≡ judged (partsAre m w d n e)
-  unfolding judged
-  long-before h = rw (lt-ltb 18 (length w + length d) h)
-
-  module _ (few : length w + length d ≤ 18) where
-    pub long-after : 2 < length e → tooLong ≡ judged (partsAre m w d n e)
-    unfolding judged
-    long-after h = rw (le-ltb 18 (length w + length d) few, lt-ltb 2 (length e) h)
-
-    pub within : length e ≤ 2 → Is (decimalOf (partsAre m w d n e)) ≡ judged (partsAre m w d n e)
-    unfolding judged
-    within h = rw (le-ltb 18 (length w + length d) few, le-ltb 2 (length e) h)
 
 module _ (m : Bool) (w d x : List ℕ) {e : Bool} (is-e : e ≡ has 69 x) where
   pub no-e : ltb 0 (length x) && not e ≡ true → noNumber ≡ tailOf m w d x

@@ -9,7 +9,7 @@ use mathlib.Core.Logic.{_↔_}
 use Prim.Native.Nat.{ℕ}
 use lib.IntN.{ℤ}
 use lib.ListN.{length, take}
-use Rattle.head.specs.declared.Purpose.{Purpose}
+use Rattle.head_limits.specs.declared.Purpose.{Purpose}
 use Rattle.text.specs.declared.Manner.the-variants.{Strict}
 use Rattle.refusal.specs.Verdicts.{asked}
 use Rattle.refusal.specs.declared.Refusal.{Refusal}

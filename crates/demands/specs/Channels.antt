@@ -20,16 +20,16 @@ use Rattle.refusal.specs.Rows.{pick}
 use Rattle.refusal.specs.declared.Verdict.the-variants.{Accepted}
 use Rattle.refusal.specs.declared.Written.the-variants.{To}
 use Rattle.text.specs.declared.Manner.the-variants.{Strict}
-use Rattle.head.specs.declared.Purpose.the-variants.{Read}
+use Rattle.head_limits.specs.declared.Purpose.the-variants.{Read}
 use Rattle.strings.specs.Spelled.{Str, hasKey}
-use Rattle.decimal.specs.declared.NumberAnswer.the-variants.{Is}
+use Rattle.decimal_parts.specs.declared.NumberAnswer.the-variants.{Is}
 use Rattle.channel.specs.Count.{countMost, countIn, wholly, pointless, Counts, counted, counts}
 use Rattle.channel.specs.Channel.{channelNumber}
 use Rattle.chars.specs.Runs.{all}
 use Rattle.sheet.specs.Lines.{sheetLines}
 use Rattle.sheet_channel.specs.SheetChannel.{hasLine, valueOfLine}
 use Rattle.sheet_channel.specs.Meant.{sheet-keeps, keeps-sheet}
-use Rattle.head.specs.Head.{highFirst, countOf}
+use Rattle.head_words.specs.HeadWords.{highFirst, countOf}
 use Rattle.block.specs.Block.{dataAt}
 use Rattle.image.specs.Image.{checkOf}
 use Rattle.image.specs.Keeps.{traceAt, Keeps}

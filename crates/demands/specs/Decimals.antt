@@ -24,10 +24,10 @@ use Rattle.refusal.specs.Verdicts.{asked}
 use Rattle.refusal.specs.Writing.{refuse}
 use Rattle.text.specs.declared.Manner.the-variants.{Strict}
 use Rattle.digits.specs.Digits.{digits, digits-few, digits-below}
-use Rattle.decimal.specs.declared.Decimal.{Decimal}
-use Rattle.decimal.specs.declared.NumberAnswer.{NumberAnswer}
-use Rattle.decimal.specs.declared.NumberAnswer.the-variants as number
-use Rattle.decimal.specs.Grammar.{Parts, Writes, Short}
+use Rattle.decimal_parts.specs.declared.Decimal.{Decimal}
+use Rattle.decimal_parts.specs.declared.NumberAnswer.{NumberAnswer}
+use Rattle.decimal_parts.specs.declared.NumberAnswer.the-variants as number
+use Rattle.decimal_parts.specs.Grammar.{Parts, Writes, Short}
 use Rattle.decimal.specs.Number.{numberIn}
 use Rattle.decimal.specs.Meaning.{number-means}
 use Rattle.reader.specs.declared.StringAnswer.{StringAnswer}

@@ -10,7 +10,7 @@ use Prim.Native.Nat.{ℕ, _+_, _*_, _≤_, _<_}
 use native.Mathlib.Omega.{arith}
 use lib.ListN.{length, getD, take}
 use lib.Dec.{eqb}
-use Rattle.head.specs.declared.Purpose.the-variants.{Read}
+use Rattle.head_limits.specs.declared.Purpose.the-variants.{Read}
 use Rattle.text.specs.declared.Manner.the-variants.{Strict}
 use Rattle.word.specs.Bytes.{Bytes}
 use Rattle.word.specs.Round.{round4}
@@ -22,7 +22,7 @@ use Rattle.chars.specs.Runs.{run, same}
 use Rattle.sheet_line.specs.SheetLine.{lineLen, lineKeyLen}
 use Rattle.sheet.specs.Lines.{sheetLinesFrom, sheetLines}
 use Rattle.sheet.specs.Area.{joined, sheetStrings, textSize, areaSize}
-use Rattle.head.specs.Head.{fileBlockOf, highFirst, roomOf, countOf}
+use Rattle.head_words.specs.HeadWords.{fileBlockOf, highFirst, roomOf, countOf}
 use Rattle.terminators.specs.Terminators.{stringEnd, lineEnd}
 use Rattle.block.specs.Block.{pointerOf, blockSize, dataSize, sampleCount, formatCode, traceBlockOf}
 use Rattle.image.specs.Image.{checkOf}

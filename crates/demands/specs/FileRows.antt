@@ -30,8 +30,9 @@ use Rattle.strings.specs.declared.Judged.{Judged}
 use Rattle.strings.specs.declared.Judged.the-variants.{Keyword, Wrong}
 use Rattle.strings.specs.Strings.{offset, body, keyLen, frameRows, endOrText, frameOf, textRows, judgedOf, onJudged}
 use Rattle.strings.specs.Strings.{onFrame, stepOf, onStep, stringsFrom, stringsOf, found, valueFound}
-use Rattle.head.specs.declared.Purpose.{Purpose}
-use Rattle.head.specs.Head.{highFirst, roomOf, countOf, headRows, headOf}
+use Rattle.head_limits.specs.declared.Purpose.{Purpose}
+use Rattle.head_words.specs.HeadWords.{highFirst, roomOf, countOf}
+use Rattle.head.specs.Head.{headRows, headOf}
 use Rattle.terminators.specs.Terminators.{stringEnd, lineEnd}
 use Rattle.limits.specs.Limits.{badPointer}
 use Rattle.block.specs.Block.{pointerOf, blockSize, endAt, pointerRow, blockRows, blockOf}

@@ -13,8 +13,8 @@ use lib.IntN.{ℤ, pos, negsuc}
 use lib.ListN.{length, getD, take, drop, replicate}
 use lib.Seq.{length-take-le}
 use lib.Dec.{eqb}
-use Rattle.head.specs.declared.Purpose.{Purpose}
-use Rattle.head.specs.declared.Purpose.the-variants.{Read}
+use Rattle.head_limits.specs.declared.Purpose.{Purpose}
+use Rattle.head_limits.specs.declared.Purpose.the-variants.{Read}
 use Rattle.text.specs.declared.Manner.the-variants.{Strict}
 use Rattle.word.specs.Bytes.{Bytes}
 use Rattle.word.specs.Part.{part}
@@ -22,7 +22,7 @@ use Rattle.word.specs.Round.{round4}
 use Rattle.word.specs.Word.{wordAt}
 use Rattle.refusal.specs.declared.Verdict.the-variants.{Accepted}
 use Rattle.strings.specs.Spelled.{Str, Spells}
-use Rattle.head.specs.Head.{highFirst, roomOf, countOf}
+use Rattle.head_words.specs.HeadWords.{highFirst, roomOf, countOf}
 use Rattle.terminators.specs.Terminators.{stringEnd, lineEnd}
 use Rattle.image.specs.Image.{checkOf}
 use Rattle.image.specs.Keeps.{stringsEnd}

@@ -9,7 +9,7 @@ use mathlib.Core.List.{List}
 use Prim.Native.Nat.{ℕ, _≤_}
 use lib.IntN.{ℤ}
 use lib.ListN.{length, take}
-use Rattle.head.specs.declared.Purpose.{Purpose}
+use Rattle.head_limits.specs.declared.Purpose.{Purpose}
 use Rattle.text.specs.declared.Manner.the-variants.{Strict}
 use Rattle.image.specs.Image.{checkOf}
 use Rattle.reader.specs.Questions.{fileAnswer}

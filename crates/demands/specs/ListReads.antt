@@ -8,14 +8,15 @@ use Prim.Native.Nat.{ℕ, _+_, _*_, _≤_, _<_}
 use native.Mathlib.Omega.{arith}
 use lib.IntN.{negsuc}
 use lib.ListN.{length, getD, take}
-use Rattle.head.specs.declared.Purpose.the-variants.{Read}
+use Rattle.head_limits.specs.declared.Purpose.the-variants.{Read}
 use Rattle.text.specs.declared.Manner.the-variants.{Strict}
 use Rattle.refusal.specs.declared.Verdict.the-variants.{Accepted}
 use Rattle.word.specs.Part.{part}
 use Rattle.strings.specs.Spelled.{Spells}
 use Rattle.sheet.specs.Area.{sheetStrings}
 use Rattle.area.specs.Spelling.{area-spells}
-use Rattle.head.specs.Head.{maximum, fileBlockOf, highFirst, roomOf}
+use Rattle.head_words.specs.HeadWords.{fileBlockOf, highFirst, roomOf}
+use Rattle.head.specs.Head.{maximum}
 use Rattle.terminators.specs.Terminators.{stringEnd, lineEnd}
 use Rattle.image.specs.Image.{checkOf}
 use Rattle.image.specs.Keeps.{traceAt}

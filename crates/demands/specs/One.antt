@@ -12,7 +12,7 @@ use Rattle.text.specs.declared.Manner.the-variants.{Strict}
 use Rattle.word.specs.Part.{PartOf}
 use Rattle.refusal.specs.declared.Verdict.{Verdict}
 use Rattle.refusal.specs.declared.Written.{Written}
-use Rattle.decimal.specs.declared.Decimal.{Decimal}
+use Rattle.decimal_parts.specs.declared.Decimal.{Decimal}
 use Rattle.numeral.specs.Numeral.{numeralAnswer, numeralLeft}
 use Rattle.layout.specs.Layout.{Trace}
 use Rattle.start.specs.Start.{startAnswer, startLeft}

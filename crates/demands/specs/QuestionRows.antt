@@ -13,7 +13,7 @@ use lib.ListN.{length, take}
 use lib.Dec.{ltb, eqb}
 use native.Mathlib.Omega.{arith}
 use borrow.Author.Tests.{ne-eqb}
-use Rattle.head.specs.declared.Purpose.the-variants.{Read}
+use Rattle.head_limits.specs.declared.Purpose.the-variants.{Read}
 use Rattle.text.specs.declared.Manner.{Manner}
 use Rattle.refusal.specs.Verdicts.{andThen, asked}
 use Rattle.refusal.specs.declared.Rule.{Rule}
@@ -28,17 +28,18 @@ use Rattle.strings.specs.declared.Place.{Place}
 use Rattle.strings.specs.declared.Found.{Found}
 use Rattle.strings.specs.declared.Found.the-variants.{Nothing, Is}
 use Rattle.strings.specs.Strings.{nthOf, findOf, valueFound}
-use Rattle.decimal.specs.declared.Decimal.{Decimal}
-use Rattle.decimal.specs.declared.NumberAnswer.the-variants as number
+use Rattle.decimal_parts.specs.declared.Decimal.{Decimal}
+use Rattle.decimal_parts.specs.declared.NumberAnswer.the-variants as number
 use Rattle.double.specs.declared.DoubleAnswer.the-variants as double
 use Rattle.location.specs.declared.Coordinate.{Coordinate}
 use Rattle.location.specs.declared.LocationAnswer.{LocationAnswer}
 use Rattle.location.specs.declared.LocationAnswer.the-variants as location
-use Rattle.decimal.specs.Number.{decimalOf, limits, judged, shapeRows, partsOf, numberIn}
+use Rattle.decimal_parts.specs.Answer.{decimalOf, limits, judged}
+use Rattle.decimal.specs.Number.{shapeRows, partsOf, numberIn}
 use Rattle.double.specs.Double.{scaledOf, withSign, noDouble, doubleFrom, onNumber, doubleOf}
 use Rattle.location.specs.Values.{Value, valuesOf}
 use Rattle.location.specs.Location.{valueCount, coordinateOf, alone, together, onCoordinate, oneOf, threeOf, located, locationOf}
-use Rattle.head.specs.Head.{fileBlockOf, highFirst, countOf}
+use Rattle.head_words.specs.HeadWords.{fileBlockOf, highFirst, countOf}
 use Rattle.block.specs.Block.{traceBlockOf}
 use Rattle.image.specs.Image.{checkOf}
 use Rattle.reader.specs.declared.Whose.the-variants.{One, Nobody}

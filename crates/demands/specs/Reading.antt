@@ -11,7 +11,7 @@ use native.Mathlib.Omega.{arith}
 use lib.IntN.{ℤ, pos, negsuc}
 use lib.ListN.{length, getD, take}
 use lib.Ieee.{Float, binary64, round}
-use Rattle.head.specs.declared.Purpose.the-variants.{Read, Grow}
+use Rattle.head_limits.specs.declared.Purpose.the-variants.{Read, Grow}
 use Rattle.text.specs.declared.Manner.the-variants.{Strict}
 use Rattle.word.specs.Bytes.{Bytes}
 use Rattle.word.specs.Round.{round4}
@@ -20,13 +20,14 @@ use Rattle.refusal.specs.declared.Part.the-variants.{File}
 use Rattle.refusal.specs.declared.Verdict.the-variants.{Accepted}
 use Rattle.refusal.specs.Table.{refusal}
 use Rattle.strings.specs.Spelled.{Str, valueOfKey}
-use Rattle.decimal.specs.declared.Decimal.{Decimal}
+use Rattle.decimal_parts.specs.declared.Decimal.{Decimal}
 use Rattle.location.specs.declared.Coordinates.{Coordinates}
-use Rattle.decimal.specs.declared.NumberAnswer.the-variants as number
+use Rattle.decimal_parts.specs.declared.NumberAnswer.the-variants as number
 use Rattle.double.specs.declared.DoubleAnswer.the-variants as double
 use Rattle.location.specs.declared.LocationAnswer.the-variants as location
-use Rattle.decimal.specs.Grammar.{Parts, Writes, Short, over, under}
-use Rattle.decimal.specs.Number.{decimalOf, noNumber, tooLong, numberIn}
+use Rattle.decimal_parts.specs.Grammar.{Parts, Writes, Short, over, under}
+use Rattle.decimal_parts.specs.Answer.{decimalOf, tooLong}
+use Rattle.decimal.specs.Number.{noNumber, numberIn}
 use Rattle.double.specs.Double.{doubleOf}
 use Rattle.location.specs.Location.{locationOf}
 use Rattle.decimal.specs.Meaning.{Means, number-means}
@@ -41,7 +42,8 @@ use Rattle.sheet.specs.Sizes.{length-area}
 use Rattle.sheet.specs.Paper.{sheetOf, GoodLines, accepted-lines, lines-read, sheet-lines-once}
 use Rattle.area.specs.Spelling.{measured-size, good-measured}
 use Rattle.area.specs.Meaning.{NoteParted, lines-parted}
-use Rattle.head.specs.Head.{maximum, countOf}
+use Rattle.head_words.specs.HeadWords.{countOf}
+use Rattle.head.specs.Head.{maximum}
 use Rattle.image.specs.Image.{checkOf}
 use Rattle.image.specs.Keeps.{Keeps}
 use Rattle.image.specs.Accepted.{accepted-keeps, keeps-accepted}

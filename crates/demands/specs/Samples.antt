@@ -22,7 +22,7 @@ use Rattle.sample_bits.specs.SampleBits.{exponentIn}
 use Rattle.decode.specs.Sample.{patternOf, groupSample, sampleOf, classBy, classOf}
 use Rattle.sample_bits.specs.BitLaws.{twos-plus, twos-minus, scaled-plus, scaled-minus}
 use Rattle.patterns.specs.Classes.{valueClass, codeOf, class-ieee}
-use Rattle.head.specs.Head.{highFirst}
+use Rattle.head_words.specs.HeadWords.{highFirst}
 use Rattle.block.specs.Block.{pointerOf, blockSize, dataSize, sampleCount, formatCode, traceBlockOf}
 use Rattle.reader.specs.Questions.{samplesIn, patternsIn, classesIn, samplesOf, patternsOf, classesOf}
 use Rattle.ignored.specs.Data.{samples-same, patterns-same, classes-same}

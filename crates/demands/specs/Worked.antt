@@ -23,10 +23,13 @@ use Rattle.float20.specs.Float20.{smallest, exponentOf, mantissaOf, onesBits}
 use Rattle.group20.specs.Group20.{exponentsOf, wordsOf, groupBytes}
 use Rattle.row20.specs.Row20.{groups}
 use Rattle.encode.specs.Write.{filledUp, integersData}
-use Rattle.decimal.specs.declared.NumberAnswer.{NumberAnswer}
-use Rattle.decimal.specs.declared.NumberAnswer.the-variants as answer
+use Rattle.decimal_parts.specs.declared.NumberAnswer.{NumberAnswer}
+use Rattle.decimal_parts.specs.declared.NumberAnswer.the-variants as answer
 use Rattle.chars.specs.Runs.{run}
-use Rattle.decimal.specs.Number.{has, past, powerOf, decimalOf, judged, partsOf, numberIn}
+use Rattle.front_bytes.specs.OneByte.{has, past}
+use Rattle.decimal_power.specs.Power.{powerOf}
+use Rattle.decimal_parts.specs.Answer.{decimalOf, judged}
+use Rattle.decimal.specs.Number.{partsOf, numberIn}
 use Rattle.digits.specs.Value.{worth, value}
 use Rattle.digits.specs.Digits.{onto, digits}
 use Rattle.digits.specs.LastDigits.{lastDigits}

@@ -9,7 +9,7 @@ use mathlib.Core.List.{List, [], _∷_, _++_}
 use Prim.Native.Nat.{ℕ, zero, suc, _+_}
 use lib.ListN.{length, take, drop}
 use lib.Dec.{ltb, leb, eqb}
-use Rattle.head.specs.declared.Purpose.the-variants.{Grow}
+use Rattle.head_limits.specs.declared.Purpose.the-variants.{Grow}
 use Rattle.refusal.specs.Verdicts.{asked, andThen}
 use Rattle.refusal.specs.declared.Rule.the-variants.{NoSlot, SheetLine, AreaSize, EntryCode, SampleRange, NoRoom}
 use Rattle.refusal.specs.declared.Rule.the-variants.{StartValues, SheetChannel}
@@ -28,7 +28,8 @@ use Rattle.sheet.specs.declared.Measured.the-variants as measured
 use Rattle.sheet_line.specs.SheetLine.{lineLen, lineOf, lineKeyLen, lineRows, lineJudged, onLineJudged, lineStep}
 use Rattle.sheet.specs.Lines.{onLineStep, checkFrom, linesVerdict}
 use Rattle.sheet.specs.Area.{areaMost, areaSize, measuredOf}
-use Rattle.head.specs.Head.{maximum, roomOf, countOf}
+use Rattle.head_words.specs.HeadWords.{roomOf, countOf}
+use Rattle.head.specs.Head.{maximum}
 use Rattle.terminators.specs.Terminators.{stringEnd, lineEnd}
 use Rattle.refusal.specs.declared.Written.{Written}
 use Rattle.refusal.specs.declared.Written.the-variants as written

@@ -19,16 +19,16 @@ use Rattle.refusal.specs.declared.Written.the-variants as written
 use Rattle.refusal.specs.Verdicts.{asked}
 use Rattle.refusal.specs.FirstRow.{firstOf, Met, refused-by-the-first}
 use Rattle.text.specs.declared.Manner.the-variants.{Strict, Lenient}
-use Rattle.head.specs.declared.Purpose.the-variants.{Read, Grow}
+use Rattle.head_limits.specs.declared.Purpose.the-variants.{Read, Grow}
 use Rattle.head.specs.declared.FileAnswer.{FileAnswer}
 use Rattle.block.specs.declared.TraceAnswer.{TraceAnswer}
 use Rattle.reader.specs.declared.CountAnswer.{CountAnswer}
 use Rattle.reader.specs.declared.StringAnswer.{StringAnswer}
 use Rattle.reader.specs.declared.KeywordAnswer.{KeywordAnswer}
-use Rattle.decimal.specs.declared.NumberAnswer.{NumberAnswer}
+use Rattle.decimal_parts.specs.declared.NumberAnswer.{NumberAnswer}
 use Rattle.double.specs.declared.DoubleAnswer.{DoubleAnswer}
 use Rattle.location.specs.declared.LocationAnswer.{LocationAnswer}
-use Rattle.head.specs.Head.{countOf}
+use Rattle.head_words.specs.HeadWords.{countOf}
 use Rattle.strings.specs.Spelled.{Str}
 use Rattle.image.specs.Image.{checkOf}
 use Rattle.image.specs.Keeps.{Keeps}

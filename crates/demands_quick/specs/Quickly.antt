@@ -33,8 +33,9 @@ use Rattle.strings.specs.declared.Place.{Place}
 use Rattle.strings.specs.Strings.{offset, body, keyLen, frameRows, endOrText, frameOf, textRows, onFrame, stepOf, onStep, placeOf}
 use Rattle.note.specs.Note.{LineEnd}
 use Rattle.strings.specs.Spelled.{Str, Spells}
-use Rattle.head.specs.declared.Purpose.the-variants.{Read}
-use Rattle.head.specs.Head.{highFirst, roomOf, countOf, headRows, headOf}
+use Rattle.head_limits.specs.declared.Purpose.the-variants.{Read}
+use Rattle.head_words.specs.HeadWords.{highFirst, roomOf, countOf}
+use Rattle.head.specs.Head.{headRows, headOf}
 use Rattle.terminators.specs.Terminators.{stringEnd, lineEnd}
 use Rattle.terminators.specs.TerminatorLaws.{good-ends}
 use Rattle.block.specs.Block.{blockSize, dataAt, blockRows, blockOf, pointerRow}
@@ -54,8 +55,8 @@ use Rattle.reader.specs.Questions.{numberAnswer, doubleAnswer, locationAnswer, 
 use Rattle.reader.specs.Questions.{bitsVerdict, bitsRows, bitsAnswer, patternsLeft, classesLeft}
 use Rattle.reader.specs.Reach.{checked, trace-blocked}
 use Rattle.reader.specs.Listed.{Lists, trace-area}
-use Rattle.decimal.specs.declared.NumberAnswer.{NumberAnswer}
-use Rattle.decimal.specs.declared.NumberAnswer.the-variants as number
+use Rattle.decimal_parts.specs.declared.NumberAnswer.{NumberAnswer}
+use Rattle.decimal_parts.specs.declared.NumberAnswer.the-variants as number
 use Rattle.decimal.specs.Number.{numberIn}
 use Rattle.double.specs.declared.DoubleAnswer.{DoubleAnswer}
 use Rattle.double.specs.declared.DoubleAnswer.the-variants as double

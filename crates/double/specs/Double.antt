@@ -13,9 +13,9 @@ use Rattle.refusal.specs.declared.Rule.the-variants.{NoNumber, NoDouble}
 use Rattle.refusal.specs.declared.Part.the-variants.{File}
 use Rattle.refusal.specs.Rows.{pick, first}
 use Rattle.refusal.specs.Table.{refusal}
-use Rattle.decimal.specs.declared.Decimal.{Decimal}
-use Rattle.decimal.specs.declared.NumberAnswer.{NumberAnswer}
-use Rattle.decimal.specs.declared.NumberAnswer.the-variants as number
+use Rattle.decimal_parts.specs.declared.Decimal.{Decimal}
+use Rattle.decimal_parts.specs.declared.NumberAnswer.{NumberAnswer}
+use Rattle.decimal_parts.specs.declared.NumberAnswer.the-variants as number
 use Rattle.double.specs.declared.DoubleAnswer.{DoubleAnswer}
 use Rattle.double.specs.declared.DoubleAnswer.the-variants.{Is, Refused}
 use Rattle.decimal.specs.Number.{numberIn}

@@ -19,13 +19,14 @@ use lib.Ieee.Scale.{round-same}
 use lib.Ieee.Fits.{up-pos, down-pos}
 use borrow.Author.Tests.{ltb-false, le-ltb}
 use Rattle.refusal.specs.Rows.{pick, clear}
-use Rattle.decimal.specs.declared.Decimal.{Decimal}
+use Rattle.decimal_parts.specs.declared.Decimal.{Decimal}
 use Rattle.double.specs.declared.DoubleAnswer.{DoubleAnswer}
 use Rattle.double.specs.declared.DoubleAnswer.the-variants.{Is, Refused}
-use Rattle.decimal.specs.declared.NumberAnswer.{NumberAnswer}
-use Rattle.decimal.specs.declared.NumberAnswer.the-variants as number
-use Rattle.decimal.specs.Grammar.{Parts, Writes, over, under}
-use Rattle.decimal.specs.Number.{decimalOf, numberIn}
+use Rattle.decimal_parts.specs.declared.NumberAnswer.{NumberAnswer}
+use Rattle.decimal_parts.specs.declared.NumberAnswer.the-variants as number
+use Rattle.decimal_parts.specs.Grammar.{Parts, Writes, over, under}
+use Rattle.decimal_parts.specs.Answer.{decimalOf}
+use Rattle.decimal.specs.Number.{numberIn}
 use Rattle.decimal.specs.Agreed.{parts-unique, is-number}
 use Rattle.double.specs.Double.{exact, scaledOf, withSign, noDouble, doubleFrom, onNumber, doubleOf}
 use Rattle.decimal.specs.Meaning.{raise, lower, numerator, denominator, denominator-pos, under-pos, means}

@@ -1,8 +1,8 @@
 // A number as a double, rounded once (document 01, "As a double", row 22). Double has the definitions, Rounded the
 // proof that a double is the decimal value rounded once. Stands on `decimal`, `word`, `refusal`.
 // The rules in words: docs/FORMAT.md, "Numbers in values".
-use decimal::Decimal;
-use decimal::NumberAnswer;
+use decimal_parts::Decimal;
+use decimal_parts::NumberAnswer;
 use refusal::Part;
 use refusal::Refusal;
 use refusal::Rule;

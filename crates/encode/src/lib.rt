@@ -17,7 +17,7 @@ fn put_word8(part: &mut [u8], high: bool, at: usize, n: u64)
     requires { ⌜ at + 8 ≤ length (now part) ⌝ }
     ensures { λ _. ⌜ now (part .exit) ≡ put (now (part .entry)) at (bytesOf 8 high n) ⌝ }
 {
-    store::put8(part, false, at, sample::turned8(high, n));
+    store_wide::put8(part, false, at, sample::turned8(high, n));
 }
 
 // A sample's bits in two's complement.
@@ -38,7 +38,7 @@ pub fn write1(row: &[i32], high: bool, part: &mut [u8])
         i += 1;
     }
     let end = 2 * row.len();
-    store::zeros(part, end, word::round_up(end));
+    store_bytes::zeros(part, end, word::round_up(end));
 }
 
 // The same of code 2.
@@ -52,7 +52,7 @@ pub fn write2(row: &[i32], high: bool, part: &mut [u8])
         i += 1;
     }
     let end = 4 * row.len();
-    store::zeros(part, end, word::round_up(end));
+    store_bytes::zeros(part, end, word::round_up(end));
 }
 
 // The same of code 4.
@@ -66,7 +66,7 @@ pub fn write4(row: &[u64], high: bool, part: &mut [u8])
         i += 1;
     }
     let end = 4 * row.len();
-    store::zeros(part, end, word::round_up(end));
+    store_bytes::zeros(part, end, word::round_up(end));
 }
 
 // The same of code 5.
@@ -80,7 +80,7 @@ pub fn write5(row: &[u64], high: bool, part: &mut [u8])
         i += 1;
     }
     let end = 8 * row.len();
-    store::zeros(part, end, word::round_up(end));
+    store_bytes::zeros(part, end, word::round_up(end));
 }
 
 // The data block of code 3: the groups, and zeros up to a multiple of 4.
@@ -91,5 +91,5 @@ pub fn write3(row: &[i32], high: bool, part: &mut [u8])
 {
     row20::write_groups(row, high, part);
     let end = 10 * (row.len() / 4);
-    store::zeros(part, end, word::round_up(end));
+    store_bytes::zeros(part, end, word::round_up(end));
 }

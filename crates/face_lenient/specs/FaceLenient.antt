@@ -2,7 +2,7 @@
 -- face/Face and face_values/FaceValues have it, and the strict check's verdict beside it, also behind a refusal.
 -- Assumes nothing.
 use Rattle.block.specs.declared.TraceAnswer.{TraceAnswer}
-use Rattle.decimal.specs.declared.NumberAnswer.{NumberAnswer}
+use Rattle.decimal_parts.specs.declared.NumberAnswer.{NumberAnswer}
 use Rattle.double.specs.declared.DoubleAnswer.{DoubleAnswer}
 use Rattle.head.specs.declared.FileAnswer.{FileAnswer}
 use Rattle.location.specs.declared.LocationAnswer.{LocationAnswer}

@@ -4,7 +4,7 @@
 // Stands on `face` and `face_values`.
 // The rules in words: docs/FORMAT.md, "Older recorders: a lenient reading".
 use block::TraceAnswer;
-use decimal::NumberAnswer;
+use decimal_parts::NumberAnswer;
 use double::DoubleAnswer;
 use face::Seg2Count;
 use face::Seg2File;

@@ -3,8 +3,8 @@
 // declares the structs, with the same fields in the same order, to which a host test holds both.
 // Stands on `face`, `reader`, `location`, `double` and what they stand on.
 // The rules in words: docs/FORMAT.md, "Refusal numbers, in order of checking".
-use decimal::Decimal;
-use decimal::NumberAnswer;
+use decimal_parts::Decimal;
+use decimal_parts::NumberAnswer;
 use double::DoubleAnswer;
 use location::LocationAnswer;
 use reader::KeywordAnswer;

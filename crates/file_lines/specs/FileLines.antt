@@ -7,7 +7,7 @@ use Rattle.word.specs.Part.{part}
 use Rattle.refusal.specs.declared.Part.the-variants.{File, Trace}
 use Rattle.strings.specs.Strings.{placesOf}
 use Rattle.strings.specs.Spelled.{Str, strsIn}
-use Rattle.head.specs.Head.{highFirst, roomOf, countOf}
+use Rattle.head_words.specs.HeadWords.{highFirst, roomOf, countOf}
 use Rattle.terminators.specs.Terminators.{stringEnd, lineEnd}
 use Rattle.block.specs.Block.{sampleCount, formatCode, dataAt}
 use Rattle.image.specs.Keeps.{traceAt}

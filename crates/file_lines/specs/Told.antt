@@ -6,16 +6,16 @@ use mathlib.Core.List.{List, _++_}
 use Prim.Native.Nat.{ℕ, _+_, _*_, _≤_, _<_}
 use native.Mathlib.Omega.{arith}
 use lib.ListN.{length}
-use Rattle.head.specs.declared.Purpose.the-variants.{Read}
+use Rattle.head_limits.specs.declared.Purpose.the-variants.{Read}
 use Rattle.text.specs.declared.Manner.the-variants.{Strict}
 use Rattle.word.specs.Part.{part}
 use Rattle.refusal.specs.declared.Part.the-variants.{File, Trace}
 use Rattle.refusal.specs.declared.Verdict.the-variants.{Accepted}
 use Rattle.strings.specs.Strings.{placesOf}
 use Rattle.strings.specs.Spelled.{strsIn}
-use Rattle.head.specs.declared.FileBlock.{FileBlock}
+use Rattle.head_words.specs.declared.FileBlock.{FileBlock}
 use Rattle.block.specs.declared.TraceBlock.{TraceBlock}
-use Rattle.head.specs.Head.{highFirst, countOf, fileBlockOf}
+use Rattle.head_words.specs.HeadWords.{highFirst, countOf, fileBlockOf}
 use Rattle.terminators.specs.Terminators.{stringEnd, lineEnd, goodTerminator}
 use Rattle.terminators.specs.TerminatorLaws.{good-most, length-terminator}
 use Rattle.block.specs.Block.{pointerOf, traceBlockOf}

@@ -9,8 +9,8 @@ ghost use lib.ListN.{length};
 ghost use Rattle.word.specs.Wrote.{Room, Wrote};
 ghost use Rattle.refusal.specs.declared.Verdict.the-variants.{Accepted};
 ghost use Rattle.text.specs.declared.Manner.the-variants.{Strict};
-ghost use Rattle.head.specs.declared.Purpose.the-variants.{Read};
-ghost use Rattle.head.specs.Head.{countOf};
+ghost use Rattle.head_limits.specs.declared.Purpose.the-variants.{Read};
+ghost use Rattle.head_words.specs.HeadWords.{countOf};
 ghost use Rattle.image.specs.Image.{imageOf};
 ghost use Rattle.file_lines.specs.FileLines.{traceText, tracesText, fileText};
 
@@ -20,7 +20,7 @@ fn put_trace(out: &mut [u8], at: usize, f: &[u8], k: u16) -> usize
         × Room (now out) at (traceText (now f) k) ⌝ }
     ensures { λ r. ⌜ Wrote (now (out .entry)) at (traceText (now (f .entry)) k) r (now (out .exit)) ⌝ }
 {
-    let high = head::is_high(f);
+    let high = head_words::is_high(f);
     let b = block::trace_block(f, high, k);
     let from = b.p + 32;
     let to = b.p + b.b;
@@ -59,7 +59,7 @@ pub fn put_file(out: &mut [u8], f: &[u8]) -> usize
         × Room (now out) 0 (fileText (now f)) ⌝ }
     ensures { λ r. ⌜ Wrote (now (out .entry)) 0 (fileText (now (f .entry))) r (now (out .exit)) ⌝ }
 {
-    let b = head::file_block(f);
+    let b = head_words::file_block(f);
     let high = b.high;
     let start = 32 + b.m;
     let first = block::pointer(f, high, 0);

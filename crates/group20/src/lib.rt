@@ -26,7 +26,7 @@ pub fn put_word4(part: &mut [u8], high: bool, at: usize, n: u32)
     requires { ⌜ at + 4 ≤ length (now part) ⌝ }
     ensures { λ _. ⌜ now (part .exit) ≡ put (now (part .entry)) at (bytesOf 4 high n) ⌝ }
 {
-    store::put4(part, false, at, sample::turned4(high, n));
+    store_wide::put4(part, false, at, sample::turned4(high, n));
 }
 
 // Two words, one behind the other, as one number of four bytes.

@@ -32,7 +32,7 @@ use Rattle.encode.specs.Write.{flat, residue, fixedBytes, filledUp, integersDat
 use Rattle.sheet.specs.declared.Measured.the-variants.{Size}
 use Rattle.sheet.specs.Area.{areaOf, areaSize, padding, sheetStrings, textSize, measuredOf}
 use Rattle.area.specs.Spelling.{among, Terminators, terminators-end, area-spells}
-use Rattle.head.specs.Head.{highFirst}
+use Rattle.head_words.specs.HeadWords.{highFirst}
 use Rattle.terminators.specs.Terminators.{stringEnd, lineEnd}
 use Rattle.layout.specs.Layout.{Trace, Samples, Samples.integers, Samples.patterns, count, fitting, samplesData}
 use Rattle.layout.specs.Layout.{orderMark, plainEnds, nul, lineFeed, fileBlock, startImage, traceBlock, blockBytes}

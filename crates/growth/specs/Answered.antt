@@ -7,7 +7,7 @@ use mathlib.Core.List.{List}
 use Prim.Native.Nat.{ℕ, _≤_, _<_}
 use lib.IntN.{ℤ}
 use lib.ListN.{length, take}
-use Rattle.head.specs.declared.Purpose.the-variants.{Read}
+use Rattle.head_limits.specs.declared.Purpose.the-variants.{Read}
 use Rattle.text.specs.declared.Manner.{Manner}
 use Rattle.text.specs.Manner.{named}
 use Rattle.refusal.specs.declared.Verdict.the-variants.{Accepted}

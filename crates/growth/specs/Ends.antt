@@ -10,7 +10,7 @@ use native.Mathlib.Omega.{arith}
 use lib.ListN.{length, getD}
 use lib.Dec.{eqb}
 use borrow.Author.Tests.{eqb-true}
-use Rattle.head.specs.declared.Purpose.{Purpose}
+use Rattle.head_limits.specs.declared.Purpose.{Purpose}
 use Rattle.text.specs.declared.Manner.the-variants.{Strict}
 use Rattle.word.specs.Tests.{both}
 use Rattle.word.specs.Part.{length-part}

@@ -10,14 +10,14 @@ use Prim.Native.Nat.{ℕ, zero, suc, _+_, _*_, _≤_, _<_}
 use native.Mathlib.Omega.{arith}
 use lib.ListN.{length, getD, take, drop, set}
 use lib.Seq.{length-take-le, getD-take, getD-drop}
-use Rattle.head.specs.declared.Purpose.the-variants.{Grow}
+use Rattle.head_limits.specs.declared.Purpose.the-variants.{Grow}
 use Rattle.word.specs.Part.{part}
 use Rattle.word.specs.Bytes.{Bytes, bytes-take}
 use Rattle.word.specs.Put.{put, length-put, drop-put-after, take-put-before, part-put, part-put-before, part-put-after}
 use Rattle.word.specs.Round.{round4}
 use Rattle.word.specs.Word.{wordAt, bytesOf}
 use Rattle.word.specs.WordLaws.{length-bytesOf, bytesOf-bytes, word-put, word-put-after}
-use Rattle.head.specs.Head.{highFirst, roomOf, countOf}
+use Rattle.head_words.specs.HeadWords.{highFirst, roomOf, countOf}
 use Rattle.layout.specs.Layout.{Trace}
 use Rattle.append.specs.Grown.{newBytes, grown}
 use Rattle.opening.specs.OpeningLaws.{room-small, placed}

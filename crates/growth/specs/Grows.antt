@@ -10,7 +10,7 @@ use Prim.Native.Nat.{ℕ, _+_, _-_, _*_, _≤_}
 use native.Mathlib.Omega.{arith}
 use lib.ListN.{length, take, drop, replicate, length-replicate}
 use lib.Seq.{length-take-le, drop-at}
-use Rattle.head.specs.declared.Purpose.the-variants.{Grow}
+use Rattle.head_limits.specs.declared.Purpose.the-variants.{Grow}
 use Rattle.text.specs.declared.Manner.the-variants.{Strict}
 use Rattle.word.specs.Part.{part, part-take, part-part, part-drop, part-among}
 use Rattle.word.specs.Bytes.{Bytes}
@@ -20,7 +20,8 @@ use Rattle.word.specs.WordLaws.{word-take}
 use Rattle.fit.specs.declared.Fit.the-variants.{All}
 use Rattle.sheet.specs.declared.Measured.the-variants.{Size}
 use Rattle.sheet.specs.Area.{areaSize, measuredOf}
-use Rattle.head.specs.Head.{maximum, highFirst, roomOf, countOf}
+use Rattle.head_words.specs.HeadWords.{highFirst, roomOf, countOf}
+use Rattle.head.specs.Head.{maximum}
 use Rattle.terminators.specs.Terminators.{stringEnd, lineEnd}
 use Rattle.image.specs.Keeps.{Keeps}
 use Rattle.image.specs.Accepted.{accepted-keeps}

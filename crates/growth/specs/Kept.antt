@@ -10,13 +10,13 @@ use Prim.Native.Nat.{ℕ, zero, suc, _+_, _-_, _*_, _≤_, _<_}
 use native.Mathlib.Omega.{arith}
 use lib.ListN.{length, getD}
 use lib.Dec.{eqb}
-use Rattle.head.specs.declared.Purpose.the-variants.{Grow}
-use Rattle.head.specs.declared.Purpose.{Purpose}
+use Rattle.head_limits.specs.declared.Purpose.the-variants.{Grow}
+use Rattle.head_limits.specs.declared.Purpose.{Purpose}
 use Rattle.text.specs.declared.Manner.the-variants.{Strict}
 use Rattle.word.specs.Part.{part, getD-part}
 use Rattle.word.specs.Round.{round4}
 use Rattle.word.specs.Word.{valueOf, wordAt}
-use Rattle.head.specs.Head.{highFirst, revisionOf, roomOf, countOf}
+use Rattle.head_words.specs.HeadWords.{highFirst, revisionOf, roomOf, countOf}
 use Rattle.terminators.specs.Terminators.{terminatorAt, stringEnd, lineEnd}
 use Rattle.block.specs.Block.{pointerOf, markAt, blockSize, dataSize, sampleCount, formatCode, dataAt, endAt}
 use Rattle.image.specs.Keeps.{traceAt, endBefore, KeepsTerminator, Keeps}

@@ -10,7 +10,7 @@ use lib.ListN.{length}
 use Rattle.word.specs.Part.{part}
 use Rattle.word.specs.Round.{round4}
 use Rattle.sheet.specs.Area.{areaOf, areaSize}
-use Rattle.head.specs.Head.{highFirst, countOf}
+use Rattle.head_words.specs.HeadWords.{highFirst, countOf}
 use Rattle.terminators.specs.Terminators.{stringEnd, lineEnd}
 use Rattle.block.specs.Block.{traceMark, markAt, blockSize, dataSize, sampleCount, formatCode, dataAt, endAt}
 use Rattle.image.specs.Keeps.{traceAt}

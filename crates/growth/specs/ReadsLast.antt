@@ -6,11 +6,11 @@ use Prim.Native.Nat.{ℕ}
 use native.Mathlib.Omega.{arith}
 use lib.ListN.{length, take}
 use lib.Seq.{length-take-le}
-use Rattle.head.specs.declared.Purpose.the-variants.{Read}
+use Rattle.head_limits.specs.declared.Purpose.the-variants.{Read}
 use Rattle.word.specs.Bytes.{Bytes}
 use Rattle.word.specs.Round.{round4}
 use Rattle.sheet.specs.Area.{areaSize}
-use Rattle.head.specs.Head.{countOf}
+use Rattle.head_words.specs.HeadWords.{countOf}
 use Rattle.terminators.specs.Terminators.{stringEnd, lineEnd}
 use Rattle.image.specs.Accepted.{kept-ends}
 use Rattle.layout.specs.Layout.{Trace}

@@ -11,8 +11,8 @@ use native.Mathlib.Omega.{arith}
 use lib.ListN.{length, take, replicate}
 use lib.Dec.{eqb}
 use borrow.Author.Tests.{ne-eqb}
-use Rattle.head.specs.declared.Purpose.{Purpose}
-use Rattle.head.specs.declared.Purpose.the-variants.{Read, Grow}
+use Rattle.head_limits.specs.declared.Purpose.{Purpose}
+use Rattle.head_limits.specs.declared.Purpose.the-variants.{Read, Grow}
 use Rattle.text.specs.declared.Manner.the-variants.{Strict}
 use Rattle.word.specs.Tests.{never}
 use Rattle.word.specs.Part.{part, length-part, part-none, part-split}
@@ -31,7 +31,7 @@ use Rattle.sheet.specs.Lines.{linesVerdict, sheetLines}
 use Rattle.sheet_channel.specs.SheetChannel.{hasLine, valueOfLine}
 use Rattle.sheet_channel.specs.Meant.{has-meant, value-meant, KeepsSheet, sheet-keeps}
 use Rattle.area.specs.Spelling.{measured-size, area-bounds, area-spells}
-use Rattle.head.specs.Head.{highFirst, roomOf, countOf}
+use Rattle.head_words.specs.HeadWords.{highFirst, roomOf, countOf}
 use Rattle.terminators.specs.Terminators.{stringEnd, lineEnd}
 use Rattle.block.specs.Block.{dataSize, dataAt, endAt}
 use Rattle.image.specs.Image.{checkOf}

@@ -8,7 +8,7 @@ use native.Mathlib.Omega.{arith}
 use lib.IntN.{ℤ, pos, negsuc}
 use lib.ListN.{length, getD, take, drop}
 use borrow.Author.Tests.{lt-ltb, ne-eqb}
-use Rattle.head.specs.declared.Purpose.the-variants.{Read, Grow}
+use Rattle.head_limits.specs.declared.Purpose.the-variants.{Read, Grow}
 use Rattle.text.specs.declared.Manner.the-variants.{Strict}
 use Rattle.word.specs.Part.{part}
 use Rattle.word.specs.Bytes.{Bytes}
@@ -19,7 +19,7 @@ use Rattle.chars.specs.Runs.{same}
 use Rattle.strings.specs.Strings.{placesOf, findOf, keyIn, valueFound}
 use Rattle.strings.specs.Spelled.{Str, Spells, nthStr, strsIn}
 use Rattle.strings.specs.Paper.{spelled-places, spelled-value}
-use Rattle.head.specs.Head.{fileBlockOf, highFirst, roomOf, countOf}
+use Rattle.head_words.specs.HeadWords.{fileBlockOf, highFirst, roomOf, countOf}
 use Rattle.terminators.specs.Terminators.{stringEnd, lineEnd}
 use Rattle.block.specs.Block.{blockSize, dataSize, dataAt, traceBlockOf}
 use Rattle.image.specs.Image.{checkOf}

@@ -11,7 +11,7 @@ use lib.IntN.{ℤ, pos}
 use lib.Signed.{mag}
 use lib.ListN.{length, getD, take}
 use borrow.Author.Tests.{eqb-true}
-use Rattle.head.specs.declared.Purpose.the-variants.{Read}
+use Rattle.head_limits.specs.declared.Purpose.the-variants.{Read}
 use Rattle.text.specs.declared.Manner.the-variants.{Strict}
 use Rattle.word.specs.Tests.{never}
 use Rattle.word.specs.Part.{part}
@@ -29,7 +29,7 @@ use Rattle.sheet.specs.declared.Measured.the-variants.{Size}
 use Rattle.sheet.specs.Area.{sheetStrings, measuredOf}
 use Rattle.note.specs.Note.{LineEnd}
 use Rattle.area.specs.Spelling.{area-spells}
-use Rattle.head.specs.Head.{highFirst, countOf}
+use Rattle.head_words.specs.HeadWords.{highFirst, countOf}
 use Rattle.terminators.specs.Terminators.{stringEnd, lineEnd}
 use Rattle.block.specs.Block.{dataAt, traceBlockOf}
 use Rattle.image.specs.Image.{checkOf}

@@ -15,16 +15,18 @@ use Rattle.word.specs.Part.{part-take}
 use Rattle.word.specs.Word.{wordAt}
 use Rattle.word.specs.WordLaws.{word-take}
 use Rattle.refusal.specs.Rows.{first, clear, through}
-use Rattle.head.specs.declared.FileBlock.{FileBlock}
-use Rattle.head.specs.declared.Purpose.{Purpose}
-use Rattle.head.specs.declared.Purpose.the-variants.{Read, Grow}
+use Rattle.head_words.specs.declared.FileBlock.{FileBlock}
+use Rattle.head_limits.specs.declared.Purpose.{Purpose}
+use Rattle.head_limits.specs.declared.Purpose.the-variants.{Read, Grow}
 use Rattle.refusal.specs.declared.Verdict.the-variants.{Accepted}
 use Rattle.chars.specs.Runs.{all}
 use Rattle.chars.specs.Chars.{control}
-use Rattle.head.specs.Head.{known, mayBeEmpty, highFirst, revisionOf, roomOf, countOf}
+use Rattle.head_limits.specs.HeadLimits.{known, mayBeEmpty}
+use Rattle.head_words.specs.HeadWords.{highFirst, revisionOf, roomOf, countOf}
 use Rattle.terminators.specs.TerminatorLaws.{good-most}
 use Rattle.terminators.specs.Terminators.{terminatorAt, stringEnd}
-use Rattle.head.specs.Head.{headRows, headOf, fileBlockOf}
+use Rattle.head_words.specs.HeadWords.{fileBlockOf}
+use Rattle.head.specs.Head.{headRows, headOf}
 use Rattle.terminators.specs.Terminators.{lineEnd, goodTerminator, apart}
 
 -- ---- the first 32 bytes say it all
@@ -170,13 +172,3 @@ module _ (b : List ℕ) {x : FileBlock} (e : x ≡ fileBlockOf b) where
   pub block-revision : (n : ℕ) → n ≡ wordAt 2 (x .high) b 2 → revisionOf b ≡ n
   unfolding revisionOf
   block-revision n w = rw block-order (sym w)
-
--- ---- the words of the file block, read in an order that is the file's
-module _ (f : List ℕ) (h : Bool) (e : h ≡ highFirst f) (n : ℕ) where
-  pub room-read : n ≡ wordAt 2 h f 4 → roomOf f ≡ n
-  unfolding roomOf
-  room-read w = rw (← e) (sym w)
-
-  pub count-read : n ≡ wordAt 2 h f 6 → countOf f ≡ n
-  unfolding countOf
-  count-read w = rw (← e) (sym w)

@@ -16,7 +16,7 @@ use native.Mathlib.Decide.{decLe}
 use lib.Seq.{getD-take, take-take, take-all}
 use lib.Dec.{eqb}
 use borrow.Author.Tests.{eq-eqb}
-use Rattle.head.specs.declared.Purpose.{Purpose}
+use Rattle.head_limits.specs.declared.Purpose.{Purpose}
 use Rattle.text.specs.declared.Manner.the-variants.{Strict}
 use Rattle.word.specs.Tests.{never}
 use Rattle.word.specs.Part.{part, getD-part, drop-take}
@@ -26,7 +26,7 @@ use Rattle.refusal.specs.Rows.{pick}
 use Rattle.refusal.specs.declared.Part.{Part}
 use Rattle.refusal.specs.declared.Part.the-variants.{File, Trace}
 use Rattle.sample.specs.Needed.{needed}
-use Rattle.head.specs.Head.{highFirst, revisionOf, roomOf, countOf}
+use Rattle.head_words.specs.HeadWords.{highFirst, revisionOf, roomOf, countOf}
 use Rattle.terminators.specs.Terminators.{terminatorAt, stringEnd, lineEnd, goodTerminator}
 use Rattle.head.specs.Head.{headOf}
 use Rattle.block.specs.Block.{pointerOf, markAt, blockSize, dataSize, sampleCount, formatCode, dataAt, endAt, blockOf}

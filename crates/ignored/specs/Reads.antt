@@ -9,8 +9,8 @@ use native.Mathlib.Omega.{arith}
 use lib.IntN.{ℤ}
 use lib.ListN.{length, take}
 use borrow.Author.Tests.{le-ltb, ne-eqb}
-use Rattle.head.specs.declared.Purpose.{Purpose}
-use Rattle.head.specs.declared.Purpose.the-variants.{Read}
+use Rattle.head_limits.specs.declared.Purpose.{Purpose}
+use Rattle.head_limits.specs.declared.Purpose.the-variants.{Read}
 use Rattle.text.specs.declared.Manner.the-variants.{Strict}
 use Rattle.refusal.specs.Verdicts.{asked}
 use Rattle.word.specs.Part.{part}
@@ -19,7 +19,7 @@ use Rattle.refusal.specs.declared.Verdict.{Verdict}
 use Rattle.refusal.specs.declared.Verdict.the-variants.{Accepted, Refused}
 use Rattle.strings.specs.declared.Place.{Place}
 use Rattle.strings.specs.Strings.{placesOf, nthOf, findOf, valueFound}
-use Rattle.head.specs.Head.{fileBlockOf, highFirst, roomOf, countOf}
+use Rattle.head_words.specs.HeadWords.{fileBlockOf, highFirst, roomOf, countOf}
 use Rattle.terminators.specs.Terminators.{stringEnd}
 use Rattle.block.specs.Block.{sampleCount, formatCode, dataAt, endAt, traceBlockOf}
 use Rattle.image.specs.Image.{checkOf}

@@ -27,7 +27,7 @@ use Rattle.refusal.specs.declared.Verdict.{Verdict}
 use Rattle.refusal.specs.declared.Verdict.the-variants.{Accepted, Refused}
 use Rattle.text.specs.declared.Manner.{Manner}
 use Rattle.text.specs.Manner.{asksChannels}
-use Rattle.head.specs.declared.Purpose.{Purpose}
+use Rattle.head_limits.specs.declared.Purpose.{Purpose}
 use Rattle.note.specs.Note.{LineEnd}
 use Rattle.strings.specs.declared.Found.{Found}
 use Rattle.strings.specs.Strings.{found, valueFound}
@@ -35,7 +35,9 @@ use Rattle.strings.specs.Spelled.{Str, Spells, valueOfKey, hasKey}
 use Rattle.strings.specs.Paper.{spelled-accepted, accepted-spelled, spelled-value}
 use Rattle.channel.specs.Count.{countIn, counted, counts}
 use Rattle.channel.specs.Channel.{channelNumber, badChannel, keeps-channel, channel-kept}
-use Rattle.head.specs.Head.{maximum, known, highFirst, roomOf, countOf, headOf}
+use Rattle.head_limits.specs.HeadLimits.{known}
+use Rattle.head_words.specs.HeadWords.{highFirst, roomOf, countOf}
+use Rattle.head.specs.Head.{maximum, headOf}
 use Rattle.terminators.specs.Terminators.{stringEnd, lineEnd, goodTerminator}
 use Rattle.head.specs.Head.{refused}
 use Rattle.head.specs.HeadLaws.{Headed, headed, head-accepts}

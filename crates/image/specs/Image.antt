@@ -17,8 +17,9 @@ use Rattle.text.specs.declared.Manner.{Manner}
 use Rattle.strings.specs.Strings.{found}
 use Rattle.block.specs.Block.{pointerOf, endAt, pointerRow}
 use Rattle.trace.specs.Trace.{areaVerdict, channelAt, blockChecks}
-use Rattle.head.specs.declared.Purpose.{Purpose}
-use Rattle.head.specs.Head.{maximum, highFirst, roomOf, countOf, headOf, refused}
+use Rattle.head_limits.specs.declared.Purpose.{Purpose}
+use Rattle.head_words.specs.HeadWords.{highFirst, roomOf, countOf}
+use Rattle.head.specs.Head.{maximum, headOf, refused}
 use Rattle.terminators.specs.Terminators.{stringEnd, lineEnd}
 
 -- ---- channel numbers (document 02 §7): "if one trace block has it, all must"

@@ -14,11 +14,12 @@ use Rattle.refusal.specs.declared.Refusal.{Refusal}
 use Rattle.refusal.specs.declared.Verdict.{Verdict}
 use Rattle.refusal.specs.declared.Verdict.the-variants.{Accepted, Refused}
 use Rattle.text.specs.declared.Manner.{Manner}
-use Rattle.head.specs.declared.Purpose.{Purpose}
-use Rattle.head.specs.declared.FileBlock.{FileBlock}
+use Rattle.head_limits.specs.declared.Purpose.{Purpose}
+use Rattle.head_words.specs.declared.FileBlock.{FileBlock}
 use Rattle.head.specs.declared.FileAnswer.{FileAnswer}
 use Rattle.head.specs.declared.FileAnswer.the-variants as file
-use Rattle.head.specs.Head.{maximum, highFirst, roomOf, countOf, headOf, fileBlockOf, headAnswer, InWords}
+use Rattle.head_words.specs.HeadWords.{highFirst, roomOf, countOf, fileBlockOf}
+use Rattle.head.specs.Head.{maximum, headOf, headAnswer, InWords}
 use Rattle.terminators.specs.Terminators.{stringEnd, lineEnd}
 use Rattle.head.specs.HeadLaws.{Headed, headed, own-block, block-order, block-room, block-count}
 use Rattle.image.specs.Image.{restOf, imageOf, badLength}

@@ -15,13 +15,14 @@ use Rattle.sample.specs.Needed.{needed}
 use Rattle.text.specs.declared.Manner.{Manner}
 use Rattle.text.specs.Manner.{asksChannels}
 use Rattle.chars.specs.Runs.{all}
-use Rattle.head.specs.declared.Purpose.{Purpose}
-use Rattle.head.specs.declared.Purpose.the-variants.{Grow}
+use Rattle.head_limits.specs.declared.Purpose.{Purpose}
+use Rattle.head_limits.specs.declared.Purpose.the-variants.{Grow}
 use Rattle.strings.specs.Spelled.{Str, Spells, valueOfKey, hasKey}
 use Rattle.channel.specs.Count.{Counts}
 use Rattle.channel.specs.Channel.{channelNumber}
 use Rattle.chars.specs.Chars.{control}
-use Rattle.head.specs.Head.{maximum, highFirst, revisionOf, roomOf, countOf}
+use Rattle.head_words.specs.HeadWords.{highFirst, revisionOf, roomOf, countOf}
+use Rattle.head.specs.Head.{maximum}
 use Rattle.terminators.specs.Terminators.{terminatorAt, stringEnd, lineEnd, apart}
 use Rattle.block.specs.Block.{traceMark, pointerOf, markAt, blockSize, dataSize, sampleCount, formatCode, dataAt, endAt}
 

@@ -5,8 +5,8 @@
 // hands on what it read, and each string is read once.
 // The rules in words: docs/FORMAT.md, "Refusal numbers, in order of checking".
 use head::FileAnswer;
-use head::FileBlock;
-use head::Purpose;
+use head_limits::Purpose;
+use head_words::FileBlock;
 use refusal::Part;
 use refusal::Refusal;
 use refusal::Rule;

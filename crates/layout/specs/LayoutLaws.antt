@@ -21,7 +21,7 @@ use Rattle.sheet.specs.declared.Measured.the-variants.{Size}
 use Rattle.sheet.specs.Area.{areaMost, areaOf, areaSize, measuredOf}
 use Rattle.sheet.specs.Sizes.{length-area}
 use Rattle.area.specs.Spelling.{measured-size}
-use Rattle.head.specs.Head.{highFirst, revisionOf, roomOf, countOf}
+use Rattle.head_words.specs.HeadWords.{highFirst, revisionOf, roomOf, countOf}
 use Rattle.terminators.specs.Terminators.{terminatorAt, stringEnd, lineEnd}
 use Rattle.block.specs.Block.{traceMark, markAt, blockSize, dataSize, sampleCount, formatCode}
 use Rattle.layout.specs.Layout.{orderMark, plainEnds, nul, lineFeed, fileBlock, startImage, startSize, Trace}

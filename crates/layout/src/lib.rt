@@ -9,7 +9,7 @@ ghost use lib.ListN.{length};
 ghost use Rattle.word.specs.Put.{put};
 ghost use Rattle.sample.specs.Needed.{room};
 ghost use Rattle.sheet.specs.Area.{areaOf, measuredOf};
-ghost use Rattle.area.specs.Writing.{Writable};
+ghost use Rattle.sheet_texts.specs.Texts.{Writable};
 ghost use Rattle.layout.specs.Layout.{nul, lineFeed, slotsMost, fileBlock, startImage, traceBlock, integers};
 ghost use Rattle.layout.specs.Layout.{patterns, samplesData};
 ghost use Rattle.layout.specs.Stores.{headBytes, Held};
@@ -28,8 +28,8 @@ fn put_file_block(buf: &mut [u8], high: bool, m: u16)
     store::put2(buf, high, 2, 1);
     store::put2(buf, high, 4, m);
     store::put2(buf, high, 6, 0);
-    store::copy(buf, 8, &ends[..]);
-    store::zeros(buf, 14, 32);
+    store_bytes::copy(buf, 8, &ends[..]);
+    store_bytes::zeros(buf, 14, 32);
 }
 
 // A sheet's area from a place on: the buffer from there on is lent.
@@ -52,7 +52,7 @@ pub fn put_start(buf: &mut [u8], high: bool, slots: usize, sheet: &[u8])
     let t = [0u8];
     let u = [10u8];
     put_file_block(buf, high, m as u16);
-    store::zeros(buf, 32, at);
+    store_bytes::zeros(buf, 32, at);
     put_area(buf, at, high, &t[..], &u[..], sheet);
 }
 
@@ -63,11 +63,11 @@ fn put_block(part: &mut [u8], high: bool, b: u16, d: u32, s: u32, code: u8)
 {
     store::put2(part, high, 0, 17442);
     store::put2(part, high, 2, b);
-    store::put4(part, high, 4, d);
-    store::put4(part, high, 8, s);
+    store_wide::put4(part, high, 4, d);
+    store_wide::put4(part, high, 8, s);
     let c = [code];
-    store::copy(part, 12, &c[..]);
-    store::zeros(part, 13, 32);
+    store_bytes::copy(part, 12, &c[..]);
+    store_bytes::zeros(part, 13, 32);
 }
 
 // All of a trace before its samples, the block and the strings, into the free end of a buffer, which is lent from the

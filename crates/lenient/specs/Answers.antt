@@ -22,8 +22,8 @@ use Rattle.text.specs.declared.Manner.the-variants.{Strict, Lenient}
 use Rattle.strings.specs.declared.Place.{Place}
 use Rattle.strings.specs.Strings.{placesOf, findOf, nthOf}
 use Rattle.places.specs.Numbers.{numbersOf}
-use Rattle.head.specs.declared.Purpose.the-variants.{Read}
-use Rattle.head.specs.Head.{highFirst, roomOf, countOf}
+use Rattle.head_limits.specs.declared.Purpose.the-variants.{Read}
+use Rattle.head_words.specs.HeadWords.{highFirst, roomOf, countOf}
 use Rattle.terminators.specs.Terminators.{stringEnd, lineEnd}
 use Rattle.block.specs.Block.{dataAt}
 use Rattle.trace.specs.Trace.{areaVerdict}

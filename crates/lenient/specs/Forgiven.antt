@@ -39,8 +39,9 @@ use Rattle.strings.specs.Strings.{offset, body, keyLen, keyOf, valueOf, cut, fr
 use Rattle.strings.specs.Strings.{stringsFrom, stringsOf}
 use Rattle.strings.specs.Frames.{cut-two}
 use Rattle.strings.specs.Walks.{InFrame, in-frame, walk-over}
-use Rattle.head.specs.declared.Purpose.{Purpose}
-use Rattle.head.specs.Head.{highFirst, roomOf, countOf, headOf, refused}
+use Rattle.head_limits.specs.declared.Purpose.{Purpose}
+use Rattle.head_words.specs.HeadWords.{highFirst, roomOf, countOf}
+use Rattle.head.specs.Head.{headOf, refused}
 use Rattle.terminators.specs.Terminators.{stringEnd, lineEnd}
 use Rattle.block.specs.Block.{pointerOf, blockSize, dataAt, endAt, blockOf, pointerRow}
 use Rattle.block.specs.BlockLaws.{headAt}

@@ -29,8 +29,9 @@ use Rattle.strings.specs.declared.Judged.{Judged}
 use Rattle.strings.specs.declared.Judged.the-variants.{Keyword, Wrong}
 use Rattle.strings.specs.Strings.{offset, body, keyLen, keyOf, valueOf, frameOf, judgedOf, onJudged, onFrame, stepOf, onStep}
 use Rattle.strings.specs.Strings.{stringsFrom, stringsOf}
-use Rattle.head.specs.declared.Purpose.{Purpose}
-use Rattle.head.specs.Head.{highFirst, roomOf, countOf, headRows, headOf, refused}
+use Rattle.head_limits.specs.declared.Purpose.{Purpose}
+use Rattle.head_words.specs.HeadWords.{highFirst, roomOf, countOf}
+use Rattle.head.specs.Head.{headRows, headOf, refused}
 use Rattle.terminators.specs.Terminators.{stringEnd, lineEnd}
 use Rattle.block.specs.Block.{pointerOf, blockSize, endAt, blockRows, blockOf, pointerRow}
 use Rattle.limits.specs.Limits.{badPointer}

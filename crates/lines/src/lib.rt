@@ -48,9 +48,9 @@ fn put_order(out: &mut [u8], at: usize, high: bool) -> usize
     ensures { λ r. ⌜ Wrote (now (out .entry)) at (order high) r (now (out .exit)) ⌝ }
 {
     if high {
-        return store::put_bytes(out, at, b"SEG2\thigh\t");
+        return store_bytes::put_bytes(out, at, b"SEG2\thigh\t");
     }
-    store::put_bytes(out, at, b"SEG2\tlow\t")
+    store_bytes::put_bytes(out, at, b"SEG2\tlow\t")
 }
 
 // The first line: order, N, M.
@@ -68,7 +68,7 @@ pub fn put_trace_line(out: &mut [u8], at: usize, k: u16, code: u8, s: usize) -> 
     requires { ⌜ Room (now out) at (traceLine k code s) ⌝ }
     ensures { λ r. ⌜ Wrote (now (out .entry)) at (traceLine k code s) r (now (out .exit)) ⌝ }
 {
-    let a = store::put_bytes(out, at, b"T\t");
+    let a = store_bytes::put_bytes(out, at, b"T\t");
     let b = put_ended(out, a, k as usize, 9);
     let c = put_ended(out, b, code as usize, 9);
     put_ended(out, c, s, 10)
@@ -119,7 +119,7 @@ pub fn put_refusal(out: &mut [u8], at: usize, r: Refusal) -> usize
     let rule = r.rule;
     let part = r.part;
     let place = r.place;
-    let a = store::put_bytes(out, at, b"R\t");
+    let a = store_bytes::put_bytes(out, at, b"R\t");
     let b = put_rule(out, a, rule);
     let c = put_part(out, b, part);
     let d = put_byte(out, c, 9);
@@ -154,10 +154,10 @@ fn put_label(out: &mut [u8], at: usize, part: Part, key: &[u8]) -> usize
     requires { ⌜ Room (now out) at (label part (now key)) ⌝ }
     ensures { λ r. ⌜ Wrote (now (out .entry)) at (label part (now (key .entry))) r (now (out .exit)) ⌝ }
 {
-    let a = store::put_bytes(out, at, b"S\t");
+    let a = store_bytes::put_bytes(out, at, b"S\t");
     let b = put_whose(out, a, part);
     let c = put_byte(out, b, 9);
-    let d = store::put_bytes(out, c, key);
+    let d = store_bytes::put_bytes(out, c, key);
     put_byte(out, d, 9)
 }
 

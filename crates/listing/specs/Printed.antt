@@ -8,7 +8,7 @@ use Rattle.text.specs.declared.Manner.the-variants.{Strict}
 use Rattle.word.specs.Part.{part}
 use Rattle.strings.specs.Spelled.{Str, Spells}
 use Rattle.strings.specs.Paper.{spelled-places}
-use Rattle.head.specs.Head.{highFirst}
+use Rattle.head_words.specs.HeadWords.{highFirst}
 use Rattle.terminators.specs.Terminators.{stringEnd, lineEnd}
 use Rattle.file_lines.specs.FileLines.{stringsIn}
 

@@ -10,7 +10,7 @@ use lib.ListN.{length, take, drop, length-append, length-drop, length-take}
 use lib.Seq.{length-take-le}
 use lib.Dec.{leb}
 use borrow.Author.Tests.{leb-false}
-use Rattle.head.specs.declared.Purpose.the-variants.{Read}
+use Rattle.head_limits.specs.declared.Purpose.the-variants.{Read}
 use Rattle.text.specs.declared.Manner.the-variants.{Strict}
 use Rattle.word.specs.Bytes.{Bytes}
 use Rattle.word.specs.Part.{part}
@@ -30,7 +30,8 @@ use Rattle.note.specs.Note.{linesOf}
 use Rattle.strings.specs.Strings.{frameOf, placeOf, onText, placesFrom, placesOf, keyIn, valueIn}
 use Rattle.strings.specs.Walks.{Fits, place-fits}
 use Rattle.strings.specs.Spelled.{strsIn}
-use Rattle.head.specs.Head.{maximum, highFirst, roomOf, countOf}
+use Rattle.head_words.specs.HeadWords.{highFirst, roomOf, countOf}
+use Rattle.head.specs.Head.{maximum}
 use Rattle.terminators.specs.Terminators.{stringEnd, lineEnd}
 use Rattle.block.specs.Block.{blockSize, dataSize, sampleCount, formatCode, dataAt, endAt}
 use Rattle.image.specs.Image.{imageOf}

@@ -4,7 +4,7 @@
 // the strings are those that the file spells.
 // Stands on `file_lines`, `lines`, `image` and what they stand on.
 // The rules in words: docs/FORMAT.md, "Worked values".
-use head::Purpose;
+use head_limits::Purpose;
 use refusal::Rule;
 use refusal::Verdict;
 use text::Manner;

@@ -13,8 +13,8 @@ use lib.Ieee.{Float, fin}
 use Rattle.refusal.specs.declared.Rule.the-variants.{NoNumber, ValueCount}
 use Rattle.refusal.specs.declared.Part.the-variants.{File}
 use Rattle.refusal.specs.Table.{refusal}
-use Rattle.decimal.specs.declared.NumberAnswer.{NumberAnswer}
-use Rattle.decimal.specs.declared.NumberAnswer.the-variants as number
+use Rattle.decimal_parts.specs.declared.NumberAnswer.{NumberAnswer}
+use Rattle.decimal_parts.specs.declared.NumberAnswer.the-variants as number
 use Rattle.double.specs.declared.DoubleAnswer.{DoubleAnswer}
 use Rattle.double.specs.declared.DoubleAnswer.the-variants as double
 use Rattle.location.specs.declared.Coordinate.{Coordinate}
@@ -25,7 +25,7 @@ use Rattle.location.specs.declared.LocationAnswer.{LocationAnswer}
 use Rattle.location.specs.declared.LocationAnswer.the-variants.{Is, Refused}
 use Rattle.chars.specs.Chars.{blank, solid}
 use Rattle.chars.specs.Runs.{run, Stops, run-stops}
-use Rattle.decimal.specs.Run.{front, behind}
+use Rattle.front_bytes.specs.Run.{front, behind}
 use Rattle.decimal.specs.Number.{numberIn}
 use Rattle.double.specs.Double.{doubleOf}
 use Rattle.location.specs.Values.{Value, valuesFrom, valuesOf, blanks-passed, value-first, values-none}

@@ -7,8 +7,8 @@ use mathlib.Core.List.{List, [], _∷_, _++_}
 use Prim.Native.Nat.{ℕ}
 use native.Mathlib.Omega.{arith}
 use lib.Ieee.{Float}
-use Rattle.decimal.specs.declared.NumberAnswer.{NumberAnswer}
-use Rattle.decimal.specs.declared.NumberAnswer.the-variants as number
+use Rattle.decimal_parts.specs.declared.NumberAnswer.{NumberAnswer}
+use Rattle.decimal_parts.specs.declared.NumberAnswer.the-variants as number
 use Rattle.double.specs.declared.DoubleAnswer.{DoubleAnswer}
 use Rattle.double.specs.declared.DoubleAnswer.the-variants as double
 use Rattle.location.specs.declared.Coordinate.{Coordinate}
@@ -18,7 +18,7 @@ use Rattle.location.specs.declared.Coordinates.{Coordinates}
 use Rattle.location.specs.declared.LocationAnswer.{LocationAnswer}
 use Rattle.location.specs.declared.LocationAnswer.the-variants.{Is}
 use Rattle.chars.specs.Chars.{blank}
-use Rattle.decimal.specs.Run.{All, all-append, all-among, all-weaker}
+use Rattle.front_bytes.specs.Run.{All, all-append, all-among, all-weaker}
 use Rattle.decimal.specs.Number.{numberIn}
 use Rattle.decimal.specs.Agreed.{is-number}
 use Rattle.decimal.specs.Marks.{mark, written-marks, comma}

@@ -13,7 +13,7 @@ use borrow.Author.Tests.{not-true}
 use Rattle.refusal.specs.Rows.{pick}
 use Rattle.chars.specs.Chars.{blank, solid}
 use Rattle.chars.specs.Runs.{run, Stops, run-stops}
-use Rattle.decimal.specs.Run.{front, behind, All, run-yes, parts, front-length, front-all, run-length, behind-all}
+use Rattle.front_bytes.specs.Run.{front, behind, All, run-yes, parts, front-length, front-all, run-length, behind-all}
 
 -- a value: where it starts, and its bytes
 abbrev pub Value : Type 0

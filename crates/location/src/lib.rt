@@ -3,8 +3,8 @@
 // `double`, `decimal`, `chars`, `refusal`.
 // The rules in words: docs/FORMAT.md, "Numbers in values".
 use chars::Kind;
-use decimal::Decimal;
-use decimal::NumberAnswer;
+use decimal_parts::Decimal;
+use decimal_parts::NumberAnswer;
 use double::DoubleAnswer;
 use refusal::Part;
 use refusal::Refusal;
@@ -152,7 +152,7 @@ fn over(kind: Kind, text: &[u8], i: usize) -> usize
     requires { ⌜ i ≤ length (now text) ⌝ }
     ensures { λ r. ⌜ (r ≡ over (isOf kind) (now (text .entry)) i) × (i ≤ r) × (r ≤ length (now (text .entry))) ⌝ }
 {
-    i + chars::run(kind, decimal::behind(text, i))
+    i + chars::run(kind, front_bytes::behind(text, i))
 }
 
 // The location that a text is (document 01, "Numbers in values"): how many values there are is judged before any of

@@ -16,8 +16,8 @@ use Rattle.refusal.specs.declared.Rule.the-variants.{NoNumber, Digits}
 use Rattle.refusal.specs.declared.Written.{Written}
 use Rattle.refusal.specs.Writing.{refuse, onWritten}
 use Rattle.digits.specs.Digits.{digits, digits-few, digits-some, digits-below}
-use Rattle.decimal.specs.declared.Decimal.{Decimal}
-use Rattle.decimal.specs.Grammar.{Parts, Short}
+use Rattle.decimal_parts.specs.declared.Decimal.{Decimal}
+use Rattle.decimal_parts.specs.Grammar.{Parts, Short}
 use Rattle.digits.specs.LastDigits.{lastDigits, last-length}
 use Rattle.numeral_text.specs.NumeralText.{unlessZero, partsWith, signText, pointText, powerText, spelling}
 use Rattle.numeral_text.specs.Stored.{not-zero, text-length}

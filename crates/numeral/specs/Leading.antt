@@ -18,8 +18,8 @@ use Rattle.chars.specs.Runs.{all}
 use Rattle.digits.specs.Value.{worth, worth-digit, worth-of, value, value-le}
 use Rattle.digits.specs.Digits.{onto, digits, digits-are, digits-few, digits-first, digits-below, digits-some}
 use Rattle.digits.specs.LastDigits.{lastDigits, all-last}
-use Rattle.decimal.specs.Run.{All}
-use Rattle.decimal.specs.Grammar.{placed}
+use Rattle.front_bytes.specs.Run.{All}
+use Rattle.decimal_parts.specs.Grammar.{placed}
 use Rattle.decimal.specs.Meaning.{value-placed, placed-is}
 
 digit-of : (d : ℕ) → d < 10 → digit (48 + d) ≡ true

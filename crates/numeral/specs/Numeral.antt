@@ -14,8 +14,8 @@ use Rattle.refusal.specs.declared.Rule.the-variants.{NoNumber, Digits}
 use Rattle.refusal.specs.declared.Written.{Written}
 use Rattle.refusal.specs.Rows.{Rows, first}
 use Rattle.refusal.specs.Writing.{refuse, onWritten}
-use Rattle.decimal.specs.declared.Decimal.{Decimal}
-use Rattle.decimal.specs.Grammar.{Parts}
+use Rattle.decimal_parts.specs.declared.Decimal.{Decimal}
+use Rattle.decimal_parts.specs.Grammar.{Parts}
 use Rattle.numeral_text.specs.NumeralText.{partsWith, spelling}
 use Rattle.numeral_room.specs.Fitted.{fitted}
 

@@ -23,11 +23,12 @@ use Rattle.refusal.specs.Writing.{refuse}
 use Rattle.chars.specs.Chars.{digit}
 use Rattle.digits.specs.Value.{value}
 use Rattle.digits.specs.Digits.{digits, digits-mean, digits-first, digits-some}
-use Rattle.decimal.specs.declared.Decimal.{Decimal}
-use Rattle.decimal.specs.Run.{All}
-use Rattle.decimal.specs.Grammar.{Parts, Sign, Sign.dash, Sign.nothing, Digits, Fraction, Fraction.no-point, Fraction.point}
-use Rattle.decimal.specs.Grammar.{Power, Power.no-power, Power.power, Writes, Short}
-use Rattle.decimal.specs.Number.{signed, powerOf, decimalOf, partsAre}
+use Rattle.decimal_parts.specs.declared.Decimal.{Decimal}
+use Rattle.front_bytes.specs.Run.{All}
+use Rattle.decimal_parts.specs.Grammar.{Parts, Sign, Sign.dash, Sign.nothing, Digits, Fraction, Fraction.no-point, Fraction.point}
+use Rattle.decimal_parts.specs.Grammar.{Power, Power.no-power, Power.power, Writes, Short}
+use Rattle.decimal_power.specs.Power.{signed, powerOf}
+use Rattle.decimal_parts.specs.Answer.{decimalOf, partsAre}
 use Rattle.digits.specs.LastDigits.{lastDigits, last-length}
 use Rattle.numeral.specs.Leading.{last-digits, last-mean, last-value, before-value, Leading, leading-least}
 use Rattle.numeral.specs.Leading.{each-digit, digits-leading, digits-value}

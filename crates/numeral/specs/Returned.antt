@@ -20,10 +20,11 @@ use Rattle.refusal.specs.Rows.{Clear}
 use Rattle.refusal.specs.Writing.{refuse}
 use Rattle.digits.specs.Value.{value, value-le, two-digits}
 use Rattle.digits.specs.Digits.{onto, digits, digits-few}
-use Rattle.decimal.specs.declared.Decimal.{Decimal}
-use Rattle.decimal.specs.declared.NumberAnswer.the-variants.{Is}
-use Rattle.decimal.specs.Grammar.{Parts, Writes, Short}
-use Rattle.decimal.specs.Number.{decimalOf, numberIn}
+use Rattle.decimal_parts.specs.declared.Decimal.{Decimal}
+use Rattle.decimal_parts.specs.declared.NumberAnswer.the-variants.{Is}
+use Rattle.decimal_parts.specs.Grammar.{Parts, Writes, Short}
+use Rattle.decimal_parts.specs.Answer.{decimalOf}
+use Rattle.decimal.specs.Number.{numberIn}
 use Rattle.decimal.specs.Agreed.{is-number}
 use Rattle.digits.specs.LastDigits.{lastDigits, last-length}
 use Rattle.numeral_text.specs.NumeralText.{unlessZero, signText, pointText, powerText, spelling}

@@ -3,7 +3,7 @@
 // what the reader gave is written and reads back; Leading and Answers have the laws. Stands on `numeral_room`,
 // `numeral_text`, `decimal`, `digits`, `word`.
 // The rules in words: docs/FORMAT.md, "Numbers in values".
-use decimal::Decimal;
+use decimal_parts::Decimal;
 use numeral_text::Raised;
 use refusal::Rule;
 use refusal::Written;

@@ -5,7 +5,7 @@ use mathlib.Core.Bool.{Bool, true, false}
 use mathlib.Core.List.{List, [], _∷_, _++_}
 use Prim.Native.Nat.{ℕ, zero, suc, _^_, _/_}
 use Rattle.digits.specs.Digits.{digits}
-use Rattle.decimal.specs.Grammar.{Parts}
+use Rattle.decimal_parts.specs.Grammar.{Parts}
 use Rattle.digits.specs.LastDigits.{lastDigits}
 
 -- ---- the parts of the text

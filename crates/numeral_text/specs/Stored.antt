@@ -9,7 +9,7 @@ use lib.ListN.{length, set, length-set, length-append}
 use Rattle.word.specs.Put.{put}
 use Rattle.word.specs.Wrote.{Room, Wrote, joined, room-back}
 use Rattle.digits.specs.Digits.{digits, digits-some}
-use Rattle.decimal.specs.Grammar.{Parts}
+use Rattle.decimal_parts.specs.Grammar.{Parts}
 use Rattle.digits.specs.LastDigits.{lastDigits, before-turn}
 use Rattle.numeral_text.specs.NumeralText.{unlessZero, signText, pointText, powerText, spelling}
 

@@ -12,9 +12,10 @@ use Rattle.refusal.specs.declared.Part.the-variants.{File}
 use Rattle.refusal.specs.declared.Verdict.{Verdict}
 use Rattle.refusal.specs.Verdicts.{asked}
 use Rattle.refusal.specs.FirstRow.{row, firstOf}
-use Rattle.head.specs.declared.Purpose.the-variants.{Read}
-use Rattle.head.specs.declared.FileBlock.{FileBlock}
-use Rattle.head.specs.Head.{highFirst, roomOf, countOf, headOf}
+use Rattle.head_limits.specs.declared.Purpose.the-variants.{Read}
+use Rattle.head_words.specs.declared.FileBlock.{FileBlock}
+use Rattle.head_words.specs.HeadWords.{highFirst, roomOf, countOf}
+use Rattle.head.specs.Head.{headOf}
 use Rattle.block.specs.declared.TraceAnswer.{TraceAnswer}
 use Rattle.block.specs.declared.TraceAnswer.the-variants as trace
 use Rattle.block.specs.Block.{pointerOf, pointerRow, blockOf, traceBlockOf}

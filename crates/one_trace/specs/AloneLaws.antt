@@ -18,10 +18,11 @@ use Rattle.refusal.specs.declared.Refusal.{Refusal}
 use Rattle.refusal.specs.declared.Rule.the-variants.{Length, NoTrace}
 use Rattle.refusal.specs.declared.Verdict.{Verdict}
 use Rattle.refusal.specs.declared.Verdict.the-variants.{Accepted, Refused}
-use Rattle.head.specs.declared.Purpose.the-variants.{Read}
-use Rattle.head.specs.declared.FileBlock.{FileBlock}
+use Rattle.head_limits.specs.declared.Purpose.the-variants.{Read}
+use Rattle.head_words.specs.declared.FileBlock.{FileBlock}
 use Rattle.head.specs.declared.FileAnswer.the-variants as file
-use Rattle.head.specs.Head.{maximum, highFirst, roomOf, countOf, headOf, fileBlockOf, headAnswer}
+use Rattle.head_words.specs.HeadWords.{highFirst, roomOf, countOf, fileBlockOf}
+use Rattle.head.specs.Head.{maximum, headOf, headAnswer}
 use Rattle.head.specs.HeadLaws.{Headed, headed}
 use Rattle.block.specs.declared.TraceBlock.{TraceBlock}
 use Rattle.block.specs.declared.TraceAnswer.{TraceAnswer}

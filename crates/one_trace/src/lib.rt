@@ -5,8 +5,8 @@
 // The rules in words: docs/FORMAT.md, "One trace, quickly".
 use block::TraceAnswer;
 use head::FileAnswer;
-use head::FileBlock;
-use head::Purpose;
+use head_limits::Purpose;
+use head_words::FileBlock;
 use reader::Whose;
 use refusal::Rule;
 use refusal::Verdict;

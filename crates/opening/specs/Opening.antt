@@ -12,12 +12,12 @@ use Rattle.refusal.specs.Table.{refusal}
 use Rattle.refusal.specs.Rows.{pick}
 use Rattle.refusal.specs.Verdicts.{asked}
 use Rattle.text.specs.declared.Manner.the-variants.{Strict}
-use Rattle.head.specs.declared.Purpose.the-variants.{Grow}
+use Rattle.head_limits.specs.declared.Purpose.the-variants.{Grow}
 use Rattle.sheet.specs.declared.Measured.{Measured}
 use Rattle.sheet.specs.declared.Measured.the-variants as measured
 use Rattle.sheet.specs.Area.{measuredOf}
 use Rattle.sheet_channel.specs.SheetChannel.{badSheet}
-use Rattle.head.specs.Head.{highFirst, roomOf, countOf}
+use Rattle.head_words.specs.HeadWords.{highFirst, roomOf, countOf}
 use Rattle.terminators.specs.Terminators.{stringEnd, lineEnd}
 use Rattle.image.specs.Image.{withChannel, checkOf}
 

@@ -29,10 +29,11 @@ use Rattle.sheet.specs.declared.Measured.{Measured}
 use Rattle.sheet.specs.declared.Measured.the-variants as measured
 use Rattle.sheet.specs.Area.{measuredOf}
 use Rattle.sheet_channel.specs.SheetChannel.{badSheet}
-use Rattle.head.specs.declared.Purpose.{Purpose}
-use Rattle.head.specs.declared.Purpose.the-variants.{Grow}
-use Rattle.head.specs.declared.FileBlock.{FileBlock}
-use Rattle.head.specs.Head.{maximum, highFirst, roomOf, countOf, refused, fileBlockOf}
+use Rattle.head_limits.specs.declared.Purpose.{Purpose}
+use Rattle.head_limits.specs.declared.Purpose.the-variants.{Grow}
+use Rattle.head_words.specs.declared.FileBlock.{FileBlock}
+use Rattle.head_words.specs.HeadWords.{highFirst, roomOf, countOf, fileBlockOf}
+use Rattle.head.specs.Head.{maximum, refused}
 use Rattle.head.specs.HeadLaws.{Headed}
 use Rattle.terminators.specs.Terminators.{stringEnd, lineEnd, goodTerminator}
 use Rattle.block.specs.Block.{pointerOf, blockSize}

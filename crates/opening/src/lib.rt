@@ -2,7 +2,7 @@
 // 34 and 35). Opening has the definitions, OpeningLaws what each row has shown. Stands on `image`, `lookup`, `sheet`,
 // `sheet_channel`.
 // The rules in words: docs/FORMAT.md, "What we write".
-use head::Purpose;
+use head_limits::Purpose;
 use refusal::Rule;
 use refusal::Verdict;
 use sheet::Measured;
@@ -11,7 +11,7 @@ use text::Manner;
 ghost use mathlib.Core.Path.{_≡_};
 ghost use Prim.Native.Nat.{_<_};
 ghost use lib.Dec.{eqb};
-ghost use Rattle.head.specs.Head.{highFirst, countOf};
+ghost use Rattle.head_words.specs.HeadWords.{highFirst, countOf};
 ghost use Rattle.sheet.specs.Area.{measuredOf};
 ghost use Rattle.terminators.specs.Terminators.{stringEnd, lineEnd};
 ghost use Rattle.image.specs.Image.{withChannel, imageOf};
@@ -95,7 +95,7 @@ pub fn opened(buffer: &[u8], n: usize, sheet: &[u8]) -> Measured
         return Measured::Refused(r);
     }
     let f = &buffer[..n];
-    let b = head::file_block(f);
+    let b = head_words::file_block(f);
     if b.m < 4 * b.n + 4 {
         return Measured::Refused(refusal::of_file(Rule::NoSlot, 0));
     }

@@ -22,7 +22,7 @@ use Rattle.refusal.specs.declared.Verdict.the-variants.{Accepted, Refused}
 use Rattle.refusal.specs.Verdicts.{asked}
 use Rattle.strings.specs.declared.Place.{Place}
 use Rattle.strings.specs.Strings.{PlaceIn}
-use Rattle.head.specs.Head.{highFirst, countOf}
+use Rattle.head_words.specs.HeadWords.{highFirst, countOf}
 use Rattle.terminators.specs.Terminators.{stringEnd, lineEnd}
 use Rattle.block.specs.declared.TraceBlock.{TraceBlock}
 use Rattle.block.specs.declared.TraceAnswer.the-variants as trace

@@ -30,7 +30,7 @@ pub fn between(f: &[u8], a: usize, e: usize, k: u16, ask: Ask, key: &[u8]) -> Wa
         f,
         a,
         e,
-        head::is_high(f),
+        head_words::is_high(f),
         terminators::string_end(f),
         terminators::line_end(f),
         Part::Trace(k),

@@ -12,7 +12,7 @@ use Rattle.refusal.specs.declared.Part.the-variants.{Trace}
 use Rattle.text.specs.declared.Manner.the-variants.{Strict}
 use Rattle.strings.specs.declared.Place.{Place}
 use Rattle.places.specs.Numbers.{numbersOf}
-use Rattle.head.specs.Head.{highFirst}
+use Rattle.head_words.specs.HeadWords.{highFirst}
 use Rattle.terminators.specs.Terminators.{stringEnd, lineEnd}
 use Rattle.block.specs.declared.TraceBlock.{TraceBlock}
 use Rattle.block.specs.declared.TraceAnswer.the-variants as trace

@@ -2,7 +2,7 @@
 // rows 20 to 23 of the value as of the full questions; an absent keyword has the empty value. Stands on `quick`,
 // `values`.
 // The rules in words: docs/FORMAT.md, "One trace, quickly".
-use decimal::NumberAnswer;
+use decimal_parts::NumberAnswer;
 use double::DoubleAnswer;
 use location::LocationAnswer;
 ghost use mathlib.Core.Path.{_≡_};

@@ -14,7 +14,8 @@ use Rattle.refusal.specs.Rows.{ruled-clear}
 use Rattle.refusal.specs.declared.Refusal.{Refusal}
 use Rattle.refusal.specs.declared.Verdict.{Verdict}
 use Rattle.refusal.specs.declared.Verdict.the-variants.{Accepted, Refused}
-use Rattle.head.specs.Head.{highFirst, countOf, refused}
+use Rattle.head_words.specs.HeadWords.{highFirst, countOf}
+use Rattle.head.specs.Head.{refused}
 use Rattle.block.specs.Block.{dataAt, endAt, traceBlockOf}
 use Rattle.image.specs.Image.{checkOf}
 use Rattle.reader.specs.declared.Whose.{Whose}
@@ -26,7 +27,7 @@ use Rattle.word.specs.Part.{part}
 use Rattle.sample.specs.Run.{valuesFrom}
 use Rattle.decode.specs.Sample.{sampleOf, patternOf, classOf}
 use Rattle.image.specs.Keeps.{traceAt}
-use Rattle.head.specs.declared.Purpose.the-variants.{Read}
+use Rattle.head_limits.specs.declared.Purpose.the-variants.{Read}
 use Rattle.reader.specs.Questions.{noTrace, onTrace, whoseOf, codeAt, countAt, ofIntegers, ofBits, blockAt}
 use Rattle.reader.specs.Questions.{dataOf, samplesIn, patternsIn, classesIn, integersRows, bitsRows}
 use Rattle.reader.specs.Questions.{integersVerdict, bitsVerdict, integersAnswer, bitsAnswer, samplesOf}

@@ -15,12 +15,13 @@ use Rattle.refusal.specs.declared.Verdict.the-variants.{Accepted, Refused}
 use Rattle.strings.specs.declared.Found.{Found}
 use Rattle.text.specs.declared.Manner.{Manner}
 use Rattle.strings.specs.Strings.{placesOf, PlaceIn, nthOf, findOf}
-use Rattle.head.specs.declared.Purpose.the-variants.{Read}
+use Rattle.head_limits.specs.declared.Purpose.the-variants.{Read}
 use Rattle.refusal.specs.Verdicts.{asked}
 use Rattle.refusal.specs.Rows.{pick}
 use Rattle.sample.specs.Needed.{needed}
 use Rattle.block.specs.declared.TraceBlock.{TraceBlock}
-use Rattle.head.specs.Head.{maximum, highFirst, roomOf}
+use Rattle.head_words.specs.HeadWords.{highFirst, roomOf}
+use Rattle.head.specs.Head.{maximum}
 use Rattle.terminators.specs.Terminators.{stringEnd}
 use Rattle.block.specs.Block.{pointerOf, blockSize}
 use Rattle.image.specs.Image.{checkOf}

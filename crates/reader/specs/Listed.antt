@@ -21,13 +21,13 @@ use Rattle.strings.specs.declared.Found.the-variants.{Nothing, Is}
 use Rattle.strings.specs.Strings.{placesOf, keyIn, valueIn, nthOf, findOf, found, keyFound, valueFound}
 use Rattle.strings.specs.Spelled.{Str, Spells, nthStr, valueOfKey, hasKey}
 use Rattle.strings.specs.Paper.{spelled-once, spelled-places, spelled-count, spelled-nth, spelled-value, find-first}
-use Rattle.head.specs.Head.{highFirst, roomOf, countOf}
+use Rattle.head_words.specs.HeadWords.{highFirst, roomOf, countOf}
 use Rattle.terminators.specs.Terminators.{stringEnd, lineEnd}
 use Rattle.block.specs.Block.{dataAt}
 use Rattle.image.specs.Image.{checkOf}
 use Rattle.image.specs.Keeps.{traceAt, stringsEnd, Strings}
 use Rattle.image.specs.Accepted.{accepted-keeps}
-use Rattle.decimal.specs.declared.NumberAnswer.the-variants as number
+use Rattle.decimal_parts.specs.declared.NumberAnswer.the-variants as number
 use Rattle.double.specs.declared.DoubleAnswer.the-variants as double
 use Rattle.location.specs.declared.LocationAnswer.the-variants as location
 use Rattle.decimal.specs.Number.{numberIn}
@@ -42,7 +42,7 @@ use Rattle.reader.specs.declared.StringAnswer.the-variants as string
 use Rattle.reader.specs.declared.KeywordAnswer.the-variants as keyword
 use Rattle.text.specs.declared.Manner.{Manner}
 use Rattle.text.specs.Manner.{named}
-use Rattle.head.specs.declared.Purpose.the-variants.{Read}
+use Rattle.head_limits.specs.declared.Purpose.the-variants.{Read}
 use Rattle.reader.specs.Questions.{whoseOf, areaNamed, areaAsked, there, yesOrNo, valueThere, onString}
 use Rattle.reader.specs.Questions.{countAnswer, nthAnswer, findAnswer, keywordAnswer, valueAnswer, numberAnswer}
 use Rattle.reader.specs.Questions.{doubleAnswer, locationAnswer}

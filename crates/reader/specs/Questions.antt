@@ -29,8 +29,8 @@ use Rattle.places.specs.Numbers.{numbersOf}
 use Rattle.decode.specs.Sample.{sampleOf, patternOf, classOf}
 use Rattle.sample.specs.Needed.{byCode}
 use Rattle.sample.specs.Run.{valuesFrom}
-use Rattle.decimal.specs.declared.NumberAnswer.{NumberAnswer}
-use Rattle.decimal.specs.declared.NumberAnswer.the-variants as number
+use Rattle.decimal_parts.specs.declared.NumberAnswer.{NumberAnswer}
+use Rattle.decimal_parts.specs.declared.NumberAnswer.the-variants as number
 use Rattle.double.specs.declared.DoubleAnswer.{DoubleAnswer}
 use Rattle.double.specs.declared.DoubleAnswer.the-variants as double
 use Rattle.location.specs.declared.LocationAnswer.{LocationAnswer}
@@ -38,8 +38,9 @@ use Rattle.location.specs.declared.LocationAnswer.the-variants as location
 use Rattle.decimal.specs.Number.{numberIn}
 use Rattle.double.specs.Double.{doubleOf}
 use Rattle.location.specs.Location.{locationOf}
-use Rattle.head.specs.declared.Purpose.the-variants.{Read}
-use Rattle.head.specs.Head.{highFirst, roomOf, countOf, refused, fileBlockOf}
+use Rattle.head_limits.specs.declared.Purpose.the-variants.{Read}
+use Rattle.head_words.specs.HeadWords.{highFirst, roomOf, countOf, fileBlockOf}
+use Rattle.head.specs.Head.{refused}
 use Rattle.terminators.specs.Terminators.{stringEnd}
 use Rattle.block.specs.declared.TraceBlock.{TraceBlock}
 use Rattle.block.specs.Block.{sampleCount, formatCode, dataAt, traceBlockOf}

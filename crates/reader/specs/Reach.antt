@@ -25,7 +25,8 @@ use Rattle.strings.specs.declared.Found.the-variants.{Nothing, Is}
 use Rattle.strings.specs.Strings.{PlaceIn, nthOf, findOf}
 use Rattle.lookup.specs.Lists.{AllIn, area-in, nth-in, find-in}
 use Rattle.block.specs.declared.TraceBlock.{TraceBlock}
-use Rattle.head.specs.Head.{maximum, highFirst, roomOf, countOf, refused}
+use Rattle.head_words.specs.HeadWords.{highFirst, roomOf, countOf}
+use Rattle.head.specs.Head.{maximum, refused}
 use Rattle.terminators.specs.Terminators.{stringEnd, goodTerminator}
 use Rattle.block.specs.Block.{dataAt, traceBlockOf}
 use Rattle.image.specs.Image.{imageOf, badLength, checkOf}
@@ -43,7 +44,7 @@ use Rattle.block.specs.declared.TraceAnswer.the-variants as trace
 use Rattle.reader.specs.declared.StringAnswer.{StringAnswer}
 use Rattle.reader.specs.declared.StringAnswer.the-variants as string
 use Rattle.text.specs.declared.Manner.{Manner}
-use Rattle.head.specs.declared.Purpose.the-variants.{Read}
+use Rattle.head_limits.specs.declared.Purpose.the-variants.{Read}
 use Rattle.reader.specs.Questions.{noTrace, whoseOf, areaNamed, areaAsked, onArea, onTrace, placesIn, there}
 use Rattle.reader.specs.Questions.{nthAnswer, findAnswer, traceAnswer, valueThere, valueAnswer, spanThere}
 use Rattle.reader.specs.Questions.{spanAnswer, onString}

@@ -5,7 +5,7 @@
 // The rules in words: docs/FORMAT.md, "Strings".
 use block::TraceAnswer;
 use head::FileAnswer;
-use head::Purpose;
+use head_limits::Purpose;
 use refusal::Refusal;
 use refusal::Rule;
 use refusal::Verdict;
@@ -16,8 +16,8 @@ ghost use mathlib.Core.Path.{_≡_};
 ghost use Prim.Native.Nat.{_≤_};
 ghost use lib.ListN.{length};
 ghost use Rattle.refusal.specs.declared.Verdict.the-variants.{Accepted};
-ghost use Rattle.head.specs.declared.Purpose.the-variants.{Read};
-ghost use Rattle.head.specs.Head.{countOf};
+ghost use Rattle.head_limits.specs.declared.Purpose.the-variants.{Read};
+ghost use Rattle.head_words.specs.HeadWords.{countOf};
 ghost use Rattle.image.specs.Image.{imageOf};
 ghost use Rattle.reader.specs.Questions.{noTrace, areaAsked, fileAnswer, traceAnswer, countAnswer, nthAnswer};
 ghost use Rattle.reader.specs.Questions.{findAnswer, keywordAnswer, whoseOf};
@@ -78,7 +78,7 @@ fn whose_in(f: &[u8], part: i32) -> Whose
     requires { ⌜ 32 ≤ length (now f) ⌝ }
     ensures { λ r. ⌜ r ≡ whoseOf part (countOf (now (f .entry))) ⌝ }
 {
-    let n = word::word2(f, head::is_high(f), 6);
+    let n = word::word2(f, head_words::is_high(f), 6);
     named(part, n as u16)
 }
 
@@ -94,7 +94,7 @@ fn area_of(f: &[u8], part: i32, how: Manner) -> Area
     requires { ⌜ (32 ≤ length (now f)) × (imageOf how Read (now f) ≡ Accepted) ⌝ }
     ensures { λ r. ⌜ r ≡ areaAsked (now (f .entry)) part ⌝ }
 {
-    let high = head::is_high(f);
+    let high = head_words::is_high(f);
     let w = whose_in(f, part);
     match w {
         Whose::Nobody => Area::Outside,
@@ -136,7 +136,7 @@ pub fn file_block(buffer: &[u8], n: usize, how: Manner) -> FileAnswer
     if let Verdict::Refused(r) = v {
         return FileAnswer::Refused(r);
     }
-    FileAnswer::Is(head::file_block(&buffer[..n]))
+    FileAnswer::Is(head_words::file_block(&buffer[..n]))
 }
 
 // The trace block of a trace; -1, the file, is none.
@@ -150,7 +150,7 @@ pub fn trace_block(buffer: &[u8], n: usize, trace: i32, how: Manner) -> TraceAns
     let f = &buffer[..n];
     let w = whose_in(f, trace);
     match w {
-        Whose::One(k) => TraceAnswer::Is(block::trace_block(f, head::is_high(f), k)),
+        Whose::One(k) => TraceAnswer::Is(block::trace_block(f, head_words::is_high(f), k)),
         Whose::Whole => TraceAnswer::Refused(no_trace()),
         Whose::Nobody => TraceAnswer::Refused(no_trace()),
     }
@@ -171,7 +171,7 @@ pub fn string_count(buffer: &[u8], n: usize, part: i32, how: Manner) -> CountAns
                 f,
                 a,
                 e,
-                head::is_high(f),
+                head_words::is_high(f),
                 terminators::string_end(f),
                 how,
             ))
@@ -202,7 +202,7 @@ pub fn string(buffer: &[u8], n: usize, part: i32, i: usize, how: Manner) -> Stri
                 f,
                 a,
                 e,
-                head::is_high(f),
+                head_words::is_high(f),
                 terminators::string_end(f),
                 i,
                 how,
@@ -224,7 +224,7 @@ pub fn find(buffer: &[u8], n: usize, part: i32, key: &[u8], how: Manner) -> Stri
                 f,
                 a,
                 e,
-                head::is_high(f),
+                head_words::is_high(f),
                 terminators::string_end(f),
                 key,
                 how,

@@ -8,7 +8,7 @@ use native.Mathlib.Omega.{arith}
 use lib.IntN.{ℤ}
 use lib.ListN.{length}
 use borrow.Author.Tests.{eq-eqb, ne-eqb, le-leb}
-use Rattle.head.specs.declared.Purpose.the-variants.{Read}
+use Rattle.head_limits.specs.declared.Purpose.the-variants.{Read}
 use Rattle.refusal.specs.Verdicts.{asked}
 use Rattle.word.specs.Part.{length-part}
 use Rattle.refusal.specs.declared.Rule.the-variants.{RowLength, CodeKind}
@@ -17,7 +17,8 @@ use Rattle.refusal.specs.declared.Verdict.the-variants.{Accepted}
 use Rattle.sample.specs.Needed.{needed}
 use Rattle.decode.specs.Sample.{integersAsked, integersThere, integersRead, bitsThere, patternsRead, classesRead}
 use Rattle.block.specs.declared.TraceBlock.{TraceBlock}
-use Rattle.head.specs.Head.{highFirst, refused}
+use Rattle.head_words.specs.HeadWords.{highFirst}
+use Rattle.head.specs.Head.{refused}
 use Rattle.reader.specs.Questions.{ofIntegers, ofBits, dataIn}
 use Rattle.reader.specs.Questions.{integersVerdict, bitsVerdict, samplesIn, patternsIn}
 use Rattle.reader.specs.Questions.{classesIn, kept}

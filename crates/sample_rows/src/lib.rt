@@ -63,7 +63,7 @@ pub fn integers(f: &[u8], t: TraceBlock, row: &mut [i32]) -> Verdict
     let p = t.p;
     let b = t.b;
     let d = t.d;
-    decode::read_integers(code, &f[p + b..p + b + d], head::is_high(f), row);
+    decode::read_integers(code, &f[p + b..p + b + d], head_words::is_high(f), row);
     Verdict::Accepted // the row holds all S samples
 }
 
@@ -91,6 +91,12 @@ pub fn bits(f: &[u8], t: TraceBlock, row: &mut [u64], classes: &mut [u8]) -> Ver
     let p = t.p;
     let b = t.b;
     let d = t.d;
-    patterns::read_bits(code, &f[p + b..p + b + d], head::is_high(f), row, classes);
+    patterns::read_bits(
+        code,
+        &f[p + b..p + b + d],
+        head_words::is_high(f),
+        row,
+        classes,
+    );
     Verdict::Accepted
 }

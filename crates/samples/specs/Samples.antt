@@ -6,14 +6,15 @@ use Prim.Native.Nat.{ℕ, _-_}
 use native.Mathlib.Omega.{arith}
 use lib.IntN.{ℤ}
 use lib.ListN.{length, take}
-use Rattle.head.specs.declared.Purpose.the-variants.{Read}
+use Rattle.head_limits.specs.declared.Purpose.the-variants.{Read}
 use Rattle.text.specs.declared.Manner.{Manner}
 use Rattle.refusal.specs.Verdicts.{asked}
 use Rattle.refusal.specs.declared.Refusal.{Refusal}
 use Rattle.refusal.specs.declared.Verdict.{Verdict}
 use Rattle.refusal.specs.declared.Verdict.the-variants.{Accepted, Refused}
 use Rattle.block.specs.declared.TraceBlock.{TraceBlock}
-use Rattle.head.specs.Head.{highFirst, countOf, refused}
+use Rattle.head_words.specs.HeadWords.{highFirst, countOf}
+use Rattle.head.specs.Head.{refused}
 use Rattle.block.specs.Block.{traceBlockOf}
 use Rattle.image.specs.Image.{checkOf}
 use Rattle.reader.specs.declared.Whose.{Whose}

@@ -27,7 +27,7 @@ use face_values::Seg2Value;
 ghost use mathlib.Core.Path.{_≡_};
 ghost use lib.ListN.{length};
 ghost use Rattle.text.specs.declared.Manner.the-variants.{Strict, Lenient};
-ghost use Rattle.head.specs.declared.Purpose.the-variants.{Read};
+ghost use Rattle.head_limits.specs.declared.Purpose.the-variants.{Read};
 ghost use Rattle.decimal.specs.Number.{numberIn};
 ghost use Rattle.numeral.specs.Numeral.{numeralAnswer, numeralLeft};
 ghost use Rattle.image.specs.Image.{checkOf};

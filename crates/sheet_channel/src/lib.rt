@@ -24,7 +24,7 @@ fn is_channel(l: &[u8]) -> bool
 fn value_of(l: &[u8]) -> &[u8]
     ensures { λ r. ⌜ now r ≡ lineValue (now (l .entry)) ⌝ }
 {
-    decimal::behind(l, text::key_run(l, Manner::Strict) + 1)
+    front_bytes::behind(l, text::key_run(l, Manner::Strict) + 1)
 }
 
 // The first line CHANNEL_NUMBER of a sheet, without its end, or no byte where there is none. Rows 25 and 26 are not

@@ -39,8 +39,9 @@ use Rattle.until.specs.declared.Turn.the-variants.{Here, Gone, On}
 use Rattle.until.specs.declared.Walked.{Walked}
 use Rattle.until.specs.declared.Walked.the-variants as walked
 use Rattle.until.specs.Until.{passed, byKey, byIndex, toEnd, onTurn, onStep, walkFrom, walkOf}
-use Rattle.head.specs.declared.Purpose.the-variants.{Read}
-use Rattle.head.specs.Head.{highFirst, roomOf, countOf, headOf}
+use Rattle.head_limits.specs.declared.Purpose.the-variants.{Read}
+use Rattle.head_words.specs.HeadWords.{highFirst, roomOf, countOf}
+use Rattle.head.specs.Head.{headOf}
 use Rattle.head.specs.HeadLaws.{head-accepts}
 use Rattle.terminators.specs.Terminators.{stringEnd, lineEnd}
 use Rattle.block.specs.Block.{dataAt, dataSize, endAt, pointerRow, blockOf}
@@ -61,7 +62,7 @@ use Rattle.reader.specs.Questions.{findAnswer, keywordAnswer, valueAnswer, span
 use Rattle.reader.specs.Questions.{integersVerdict, bitsVerdict, integersAnswer, integersLeft, bitsAnswer, patternsLeft, classesLeft}
 use Rattle.reader.specs.Reach.{checked, trace-pointed, trace-blocked}
 use Rattle.decimal.specs.Number.{numberIn}
-use Rattle.decimal.specs.declared.NumberAnswer.the-variants as number
+use Rattle.decimal_parts.specs.declared.NumberAnswer.the-variants as number
 use Rattle.double.specs.Double.{doubleOf}
 use Rattle.double.specs.declared.DoubleAnswer.the-variants as double
 use Rattle.location.specs.Location.{locationOf}

@@ -20,8 +20,9 @@ use Rattle.refusal.specs.Rows.{pick}
 use Rattle.refusal.specs.FirstRow.{row, firstOf}
 use Rattle.text.specs.declared.Manner.the-variants.{Strict}
 use Rattle.strings.specs.Strings.{offset, stepOf}
-use Rattle.head.specs.declared.Purpose.the-variants.{Read}
-use Rattle.head.specs.Head.{highFirst, roomOf, countOf, headOf}
+use Rattle.head_limits.specs.declared.Purpose.the-variants.{Read}
+use Rattle.head_words.specs.HeadWords.{highFirst, roomOf, countOf}
+use Rattle.head.specs.Head.{headOf}
 use Rattle.terminators.specs.Terminators.{stringEnd, lineEnd}
 use Rattle.block.specs.Block.{dataAt, endAt, pointerRow, blockOf}
 use Rattle.block.specs.BlockLaws.{headAt}

@@ -24,7 +24,7 @@ use Rattle.strings.specs.declared.Found.{Found}
 use Rattle.strings.specs.declared.Found.the-variants.{Nothing, Is}
 use Rattle.strings.specs.Strings.{stepOf, stringsFrom, stringsOf, nthOf}
 use Rattle.places.specs.Numbers.{fourOf, numbersOf, numbers-nth}
-use Rattle.head.specs.Head.{highFirst}
+use Rattle.head_words.specs.HeadWords.{highFirst}
 use Rattle.terminators.specs.Terminators.{stringEnd, lineEnd}
 use Rattle.block.specs.Block.{dataAt}
 use Rattle.image.specs.Keeps.{traceAt}

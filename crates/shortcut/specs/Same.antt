@@ -22,8 +22,9 @@ use Rattle.refusal.specs.declared.Rule.the-variants.{Length, NoTrace}
 use Rattle.refusal.specs.declared.Verdict.{Verdict}
 use Rattle.refusal.specs.declared.Verdict.the-variants.{Accepted, Refused}
 use Rattle.strings.specs.declared.Place.{Place}
-use Rattle.head.specs.declared.Purpose.the-variants.{Read}
-use Rattle.head.specs.Head.{highFirst, roomOf, countOf, headOf}
+use Rattle.head_limits.specs.declared.Purpose.the-variants.{Read}
+use Rattle.head_words.specs.HeadWords.{highFirst, roomOf, countOf}
+use Rattle.head.specs.Head.{headOf}
 use Rattle.head.specs.HeadLaws.{Headed, headed, own-order, own-room, own-count, own-good, own-terminator}
 use Rattle.terminators.specs.Terminators.{terminatorAt, stringEnd, lineEnd, goodTerminator}
 use Rattle.block.specs.declared.TraceBlock.{TraceBlock}
@@ -47,7 +48,7 @@ use Rattle.reader.specs.Questions.{isTrace, traceNumber, areaNamed, placesIn, n
 use Rattle.reader.specs.Questions.{blockAt, integersVerdict, bitsVerdict, dataIn, samplesIn, patternsIn, classesIn, samplesOf, patternsOf, classesOf}
 use Rattle.places.specs.Numbers.{numbersOf}
 use Rattle.decimal.specs.Number.{numberIn}
-use Rattle.decimal.specs.declared.NumberAnswer.the-variants as number
+use Rattle.decimal_parts.specs.declared.NumberAnswer.the-variants as number
 use Rattle.double.specs.Double.{doubleOf}
 use Rattle.double.specs.declared.DoubleAnswer.the-variants as double
 use Rattle.location.specs.Location.{locationOf}

@@ -1,13 +1,11 @@
-// Bytes stored in a lent slice, from a place on: whole numbers of 2, 4 and 8 bytes in either order, the bytes of another
-// slice, zeros. `high` says that the high byte comes first. The definitions are those of `word`: Put, Word and Wrote.
-// Stands on `word`.
+// A whole number of 2 bytes in either order, stored in a lent slice at a place. `high` says that the high byte comes
+// first. The definitions are those of `word`: Put and Word. Stands on `word`.
 // The rules in words: docs/FORMAT.md, "The file block".
 ghost use mathlib.Core.Path.{_≡_};
-ghost use Prim.Native.Nat.{_+_, _-_, _≤_};
-ghost use lib.ListN.{length, replicate};
+ghost use Prim.Native.Nat.{_+_, _≤_};
+ghost use lib.ListN.{length};
 ghost use Rattle.word.specs.Put.{put};
 ghost use Rattle.word.specs.Word.{bytesOf};
-ghost use Rattle.word.specs.Wrote.{Room, Wrote};
 
 // The two bytes of a number, stored at a place.
 pub fn put2(buf: &mut [u8], high: bool, at: usize, n: u16)
@@ -23,70 +21,5 @@ pub fn put2(buf: &mut [u8], high: bool, at: usize, n: u16)
     } else {
         buf[at] = lo;
         buf[at1] = hi;
-    }
-}
-
-// The four bytes of a number, stored at a place.
-pub fn put4(buf: &mut [u8], high: bool, at: usize, n: u32)
-    requires { ⌜ at + 4 ≤ length (now buf) ⌝ }
-    ensures { λ _. ⌜ now (buf .exit) ≡ put (now (buf .entry)) at (bytesOf 4 high n) ⌝ }
-{
-    let lo = (n % 65536) as u16;
-    let hi = (n / 65536) as u16;
-    if high {
-        put2(buf, high, at, hi);
-        put2(buf, high, at + 2, lo);
-    } else {
-        put2(buf, high, at, lo);
-        put2(buf, high, at + 2, hi);
-    }
-}
-
-// The eight bytes of a number, stored at a place.
-pub fn put8(buf: &mut [u8], high: bool, at: usize, n: u64)
-    requires { ⌜ at + 8 ≤ length (now buf) ⌝ }
-    ensures { λ _. ⌜ now (buf .exit) ≡ put (now (buf .entry)) at (bytesOf 8 high n) ⌝ }
-{
-    let lo = (n % 4294967296) as u32;
-    let hi = (n / 4294967296) as u32;
-    if high {
-        put4(buf, high, at, hi);
-        put4(buf, high, at + 4, lo);
-    } else {
-        put4(buf, high, at, lo);
-        put4(buf, high, at + 4, hi);
-    }
-}
-
-// The bytes of `src`, stored from a place on.
-pub fn copy(buf: &mut [u8], at: usize, src: &[u8])
-    requires { ⌜ at + length (now src) ≤ length (now buf) ⌝ }
-    ensures { λ _. ⌜ now (buf .exit) ≡ put (now (buf .entry)) at (now (src .entry)) ⌝ }
-{
-    let mut i = 0;
-    while i < src.len() {
-        buf[at + i] = src[i];
-        i += 1;
-    }
-}
-
-// The bytes of a piece, stored from a place on; the next piece begins at the answer.
-pub fn put_bytes(out: &mut [u8], at: usize, s: &[u8]) -> usize
-    requires { ⌜ Room (now out) at (now s) ⌝ }
-    ensures { λ r. ⌜ Wrote (now (out .entry)) at (now (s .entry)) r (now (out .exit)) ⌝ }
-{
-    copy(out, at, s);
-    at + s.len()
-}
-
-// Zeros from place a up to place e: none where e is not past a.
-pub fn zeros(buf: &mut [u8], a: usize, e: usize)
-    requires { ⌜ e ≤ length (now buf) ⌝ }
-    ensures { λ _. ⌜ now (buf .exit) ≡ put (now (buf .entry)) a (replicate (e - a) 0) ⌝ }
-{
-    let mut i = a;
-    while i < e {
-        buf[i] = 0;
-        i += 1;
     }
 }

@@ -17,7 +17,8 @@ use Rattle.refusal.specs.declared.Verdict.the-variants.{Accepted, Refused}
 use Rattle.text.specs.declared.Manner.{Manner}
 use Rattle.strings.specs.Strings.{placesOf}
 use Rattle.places.specs.Numbers.{numbersOf}
-use Rattle.head.specs.Head.{highFirst, refused}
+use Rattle.head_words.specs.HeadWords.{highFirst}
+use Rattle.head.specs.Head.{refused}
 use Rattle.terminators.specs.Terminators.{stringEnd}
 use Rattle.reader.specs.declared.CountAnswer.{CountAnswer}
 use Rattle.reader.specs.declared.CountAnswer.the-variants as count

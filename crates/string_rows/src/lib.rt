@@ -44,7 +44,7 @@ pub fn fill(f: &[u8], a: usize, e: usize, c: usize, how: Manner, row: &mut [usiz
         f,
         a,
         e,
-        head::is_high(f),
+        head_words::is_high(f),
         terminators::string_end(f),
         how,
         row,
@@ -62,7 +62,14 @@ pub fn strings(buffer: &[u8], n: usize, part: i32, row: &mut [usize], how: Manne
         Opened::Bad(r) => Verdict::Refused(r),
         Opened::From(a, e) => {
             let f = &buffer[..n];
-            let c = lookup::count(f, a, e, head::is_high(f), terminators::string_end(f), how);
+            let c = lookup::count(
+                f,
+                a,
+                e,
+                head_words::is_high(f),
+                terminators::string_end(f),
+                how,
+            );
             fill(f, a, e, c, how, row)
         }
     }

@@ -2,7 +2,7 @@
 // the numbers that they are. Every question checks the whole file first. The definitions are reader/Questions. Stands on
 // `reader`, `location`, `double`, `decimal`.
 // The rules in words: docs/FORMAT.md, "Numbers in values".
-use decimal::NumberAnswer;
+use decimal_parts::NumberAnswer;
 use double::DoubleAnswer;
 use location::LocationAnswer;
 use reader::StringAnswer;

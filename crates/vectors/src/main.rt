@@ -4,10 +4,10 @@
 // `writer` and `samples`.
 // The rules in words: docs/FORMAT.md, "Worked values".
 use chars::Kind;
-use decimal::NumberAnswer;
+use decimal_parts::NumberAnswer;
 use double::DoubleAnswer;
 use fit::Fit;
-use head::Purpose;
+use head_limits::Purpose;
 use location::LocationAnswer;
 use refusal::Part;
 use refusal::Verdict;

@@ -16,10 +16,11 @@ use Rattle.refusal.specs.declared.Verdict.the-variants as verdict
 use Rattle.fit.specs.declared.Fit.the-variants.{All}
 use Rattle.sheet.specs.declared.Measured.the-variants as measured
 use Rattle.sheet.specs.Area.{areaSize, measuredOf}
-use Rattle.head.specs.Head.{maximum, roomOf, countOf}
+use Rattle.head_words.specs.HeadWords.{roomOf, countOf}
+use Rattle.head.specs.Head.{maximum}
 use Rattle.terminators.specs.Terminators.{stringEnd, lineEnd}
 use Rattle.text.specs.declared.Manner.the-variants.{Strict}
-use Rattle.head.specs.declared.Purpose.the-variants.{Grow}
+use Rattle.head_limits.specs.declared.Purpose.the-variants.{Grow}
 use Rattle.image.specs.Image.{checkOf}
 use Rattle.refusal.specs.declared.Written.{Written}
 use Rattle.refusal.specs.declared.Written.the-variants.{To, Refused}

@@ -20,7 +20,8 @@ use Rattle.sample.specs.Needed.{room}
 use Rattle.sheet.specs.declared.Measured.the-variants as measured
 use Rattle.sheet.specs.Area.{areaSize}
 use Rattle.area.specs.Spelling.{measured-size}
-use Rattle.head.specs.Head.{maximum, roomOf}
+use Rattle.head_words.specs.HeadWords.{roomOf}
+use Rattle.head.specs.Head.{maximum}
 use Rattle.terminators.specs.Terminators.{stringEnd, lineEnd}
 use Rattle.refusal.specs.declared.Written.{Written}
 use Rattle.refusal.specs.declared.Written.the-variants.{To, Refused}

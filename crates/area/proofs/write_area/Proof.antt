@@ -1,7 +1,8 @@
 -- `area::write_area` meets its contract. Strings, end mark and zeros are the area. Assumes nothing.
 use mathlib.Core.Path.{refl}
 use Rattle.word.specs.Put.{length-put}
-use Rattle.area.specs.Writing.{texts-room, area-written}
+use Rattle.sheet_texts.specs.Texts.{texts-room}
+use Rattle.area.specs.Writing.{area-written}
 use borrow.Author.Needs.{needs}
 use native.Mathlib.Omega.{arith}
 use Rattle.area.proofs.write_area.Statement.{statement}

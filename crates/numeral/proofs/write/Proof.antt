@@ -6,7 +6,7 @@ use lib.IntN.{pos, natAbs}
 use lib.Signed.{ltZ}
 use mir.Syntax.{w32}
 use Rattle.word.specs.Signed.{kept}
-use Rattle.decimal.specs.declared.Decimal.{Decimal}
+use Rattle.decimal_parts.specs.declared.Decimal.{Decimal}
 use Rattle.numeral.specs.Numeral.{raised}
 use Rattle.numeral.specs.Answers.{zero-minus, many-decimals, large-coefficient, far-power, the-answer}
 use borrow.Author.Needs.{needs}

@@ -4,7 +4,7 @@ use lib.IntN.{ℤ}
 use mir.Syntax.{w32}
 use Rattle.word.specs.Signed.{handed}
 use Rattle.decimal.specs.Number.{numberIn}
-use Rattle.decimal.specs.declared.NumberAnswer.the-variants as number
+use Rattle.decimal_parts.specs.declared.NumberAnswer.the-variants as number
 use Rattle.quick.specs.Quick.{quickFind, quickNumber}
 use Rattle.quick.specs.QuickLaws.{find-lent, read-told}
 use borrow.Author.Needs.{needs}

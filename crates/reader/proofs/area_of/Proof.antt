@@ -4,7 +4,7 @@ use native.Mathlib.Omega.{arith}
 use lib.IntN.{ℤ}
 use borrow.Author.Needs.{needs}
 use mir.Syntax.{w32}
-use Rattle.head.specs.Head.{countOf}
+use Rattle.head_words.specs.HeadWords.{countOf}
 use Rattle.reader.specs.Reach.{whose-trace, some-trace, pointer-slot, trace-pointed}
 use Rattle.reader.specs.Leaves.{area-whole, area-one}
 use Rattle.reader.specs.Questions.{whoseOf, areaNamed}

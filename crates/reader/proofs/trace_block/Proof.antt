@@ -5,7 +5,7 @@ use lib.IntN.{ℤ}
 use lib.ListN.{take}
 use borrow.Author.Needs.{needs}
 use mir.Syntax.{w32}
-use Rattle.head.specs.Head.{countOf}
+use Rattle.head_words.specs.HeadWords.{countOf}
 use Rattle.reader.specs.Reach.{checked, whose-trace, pointer-slot, trace-pointed}
 use Rattle.reader.specs.Questions.{whoseOf, traceAnswer}
 use Rattle.word.specs.Signed.{handed}

@@ -3,8 +3,8 @@ use mathlib.Core.Path.{_∙_}
 use lib.IntN.{ℤ}
 use borrow.Author.Needs.{needs}
 use mir.Syntax.{w32}
-use Rattle.head.specs.HeadLaws.{count-read}
-use Rattle.head.specs.Head.{countOf}
+use Rattle.head_words.specs.HeadWords.{count-read}
+use Rattle.head_words.specs.HeadWords.{countOf}
 use Rattle.reader.specs.Questions.{whoseOf}
 use Rattle.word.specs.Signed.{handed}
 use Rattle.reader.proofs.whose_in.Statement.{statement}

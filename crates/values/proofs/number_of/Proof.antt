@@ -1,7 +1,7 @@
 -- `values::number_of` meets its contract. What was not refused has a value. Assumes nothing.
 use mathlib.Core.Path.{sym, ap, _∙_}
 use Rattle.decimal.specs.Number.{numberIn}
-use Rattle.decimal.specs.declared.NumberAnswer.the-variants as number
+use Rattle.decimal_parts.specs.declared.NumberAnswer.the-variants as number
 use Rattle.values.proofs.Passed.{answered}
 use borrow.Author.Needs.{needs}
 use Rattle.values.proofs.number_of.Statement.{statement}
