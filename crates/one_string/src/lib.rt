@@ -24,7 +24,7 @@ fn is_value(u: &[u8], k: &[u8], v: &[u8]) -> bool
     ensures { λ r. ⌜ r ≡ valueOk (now (u .entry)) (now (k .entry)) (now (v .entry)) ⌝ }
 {
     if key_order::is_note(k) {
-        return note::walk_lines(u, v);
+        return note::all_lines(u, v);
     }
     chars::all(Kind::Value, v)
 }

@@ -12,6 +12,6 @@ is-value-spec =
     (tie.spec
     (λ c κs. search needs)
     (λ c κs. search needs)
-    (λ c. c .walk-lines .ensures ∙ rw (sym (c .before .before .is-note .ensures) ∙ c .before .if1 .taken))
+    (λ c. c .all-lines .ensures ∙ rw (sym (c .before .before .is-note .ensures) ∙ c .before .if1 .taken))
     (λ c κs. search needs)
     (λ c. c .all .ensures ∙ rw (sym (c .before .before .is-note .ensures) ∙ c .before .if1 .left)))
