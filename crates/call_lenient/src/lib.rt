@@ -1,39 +1,26 @@
-// What `seg2` exports of the lenient reading on blocks, strings and keywords (document 02, §11), under Rattle's own name.
-// Each is the question in the lenient manner, and beside it the strict check. Each answer crosses as `face_lenient`
-// hands it over. Stands on `image`, `reader`.
+// What `seg2` exports of the lenient reading on blocks (document 02, §11), under Rattle's own name: the check, the file
+// block, a trace's block, how many strings a part has. Each is the question in the lenient manner, and beside it the
+// strict check. Each answer crosses as `face_lenient` hands it over. Stands on `strict_check`, `image`, `reader`.
 // The rules in words: docs/FORMAT.md, "Older recorders: a lenient reading".
 use face_lenient::Seg2LenientCount;
 use face_lenient::Seg2LenientFile;
-use face_lenient::Seg2LenientKeyword;
-use face_lenient::Seg2LenientString;
 use face_lenient::Seg2LenientTrace;
-use face_lenient::Seg2LenientValue;
 use face_lenient::Seg2LenientVerdict;
 use head_limits::Purpose;
-use refusal::Verdict;
 use text::Manner;
 ghost use mathlib.Core.Path.{_≡_};
 ghost use Rattle.text.specs.declared.Manner.the-variants.{Strict, Lenient};
 ghost use Rattle.head_limits.specs.declared.Purpose.the-variants.{Read};
 ghost use Rattle.image.specs.Image.{checkOf};
-ghost use Rattle.reader.specs.Questions.{fileAnswer, traceAnswer, countAnswer, nthAnswer, findAnswer, keywordAnswer};
+ghost use Rattle.reader.specs.Questions.{fileAnswer, traceAnswer, countAnswer};
 ghost use Rattle.face_lenient.specs.FaceLenient.{lenientVerdict, lenientFile, lenientTrace, lenientCount};
-ghost use Rattle.face_lenient.specs.FaceLenient.{lenientString, lenientKeyword, lenientValue};
-
-// The strict check's own verdict, which stands beside every answer. It is made first: then no answer is kept while the
-// file is checked.
-pub fn strictly(buffer: &[u8], n: usize) -> Verdict
-    ensures { λ r. ⌜ r ≡ checkOf Strict Read (now (buffer .entry)) n ⌝ }
-{
-    image::check(buffer, n, Purpose::Read, Manner::Strict)
-}
 
 // Whether the first `n` bytes of the buffer are a file that keeps the rules as the lenient reading has them.
 pub fn check(buffer: &[u8], n: usize) -> Seg2LenientVerdict
     ensures { λ r. ⌜ r ≡ lenientVerdict (checkOf Lenient Read (now (buffer .entry)) n)
         (checkOf Strict Read (now (buffer .entry)) n) ⌝ }
 {
-    let strict = strictly(buffer, n);
+    let strict = strict_check::strictly(buffer, n);
     face_lenient::verdict_beside(
         image::check(buffer, n, Purpose::Read, Manner::Lenient),
         strict,
@@ -45,7 +32,7 @@ pub fn file_block(buffer: &[u8], n: usize) -> Seg2LenientFile
     ensures { λ r. ⌜ r ≡ lenientFile (fileAnswer Lenient (now (buffer .entry)) n)
         (checkOf Strict Read (now (buffer .entry)) n) ⌝ }
 {
-    let strict = strictly(buffer, n);
+    let strict = strict_check::strictly(buffer, n);
     face_lenient::file_beside(reader::file_block(buffer, n, Manner::Lenient), strict)
 }
 
@@ -54,7 +41,7 @@ pub fn trace_block(buffer: &[u8], n: usize, trace: i32) -> Seg2LenientTrace
     ensures { λ r. ⌜ r ≡ lenientTrace (traceAnswer Lenient (now (buffer .entry)) n trace)
         (checkOf Strict Read (now (buffer .entry)) n) ⌝ }
 {
-    let strict = strictly(buffer, n);
+    let strict = strict_check::strictly(buffer, n);
     face_lenient::trace_beside(
         reader::trace_block(buffer, n, trace, Manner::Lenient),
         strict,
@@ -66,42 +53,9 @@ pub fn string_count(buffer: &[u8], n: usize, part: i32) -> Seg2LenientCount
     ensures { λ r. ⌜ r ≡ lenientCount (countAnswer Lenient (now (buffer .entry)) n part)
         (checkOf Strict Read (now (buffer .entry)) n) ⌝ }
 {
-    let strict = strictly(buffer, n);
+    let strict = strict_check::strictly(buffer, n);
     face_lenient::count_beside(
         reader::string_count(buffer, n, part, Manner::Lenient),
         strict,
     )
-}
-
-// The string with an index, counted from 0.
-pub fn string(buffer: &[u8], n: usize, part: i32, index: usize) -> Seg2LenientString
-    ensures { λ r. ⌜ r ≡ lenientString (nthAnswer Lenient (now (buffer .entry)) n part index)
-        (checkOf Strict Read (now (buffer .entry)) n) ⌝ }
-{
-    let strict = strictly(buffer, n);
-    face_lenient::string_beside(
-        reader::string(buffer, n, part, index, Manner::Lenient),
-        strict,
-    )
-}
-
-// Whether a keyword is there: one of the two calls of a keyword question.
-pub fn keyword(buffer: &[u8], n: usize, part: i32, key: &[u8]) -> Seg2LenientKeyword
-    ensures { λ r. ⌜ r ≡ lenientKeyword (keywordAnswer Lenient (now (buffer .entry)) n part (now (key .entry)))
-        (checkOf Strict Read (now (buffer .entry)) n) ⌝ }
-{
-    let strict = strictly(buffer, n);
-    face_lenient::keyword_beside(
-        reader::keyword(buffer, n, part, key, Manner::Lenient),
-        strict,
-    )
-}
-
-// A keyword's value: the other one.
-pub fn value(buffer: &[u8], n: usize, part: i32, key: &[u8]) -> Seg2LenientValue
-    ensures { λ r. ⌜ r ≡ lenientValue (findAnswer Lenient (now (buffer .entry)) n part (now (key .entry)))
-        (checkOf Strict Read (now (buffer .entry)) n) ⌝ }
-{
-    let strict = strictly(buffer, n);
-    face_lenient::value_beside(reader::find(buffer, n, part, key, Manner::Lenient), strict)
 }

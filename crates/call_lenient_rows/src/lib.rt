@@ -1,6 +1,6 @@
 // What `seg2` exports of the lenient reading that fills a lent row (document 02, §11), under Rattle's own name: the
 // strings of a part, the samples of a trace. Each is the question in the lenient manner, and beside it the strict check.
-// Each answer crosses as `face_lenient` hands it over. Stands on `call_lenient`,
+// Each answer crosses as `face_lenient` hands it over. Stands on `strict_check`,
 // `string_rows`, `samples`.
 // The rules in words: docs/FORMAT.md, "Older recorders: a lenient reading".
 use face_lenient::Seg2LenientVerdict;
@@ -21,7 +21,7 @@ pub fn strings(buffer: &[u8], n: usize, part: i32, row: &mut [usize]) -> Seg2Len
         (checkOf Strict Read (now (buffer .entry)) n) ⌝ }
     ensures row { λ _. ⌜ now (row .exit) ≡ stringsLeft Lenient (now (buffer .entry)) n part (now (row .entry)) ⌝ }
 {
-    let strict = call_lenient::strictly(buffer, n);
+    let strict = strict_check::strictly(buffer, n);
     face_lenient::verdict_beside(
         string_rows::strings(buffer, n, part, row, Manner::Lenient),
         strict,
@@ -35,7 +35,7 @@ pub fn integers(buffer: &[u8], n: usize, trace: i32, row: &mut [i32]) -> Seg2Len
         (checkOf Strict Read (now (buffer .entry)) n) ⌝ }
     ensures row { λ _. ⌜ now (row .exit) ≡ integersLeft Lenient (now (buffer .entry)) n trace (now (row .entry)) ⌝ }
 {
-    let strict = call_lenient::strictly(buffer, n);
+    let strict = strict_check::strictly(buffer, n);
     face_lenient::verdict_beside(
         samples::integers(buffer, n, trace, row, Manner::Lenient),
         strict,
@@ -58,7 +58,7 @@ pub fn bits(
     ensures classes { λ _. ⌜ now (classes .exit)
         ≡ classesLeft Lenient (now (buffer .entry)) n trace (now (row .entry)) (now (classes .entry)) ⌝ }
 {
-    let strict = call_lenient::strictly(buffer, n);
+    let strict = strict_check::strictly(buffer, n);
     face_lenient::verdict_beside(
         samples::bits(buffer, n, trace, row, classes, Manner::Lenient),
         strict,

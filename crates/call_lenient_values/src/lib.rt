@@ -1,6 +1,6 @@
 // What `seg2` exports of the lenient reading on the numbers in values (document 02, §11), under Rattle's own name. Each is
 // the question in the lenient manner, and beside it the strict check. Each answer crosses as `face_lenient` hands it over.
-// Stands on `call_lenient`, `reader`, `values`.
+// Stands on `strict_check`, `reader`, `values`.
 // The rules in words: docs/FORMAT.md, "Older recorders: a lenient reading".
 use face_lenient::Seg2LenientDouble;
 use face_lenient::Seg2LenientLocation;
@@ -18,7 +18,7 @@ pub fn number(buffer: &[u8], n: usize, part: i32, key: &[u8]) -> Seg2LenientNumb
     ensures { λ r. ⌜ r ≡ lenientNumber (numberAnswer Lenient (now (buffer .entry)) n part (now (key .entry)))
         (checkOf Strict Read (now (buffer .entry)) n) ⌝ }
 {
-    let strict = call_lenient::strictly(buffer, n);
+    let strict = strict_check::strictly(buffer, n);
     face_lenient::number_beside(
         values::number_of(buffer, reader::find(buffer, n, part, key, Manner::Lenient)),
         strict,
@@ -30,7 +30,7 @@ pub fn double(buffer: &[u8], n: usize, part: i32, key: &[u8]) -> Seg2LenientDoub
     ensures { λ r. ⌜ r ≡ lenientDouble (doubleAnswer Lenient (now (buffer .entry)) n part (now (key .entry)))
         (checkOf Strict Read (now (buffer .entry)) n) ⌝ }
 {
-    let strict = call_lenient::strictly(buffer, n);
+    let strict = strict_check::strictly(buffer, n);
     face_lenient::double_beside(
         values::double_of(buffer, reader::find(buffer, n, part, key, Manner::Lenient)),
         strict,
@@ -42,7 +42,7 @@ pub fn location(buffer: &[u8], n: usize, part: i32, key: &[u8]) -> Seg2LenientLo
     ensures { λ r. ⌜ r ≡ lenientLocation (locationAnswer Lenient (now (buffer .entry)) n part (now (key .entry)))
         (checkOf Strict Read (now (buffer .entry)) n) ⌝ }
 {
-    let strict = call_lenient::strictly(buffer, n);
+    let strict = strict_check::strictly(buffer, n);
     face_lenient::location_beside(
         values::location_of(buffer, reader::find(buffer, n, part, key, Manner::Lenient)),
         strict,

@@ -338,7 +338,7 @@ pub extern "C" fn seg2_lenient_string(
     ensures { λ r. ⌜ r ≡ lenientString (nthAnswer Lenient (now (buffer .entry)) n part index)
         (checkOf Strict Read (now (buffer .entry)) n) ⌝ }
 {
-    call_lenient::string(buffer, n, part, index)
+    call_lenient_strings::string(buffer, n, part, index)
 }
 
 // All strings of the file or a trace, into a row of four numbers each.
@@ -368,7 +368,7 @@ pub extern "C" fn seg2_lenient_keyword(
     ensures { λ r. ⌜ r ≡ lenientKeyword (keywordAnswer Lenient (now (buffer .entry)) n part (now (key .entry)))
         (checkOf Strict Read (now (buffer .entry)) n) ⌝ }
 {
-    call_lenient::keyword(buffer, n, part, key)
+    call_lenient_strings::keyword(buffer, n, part, key)
 }
 
 // A keyword's value: the other one.
@@ -382,7 +382,7 @@ pub extern "C" fn seg2_lenient_value(
     ensures { λ r. ⌜ r ≡ lenientValue (findAnswer Lenient (now (buffer .entry)) n part (now (key .entry)))
         (checkOf Strict Read (now (buffer .entry)) n) ⌝ }
 {
-    call_lenient::value(buffer, n, part, key)
+    call_lenient_strings::value(buffer, n, part, key)
 }
 
 // The number that a keyword's value is.

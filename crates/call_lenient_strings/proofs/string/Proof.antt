@@ -1,11 +1,11 @@
--- `call_lenient::string` meets its contract: the answers of the two functions below it, as they cross. Assumes nothing.
+-- `call_lenient_strings::string` meets its contract: the answers of the two functions below it, as they cross. Assumes nothing.
 use mathlib.Core.Path.{ap₂, _∙_}
 use mir.Syntax.{w32}
 use mir.Facts.{toZ-ofZ}
 use Rattle.face_lenient.specs.FaceLenient.{lenientString}
 use borrow.Author.Needs.{needs}
-use Rattle.call_lenient.proofs.string.Statement.{statement}
-use Rattle.call_lenient.proofs.string.Tie as tie
+use Rattle.call_lenient_strings.proofs.string.Statement.{statement}
+use Rattle.call_lenient_strings.proofs.string.Tie as tie
 
 pub string-spec : {M : Type 1} → statement M
 string-spec =
