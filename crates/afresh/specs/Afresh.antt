@@ -120,7 +120,7 @@ pub record Writable (xs : List ℕ) (order slots : ℕ) (sheet : List ℕ) (ts :
   pub most : fileSize slots sheet ts ≤ maximum
 
 module _ (xs : List ℕ) (order slots : ℕ) (sheet : List ℕ) (ts : List Trace) (w : Writable xs order slots sheet ts) where
-  can-start : Started xs order slots sheet (startSize slots sheet)
+  can-start : Started (length xs) order slots sheet (startSize slots sheet)
   unfolding fileSize
   can-start =
       let fits = w .fits in

@@ -9,11 +9,14 @@ use Rattle.word.specs.Round.{round4}
 use Rattle.word.specs.Word.{bytesOf}
 use Rattle.head_words.specs.HeadWords.{highFirst, countOf}
 use Rattle.terminators.specs.Terminators.{stringEnd, lineEnd}
-use Rattle.layout.specs.Layout.{Trace, traceSize, traceBytes}
+use Rattle.layout.specs.Layout.{Trace, count, sizeFor, traceBytes}
 
 -- "it is where the new trace's D bytes end"
+abbrev pub lengthFor : List ℕ → ℕ → List ℕ → ℕ → ℕ → ℕ
+lengthFor f n sheet code s = round4 n + sizeFor (stringEnd f) (lineEnd f) sheet code s
+
 unfoldable pub newLength : List ℕ → ℕ → Trace → ℕ
-newLength f n x = round4 n + traceSize (stringEnd f) (lineEnd f) x
+newLength f n x = lengthFor f n (x .sheet) (x .code) (count (x .samples))
 
 -- "The new trace begins at the old length rounded up to 4 .. the gap and all unnamed bytes zero"
 unfoldable pub newBytes : List ℕ → ℕ → Trace → List ℕ

@@ -4,8 +4,8 @@
 use face::Seg2Length;
 ghost use mathlib.Core.Path.{_≡_};
 ghost use Rattle.layout.specs.Layout.{integersTrace, patternsTrace};
-ghost use Rattle.start.specs.Start.{startAnswer, startLeft};
-ghost use Rattle.writer.specs.Answers.{addAnswer, addLeft};
+ghost use Rattle.start.specs.Start.{startAnswer, startNeeds, startLeft};
+ghost use Rattle.writer.specs.Answers.{addAnswer, addNeeds, addLeft};
 ghost use Rattle.face.specs.Face.{asLength};
 
 // A new file without traces: the byte order (0 low first, 1 high first), the pointer slots, the file's sheet.
@@ -14,6 +14,13 @@ pub fn start(buffer: &mut [u8], order: u32, slots: u32, sheet: &[u8]) -> Seg2Len
     ensures left { λ _. ⌜ now (buffer .exit) ≡ startLeft (now (buffer .entry)) order slots (now (sheet .entry)) ⌝ }
 {
     face::length_told(start::start(buffer, order as usize, slots as usize, sheet))
+}
+
+// The length that the file of a start would have, without a buffer.
+pub fn start_size(order: u32, slots: u32, sheet: &[u8]) -> Seg2Length
+    ensures { λ r. ⌜ r ≡ asLength (startNeeds order slots (now (sheet .entry))) ⌝ }
+{
+    face::length_told(start::size(order as usize, slots as usize, sheet))
 }
 
 // A trace of integers (codes 1 to 3) behind the image that the buffer's first `n` bytes are.
@@ -34,4 +41,11 @@ pub fn add_bits(buffer: &mut [u8], n: usize, sheet: &[u8], code: u32, row: &[u64
         ≡ addLeft (now (buffer .entry)) n (patternsTrace (now (sheet .entry)) code (now (row .entry))) ⌝ }
 {
     face::length_told(writer::add_bits(buffer, n, sheet, code, row))
+}
+
+// The length that the file would have with one trace more, without room for it and without its samples.
+pub fn add_size(buffer: &[u8], n: usize, sheet: &[u8], code: u32, count: usize) -> Seg2Length
+    ensures { λ r. ⌜ r ≡ asLength (addNeeds (now (buffer .entry)) n (now (sheet .entry)) code count) ⌝ }
+{
+    face::length_told(writer::size(buffer, n, sheet, code, count))
 }

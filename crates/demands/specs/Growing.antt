@@ -294,4 +294,4 @@ one-trace-more xs n x end to by = rw (add-left xs n x end to) (still.file-answer
 -- a started buffer is one of bytes too, so that all this holds from the start on
 pub started-buffer-is-of-bytes : (xs : List ℕ) (order slots : ℕ) (sheet : List ℕ) (e : ℕ) → startAnswer xs order slots sheet ≡ To e → Bytes xs
     → Bytes (startLeft xs order slots sheet)
-started-buffer-is-of-bytes xs order slots sheet e to by = rw (start-left xs order slots sheet e to) (start-are-bytes by (started xs order slots sheet e to))
+started-buffer-is-of-bytes xs order slots sheet e to by = rw (start-left xs order slots sheet e to) (start-are-bytes xs by (started xs order slots sheet e to))

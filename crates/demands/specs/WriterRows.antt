@@ -34,12 +34,12 @@ use Rattle.terminators.specs.Terminators.{stringEnd, lineEnd}
 use Rattle.refusal.specs.declared.Written.{Written}
 use Rattle.refusal.specs.declared.Written.the-variants as written
 use Rattle.layout.specs.Layout.{nul, lineFeed, startSize, Trace, Samples, Samples.integers, Samples.patterns, fitting}
-use Rattle.layout.specs.Layout.{unfit}
-use Rattle.start.specs.Start.{onMeasured, badStart, startAnswer}
-use Rattle.append.specs.Grown.{newLength}
+use Rattle.layout.specs.Layout.{count, unfit}
+use Rattle.start.specs.Start.{onMeasured, badStart, startInto, startAnswer}
+use Rattle.append.specs.Grown.{lengthFor, newLength}
 use Rattle.opening.specs.Opening.{noSlot, wrongChannel, withRow, takenOf, areaAnswer}
 use Rattle.entry.specs.Entry.{onFit, samplesVerdict}
-use Rattle.writer.specs.Answers.{addAnswer}
+use Rattle.writer.specs.Answers.{addInto, addAnswer}
 use Rattle.refusal.specs.FirstRow.{row, firstOf, first-nothing, first-row, first-more, rowsAt, rule-first, asked-more}
 use Rattle.refusal.specs.FirstRow.{asked-row, asked-none}
 use Rattle.demands.specs.FileRows.{pick-first, checkRows, check-answers-first}
@@ -81,7 +81,7 @@ lines-first (suc m) prev s at =
     (lines-first m (take (lineKeyLen l) s) (drop (lineLen s + 1) s) (at + lineLen s + 1)))
 
 -- a sheet's rows, and else what comes behind them
-sheet-first : (t u s : List ℕ) (more : Written) → onMeasured (measuredOf t u s) more ≡ asked written.Refused (firstOf (sheetRows t u s)) more
+pub sheet-first : (t u s : List ℕ) (more : Written) → onMeasured (measuredOf t u s) more ≡ asked written.Refused (firstOf (sheetRows t u s)) more
 unfolding measuredOf linesVerdict
 sheet-first t u s more =
     rw (lines-first (length s) [] s 0)
@@ -112,7 +112,7 @@ room-first w end =
 -- Rules out a start that refuses a list it could take, or takes one that it must refuse, or answers another length.
 pub start-answers-first : (xs : List ℕ) (order slots : ℕ) (sheet : List ℕ)
     → startAnswer xs order slots sheet ≡ asked written.Refused (firstOf (startRows xs order slots sheet)) (written.To (startSize slots sheet))
-unfolding startAnswer
+unfolding startAnswer startInto
 start-answers-first xs order slots sheet =
     let full : Bool = ltb (length xs) (startSize slots sheet) || ltb maximum (startSize slots sheet) in
     let end : Written = written.To (startSize slots sheet) in
@@ -150,29 +150,33 @@ unfolding unfit unfitRows unfitIntegers unfitPatterns
 unfit-first code (integers zs) = samples-first (unfitInteger code) 0 zs
 unfit-first code (patterns zs) = samples-first (unfitPattern code) 0 zs
 
-abbrev pub addRows : List ℕ → ℕ → Trace → List Verdict
-addRows xs n x =
+-- rows 1 to 17 and 34, 24, 25 to 27 and 35, those of the samples, and 30, into so many bytes of room
+abbrev pub intoRows : ℕ → List ℕ → ℕ → List ℕ → ℕ → List Verdict → List Verdict
+intoRows space xs n sheet end samples =
     let f = take n xs in
-    let end = newLength f n x in
     checkRows Strict Grow xs n
     ++ (row (noSlot (roomOf f) (countOf f)) NoSlot File 0
-    ∷ (sheetRows (stringEnd f) (lineEnd f) (x .sheet)
-    ++ (row (wrongChannel f (x .sheet)) SheetChannel File 0
-    ∷ row (not (fitting (x .code) (x .samples))) EntryCode File 0
-    ∷ (unfitRows (x .code) (x .samples) ++ (row (ltb (length xs) end || ltb maximum end) NoRoom File 0 ∷ [])))))
+    ∷ (sheetRows (stringEnd f) (lineEnd f) sheet
+    ++ (row (wrongChannel f sheet) SheetChannel File 0 ∷ (samples ++ (row (ltb space end || ltb maximum end) NoRoom File 0 ∷ [])))))
+
+-- 28, then 29
+abbrev pub givenRows : ℕ → Samples → List Verdict
+givenRows code s = row (not (fitting code s)) EntryCode File 0 ∷ unfitRows code s
+
+given-first : (code : ℕ) (s : Samples) → samplesVerdict code s ≡ firstOf (givenRows code s)
+unfolding samplesVerdict
+given-first code s = rw (unfit-first code s) (sym (first-row (not (fitting code s)) EntryCode File 0 (unfitRows code s)))
+
+abbrev pub addRows : List ℕ → ℕ → Trace → List Verdict
+addRows xs n x = intoRows (length xs) xs n (x .sheet) (newLength (take n xs) n x) (givenRows (x .code) (x .samples))
 
 -- the steps of the definition, one behind the other
-steps : (c : Verdict) (s : Bool) (m : Measured) (k : Bool) (f : Verdict) (w more : Written)
-    → onMeasured m (pick k (written.Refused (refusal EntryCode File 0)) (asked written.Refused f w)) ≡ more
-    → onMeasured (asked measured.Refused c (pick s (measured.Refused (refusal NoSlot File 0)) m))
-    (asked written.Refused (pick k (Refused (refusal EntryCode File 0)) f) w)
+steps : (c : Verdict) (s : Bool) (m : Measured) (w more : Written) → onMeasured m w ≡ more
+    → onMeasured (asked measured.Refused c (pick s (measured.Refused (refusal NoSlot File 0)) m)) w
     ≡ asked written.Refused c (pick s (written.Refused (refusal NoSlot File 0)) more)
-steps (Refused r) s m k f w more h = refl
-steps Accepted true m k f w more h = refl
-steps Accepted false (measured.Refused r) k f w more h = h
-steps Accepted false (measured.Size b) true f w more h = h
-steps Accepted false (measured.Size b) false Accepted w more h = h
-steps Accepted false (measured.Size b) false (Refused r) w more h = h
+steps (Refused r) s m w more h = refl
+steps Accepted true m w more h = refl
+steps Accepted false m w more h = h
 
 -- 35 behind the sheet's own rows
 channel-first : (w : Bool) (m : Measured) (more : Written)
@@ -181,40 +185,44 @@ channel-first true (measured.Size b) more = refl
 channel-first false (measured.Size b) more = refl
 channel-first w (measured.Refused r) more = refl
 
+-- every row of an addition into so many bytes of room, whatever rows 28 and 29 are of
+pub into-answers-first : (space : ℕ) (xs : List ℕ) (n : ℕ) (sheet : List ℕ) (code s : ℕ) (fit : Verdict) (rows : List Verdict) → fit ≡ firstOf rows
+    → addInto space xs n sheet code s fit
+    ≡ asked written.Refused (firstOf (intoRows space xs n sheet (lengthFor (take n xs) n sheet code s) rows)) (written.To (lengthFor (take n xs) n sheet code s))
+unfolding addInto areaAnswer takenOf
+into-answers-first space xs n sheet code s fit rows e =
+    let f : List ℕ = take n xs in
+    let end : ℕ = lengthFor f n sheet code s in
+    let full : Bool = ltb space end || ltb maximum end in
+    let new : Written = written.To end in
+    let last : List Verdict = row full NoRoom File 0 ∷ [] in
+    let wrong : Bool = wrongChannel f sheet in
+    let ss : List Verdict = sheetRows (stringEnd f) (lineEnd f) sheet in
+    let slot : Bool = noSlot (roomOf f) (countOf f) in
+    let within : Written = pick full (written.Refused (refusal NoRoom File 0)) new in
+    let ends : Written = asked written.Refused (firstOf rows) within in
+    let fits : asked written.Refused (firstOf (rows ++ last)) new ≡ ends =
+    asked-more written.Refused rows last new ∙ ap (asked written.Refused (firstOf rows)) (sym (room-first full end)) in
+    let tail : asked written.Refused (firstOf (ss ++ (row wrong SheetChannel File 0 ∷ (rows ++ last)))) new
+    ≡ onMeasured (withRow wrong (measuredOf (stringEnd f) (lineEnd f) sheet)) ends =
+    asked-more written.Refused ss (row wrong SheetChannel File 0 ∷ (rows ++ last)) new
+    ∙ ap (asked written.Refused (firstOf ss))
+    (asked-row written.Refused wrong SheetChannel File 0 (rows ++ last) new
+    ∙ ap (λ (v : Written). pick wrong (written.Refused (refusal SheetChannel File 0)) v) fits)
+    ∙ sym (sheet-first (stringEnd f) (lineEnd f) sheet (pick wrong (written.Refused (refusal SheetChannel File 0)) ends))
+    ∙ sym (channel-first wrong (measuredOf (stringEnd f) (lineEnd f) sheet) ends) in
+    rw (check-answers-first Strict Grow xs n, e)
+    (steps (firstOf (checkRows Strict Grow xs n)) slot (withRow wrong (measuredOf (stringEnd f) (lineEnd f) sheet)) ends _ (sym tail)
+    ∙ sym
+    (asked-more written.Refused (checkRows Strict Grow xs n) (row slot NoSlot File 0 ∷ (ss ++ (row wrong SheetChannel File 0 ∷ (rows ++ last)))) new
+    ∙ ap (asked written.Refused (firstOf (checkRows Strict Grow xs n)))
+    (asked-row written.Refused slot NoSlot File 0 (ss ++ (row wrong SheetChannel File 0 ∷ (rows ++ last))) new)))
+
 -- Rules out an addition that skips a row, takes them in another order, refuses what no row refuses, or answers another
 -- length.
 pub addition-answers-first : (xs : List ℕ) (n : ℕ) (x : Trace)
     → addAnswer xs n x ≡ asked written.Refused (firstOf (addRows xs n x)) (written.To (newLength (take n xs) n x))
-unfolding addAnswer areaAnswer takenOf samplesVerdict
+unfolding addAnswer newLength
 addition-answers-first xs n x =
-    let f : List ℕ = take n xs in
-    let end : ℕ = newLength f n x in
-    let full : Bool = ltb (length xs) end || ltb maximum end in
-    let new : Written = written.To end in
-    let last : List Verdict = row full NoRoom File 0 ∷ [] in
-    let us : List Verdict = unfitRows (x .code) (x .samples) in
-    let kind : Bool = not (fitting (x .code) (x .samples)) in
-    let wrong : Bool = wrongChannel f (x .sheet) in
-    let ss : List Verdict = sheetRows (stringEnd f) (lineEnd f) (x .sheet) in
-    let slot : Bool = noSlot (roomOf f) (countOf f) in
-    let behind : List Verdict = row kind EntryCode File 0 ∷ (us ++ last) in
-    let within : Written = pick full (written.Refused (refusal NoRoom File 0)) new in
-    let ends : Written = pick kind (written.Refused (refusal EntryCode File 0)) (asked written.Refused (firstOf us) within) in
-    let fits : asked written.Refused (firstOf behind) new ≡ ends =
-    asked-row written.Refused kind EntryCode File 0 (us ++ last) new
-    ∙ ap (λ (v : Written). pick kind (written.Refused (refusal EntryCode File 0)) v)
-    (asked-more written.Refused us last new ∙ ap (asked written.Refused (firstOf us)) (sym (room-first full end))) in
-    let tail : asked written.Refused (firstOf (ss ++ (row wrong SheetChannel File 0 ∷ behind))) new
-    ≡ onMeasured (withRow wrong (measuredOf (stringEnd f) (lineEnd f) (x .sheet))) ends =
-    asked-more written.Refused ss (row wrong SheetChannel File 0 ∷ behind) new
-    ∙ ap (asked written.Refused (firstOf ss))
-    (asked-row written.Refused wrong SheetChannel File 0 behind new
-    ∙ ap (λ (v : Written). pick wrong (written.Refused (refusal SheetChannel File 0)) v) fits)
-    ∙ sym (sheet-first (stringEnd f) (lineEnd f) (x .sheet) (pick wrong (written.Refused (refusal SheetChannel File 0)) ends))
-    ∙ sym (channel-first wrong (measuredOf (stringEnd f) (lineEnd f) (x .sheet)) ends) in
-    rw (check-answers-first Strict Grow xs n, unfit-first (x .code) (x .samples))
-    (steps (firstOf (checkRows Strict Grow xs n)) slot (withRow wrong (measuredOf (stringEnd f) (lineEnd f) (x .sheet))) kind (firstOf us) within _ (sym tail)
-    ∙ sym
-    (asked-more written.Refused (checkRows Strict Grow xs n) (row slot NoSlot File 0 ∷ (ss ++ (row wrong SheetChannel File 0 ∷ behind))) new
-    ∙ ap (asked written.Refused (firstOf (checkRows Strict Grow xs n)))
-    (asked-row written.Refused slot NoSlot File 0 (ss ++ (row wrong SheetChannel File 0 ∷ behind)) new)))
+    into-answers-first (length xs) xs n (x .sheet) (x .code) (count (x .samples)) (samplesVerdict (x .code) (x .samples)) (givenRows (x .code) (x .samples))
+    (given-first (x .code) (x .samples))

@@ -39,7 +39,7 @@ use Rattle.reader.specs.Questions.{fileAnswer, traceAnswer, countAnswer, nthAns
 use Rattle.reader.specs.Questions.{numberAnswer, doubleAnswer, locationAnswer, integersAnswer, integersLeft, bitsAnswer, patternsLeft, classesLeft}
 use Rattle.layout.specs.Layout.{Trace}
 use Rattle.opening.specs.Opening.{areaAnswer}
-use Rattle.writer.specs.Answers.{addAnswer, addLeft}
+use Rattle.writer.specs.Answers.{addInto, addAnswer, addLeft}
 use Rattle.writer.specs.Shown.{add-refused}
 use Rattle.growth.specs.Answered.{AnswersBy, answered}
 use Rattle.face.specs.declared.Seg2Verdict.{Seg2Verdict}
@@ -208,5 +208,5 @@ no-refusal-beside = refl
 -- Rules out a trace behind an old file.
 pub addition-needs-the-strict-check : (xs : List ℕ) (n : ℕ) (x : Trace) (r : Refusal) → checkOf Strict Grow xs n ≡ Refused r
     → (addAnswer xs n x ≡ written.Refused r) × (addLeft xs n x ≡ xs)
-unfolding addAnswer areaAnswer
+unfolding addAnswer addInto areaAnswer
 addition-needs-the-strict-check xs n x r e = let a : addAnswer xs n x ≡ written.Refused r = rw e in (a, add-refused xs n x r a)

@@ -3,6 +3,7 @@
 use mathlib.Core.Path.{_≡_, refl, sym, _∙_}
 use mathlib.Core.Bool.{Bool, true, false, not, _&&_, _||_}
 use Prim.Native.Nat.{ℕ, zero, suc, _%_, _≤_}
+use lib.ListN.{length}
 use native.Mathlib.Omega.{arith}
 use lib.Dec.{eqb}
 use borrow.Author.Tests.{ne-eqb, not-false}
@@ -18,9 +19,9 @@ use Rattle.fit.specs.declared.Fit.{Fit}
 use Rattle.fit.specs.declared.Fit.the-variants.{All, At}
 use Rattle.decode.specs.Sample.{integersAsked, bitsAsked}
 use Rattle.head.specs.Head.{refused}
-use Rattle.layout.specs.Layout.{Samples, count, fitting, unfit}
-use Rattle.layout.specs.LayoutLaws.{Kinded, kinded}
-use Rattle.entry.specs.Entry.{onFit, samplesVerdict}
+use Rattle.layout.specs.Layout.{Samples, integers, patterns, count, fitting, unfit}
+use Rattle.layout.specs.LayoutLaws.{Kinded, kinded, integers-kinded, bits-kinded}
+use Rattle.entry.specs.Entry.{onFit, samplesVerdict, codeVerdict}
 
 -- ---- what is accepted
 
@@ -77,3 +78,47 @@ module _ (code : ℕ) (samples : Samples) {asked : Bool} (e : asked ≡ fitting 
 -- so where they are accepted the code is one of the five
 pub judged : {code : ℕ} (samples : Samples) {v : Verdict} → v ≡ samplesVerdict code samples → v ≡ verdict.Accepted → Kinded code (count samples)
 judged {code} samples e h = kinded code samples (samples-fit code samples (sym e ∙ h) .0)
+
+-- ---- the code alone
+
+-- where it is accepted it is one of the five, with a count that it can have
+pub coded : (code s : ℕ) → codeVerdict code s ≡ verdict.Accepted → Kinded code s
+unfolding codeVerdict
+coded code s e = go (integersAsked code s) (bitsAsked code) refl refl e
+  where
+    go : (a b : Bool) → integersAsked code s ≡ a → bitsAsked code ≡ b
+        → pick (not (a || b)) (verdict.Refused (refusal EntryCode File 0)) verdict.Accepted ≡ verdict.Accepted → Kinded code s
+    go true b h k e = integers-kinded code s h .0
+    go false true h k e = bits-kinded code s k .0
+    go false false h k e = absurd (refused-not _ e)
+
+pub code-judged : {code s : ℕ} {v : Verdict} → v ≡ codeVerdict code s → v ≡ verdict.Accepted → Kinded code s
+code-judged {code} {s} e h = coded code s (sym e ∙ h)
+
+-- samples that are accepted have an accepted code
+pub code-of-samples : (code : ℕ) (x : Samples) → samplesVerdict code x ≡ verdict.Accepted → codeVerdict code (count x) ≡ verdict.Accepted
+unfolding codeVerdict fitting count
+code-of-samples code (integers row) e = rw (samples-fit code (integers row) e .0)
+code-of-samples code (patterns row) e = let b = samples-fit code (patterns row) e .0 in go (integersAsked code (length row))
+  where
+    go : (a : Bool) → pick (not (a || bitsAsked code)) (verdict.Refused (refusal EntryCode File 0)) verdict.Accepted ≡ verdict.Accepted
+    go true = refl
+    go false = rw (samples-fit code (patterns row) e .0)
+
+-- and a code that is refused is refused with every row of samples of that count
+pub code-refused : (code : ℕ) (x : Samples) (r : Refusal) → codeVerdict code (count x) ≡ verdict.Refused r → samplesVerdict code x ≡ verdict.Refused r
+unfolding codeVerdict samplesVerdict fitting count
+code-refused code (integers row) r e = go (integersAsked code (length row)) (bitsAsked code) e
+  where
+    go : (a b : Bool) → pick (not (a || b)) (verdict.Refused (refusal EntryCode File 0)) verdict.Accepted ≡ verdict.Refused r
+        → pick (not a) (verdict.Refused (refusal EntryCode File 0)) (onFit (unfit code (integers row))) ≡ verdict.Refused r
+    go true b e = absurd (refused-not r (sym e))
+    go false true e = absurd (refused-not r (sym e))
+    go false false e = e
+code-refused code (patterns row) r e = go (integersAsked code (length row)) (bitsAsked code) e
+  where
+    go : (a b : Bool) → pick (not (a || b)) (verdict.Refused (refusal EntryCode File 0)) verdict.Accepted ≡ verdict.Refused r
+        → pick (not b) (verdict.Refused (refusal EntryCode File 0)) (onFit (unfit code (patterns row))) ≡ verdict.Refused r
+    go true b e = absurd (refused-not r (sym e))
+    go false true e = absurd (refused-not r (sym e))
+    go false false e = e

@@ -7,7 +7,7 @@ use refusal::Verdict;
 ghost use mathlib.Core.Path.{_≡_};
 ghost use Rattle.decode.specs.Sample.{integersAsked, bitsAsked};
 ghost use Rattle.layout.specs.Layout.{integers, patterns};
-ghost use Rattle.entry.specs.Entry.{onFit, samplesVerdict};
+ghost use Rattle.entry.specs.Entry.{onFit, samplesVerdict, codeVerdict};
 
 // Row 29: the first sample that its code cannot hold.
 fn fitted(fit: Fit) -> Verdict
@@ -47,6 +47,16 @@ pub fn bits_fit(code: u32, row: &[u64]) -> Verdict
 {
     if is_of_bits(code) {
         return fitted(fit::unfit_bits(code as u8, row));
+    }
+    head::refusing(Rule::EntryCode, 0)
+}
+
+// Row 28 before the samples are there: a code of either kind, and under code 3 a count in fours.
+pub fn code_fits(code: u32, count: usize) -> Verdict
+    ensures { λ r. ⌜ r ≡ codeVerdict code count ⌝ }
+{
+    if is_of_integers(code, count) | is_of_bits(code) {
+        return Verdict::Accepted;
     }
     head::refusing(Rule::EntryCode, 0)
 }

@@ -244,7 +244,7 @@ start-image-bytes high slots sheet n m =
     bytes-append (fileBlock high (4 * slots) 0) _ (file-block-bytes high (4 * slots) 0)
     (bytes-append (replicate (4 * slots) 0) (areaOf high nul lineFeed sheet) (zeros-bytes (4 * slots)) (area-bytes high nul lineFeed sheet n plain-pair m))
 
-pub start-are-bytes : {xs : List ℕ} {order slots : ℕ} {sheet : List ℕ} {end : ℕ} → Bytes xs → Started xs order slots sheet end
+pub start-are-bytes : (xs : List ℕ) {space order slots : ℕ} {sheet : List ℕ} {end : ℕ} → Bytes xs → Started space order slots sheet end
     → Bytes (put xs 0 (startImage (eqb order 1) slots sheet))
-start-are-bytes {xs} {order} {slots} {sheet} by h =
+start-are-bytes xs {order = order} {slots} {sheet} by h =
     put-bytes (startImage (eqb order 1) slots sheet) xs 0 (start-image-bytes (eqb order 1) slots sheet (areaSize nul lineFeed sheet) (h .sized)) by

@@ -89,7 +89,11 @@ samplesData code high (patterns row) = bitsData code high row
 unfoldable pub traceBlock : Bool → ℕ → ℕ → ℕ → ℕ → List ℕ
 traceBlock high b d s code = bytesOf 2 high traceMark ++ (bytesOf 2 high b ++ (bytesOf 4 high d ++ (bytesOf 4 high s ++ (code ∷ replicate 19 0))))
 
--- B: the block with its strings. D: "the needed bytes rounded up to 4"
+-- what a trace of this sheet, this code and so many samples takes. B: the block with its strings. D: "the needed bytes
+-- rounded up to 4"
+abbrev pub sizeFor : List ℕ → List ℕ → List ℕ → ℕ → ℕ → ℕ
+sizeFor t u sheet code s = 32 + areaSize t u sheet + room code s
+
 abbrev pub blockBytes : List ℕ → List ℕ → Trace → ℕ
 blockBytes t u x = 32 + areaSize t u (x .sheet)
 
@@ -97,7 +101,7 @@ abbrev pub dataBytes : Trace → ℕ
 dataBytes x = room (x .code) (count (x .samples))
 
 abbrev pub traceSize : List ℕ → List ℕ → Trace → ℕ
-traceSize t u x = blockBytes t u x + dataBytes x
+traceSize t u x = sizeFor t u (x .sheet) (x .code) (count (x .samples))
 
 -- the block, the strings, the data
 unfoldable pub traceBytes : Bool → List ℕ → List ℕ → Trace → List ℕ

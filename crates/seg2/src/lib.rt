@@ -40,8 +40,8 @@ ghost use Rattle.quick.specs.Quick.{quickCount, quickNth, quickStrings, quickSt
 ghost use Rattle.quick.specs.Quick.{quickNumber, quickDouble, quickLocation, quickIntegers, quickIntegersLeft};
 ghost use Rattle.quick.specs.Quick.{quickBits, quickPatternsLeft, quickClassesLeft};
 ghost use Rattle.layout.specs.Layout.{integersTrace, patternsTrace};
-ghost use Rattle.start.specs.Start.{startAnswer, startLeft};
-ghost use Rattle.writer.specs.Answers.{addAnswer, addLeft};
+ghost use Rattle.start.specs.Start.{startAnswer, startNeeds, startLeft};
+ghost use Rattle.writer.specs.Answers.{addAnswer, addNeeds, addLeft};
 ghost use Rattle.face.specs.Face.{asVerdict, asFile, asTrace, asCount, asLength};
 ghost use Rattle.face_values.specs.FaceValues.{asString, asKeyword, asValue, asNumber, asDouble, asLocation, asGiven};
 ghost use Rattle.face_lenient.specs.FaceLenient.{lenientVerdict, lenientFile, lenientTrace, lenientCount};
@@ -474,6 +474,14 @@ pub extern "C" fn seg2_start(buffer: &mut [u8], order: u32, slots: u32, sheet: &
     call_writers::start(buffer, order, slots, sheet)
 }
 
+// The length that the file of a start would have, without a buffer: rows 31 and 25 to 27.
+#[no_mangle]
+pub extern "C" fn seg2_start_size(order: u32, slots: u32, sheet: &[u8]) -> Seg2Length
+    ensures { λ r. ⌜ r ≡ asLength (startNeeds order slots (now (sheet .entry))) ⌝ }
+{
+    call_writers::start_size(order, slots, sheet)
+}
+
 // A trace of integers (codes 1 to 3) behind the image that the buffer's first `n` bytes are.
 #[no_mangle]
 pub extern "C" fn seg2_add_integers(
@@ -506,6 +514,21 @@ pub extern "C" fn seg2_add_bits(
         ≡ addLeft (now (buffer .entry)) n (patternsTrace (now (sheet .entry)) code (now (row .entry))) ⌝ }
 {
     call_writers::add_bits(buffer, n, sheet, code, row)
+}
+
+// The length that the file would have with a trace of `count` samples more, without room for it and without the samples:
+// the rows of an addition but 29, and 30 only where no room would do.
+#[no_mangle]
+pub extern "C" fn seg2_add_size(
+    buffer: &[u8],
+    n: usize,
+    sheet: &[u8],
+    code: u32,
+    count: usize,
+) -> Seg2Length
+    ensures { λ r. ⌜ r ≡ asLength (addNeeds (now (buffer .entry)) n (now (sheet .entry)) code count) ⌝ }
+{
+    call_writers::add_size(buffer, n, sheet, code, count)
 }
 
 // ---- a number by itself

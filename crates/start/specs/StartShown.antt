@@ -1,5 +1,6 @@
 -- When a file is started: exactly where none of the rows of document 01 ("Starting: 31, 25, 26, 27, 30") is met. So no
--- start is refused that could be made, and the length that is answered is the layout's.
+-- start is refused that could be made, and the length that is answered is the layout's. The room that it needs is that
+-- length, and a start is the question for it and then row 30.
 -- Assumes nothing.
 use mathlib.Core.Path.{_≡_, refl, sym, ap, _∙_}
 use mathlib.Core.Bool.{Bool, true, false, _||_}
@@ -24,7 +25,8 @@ use Rattle.area.specs.Spelling.{measured-size}
 use Rattle.refusal.specs.declared.Written.{Written}
 use Rattle.refusal.specs.declared.Written.the-variants.{To, Refused}
 use Rattle.layout.specs.Layout.{nul, lineFeed, slotsMost, startImage, startSize}
-use Rattle.start.specs.Start.{within, onMeasured, badStart, startAnswer, startLeft}
+use Rattle.refusal.specs.Writing.{refuse}
+use Rattle.start.specs.Start.{within, roomed, onMeasured, badStart, startInto, startAnswer, startNeeds, startLeft}
 
 -- ---- from an answer back through the rows
 
@@ -59,21 +61,21 @@ as-area t u s b e = e ∙ ap measured.Size (sym (measured-size t u s b e .1))
 
 -- ---- starting
 
-pub record Started (xs : List ℕ) (order slots : ℕ) (sheet : List ℕ) (end : ℕ) : Type 0 where
+pub record Started (space order slots : ℕ) (sheet : List ℕ) (end : ℕ) : Type 0 where
   pub either : order ≤ 1
   pub some : 1 ≤ slots
   pub few : slots ≤ slotsMost
   pub sized : measuredOf nul lineFeed sheet ≡ measured.Size (areaSize nul lineFeed sheet)
   pub new : startSize slots sheet ≡ end
-  pub in-buffer : end ≤ length xs
+  pub in-buffer : end ≤ space
   pub in-maximum : end ≤ maximum
 
-pub started : (xs : List ℕ) (order slots : ℕ) (sheet : List ℕ) (end : ℕ) → startAnswer xs order slots sheet ≡ To end → Started xs order slots sheet end
-unfolding startAnswer
-started xs order slots sheet end e =
+pub started-into : (space order slots : ℕ) (sheet : List ℕ) (end : ℕ) → startInto space order slots sheet ≡ To end → Started space order slots sheet end
+unfolding startInto
+started-into space order slots sheet end e =
     let a = from-row (badStart order slots) (refusal StartValues File 0) _ end e in
-    let b = from-measured (measuredOf nul lineFeed sheet) (within (length xs) (startSize slots sheet)) end (a .1) in
-    let c = from-within (length xs) (startSize slots sheet) end (b .2) in
+    let b = from-measured (measuredOf nul lineFeed sheet) (within space (startSize slots sheet)) end (a .1) in
+    let c = from-within space (startSize slots sheet) end (b .2) in
     let d = neither (ltb 1 order) (ltb slots 1 || ltb slotsMost slots) (a .0) in
     let g = neither (ltb slots 1) (ltb slotsMost slots) (d .1) in
     record {
@@ -86,11 +88,45 @@ started xs order slots sheet end e =
       in-maximum = c .2;
     }
 
-pub starts : (xs : List ℕ) (order slots : ℕ) (sheet : List ℕ) (end : ℕ) → Started xs order slots sheet end → startAnswer xs order slots sheet ≡ To end
+pub started : (xs : List ℕ) (order slots : ℕ) (sheet : List ℕ) (end : ℕ) → startAnswer xs order slots sheet ≡ To end → Started (length xs) order slots sheet end
 unfolding startAnswer
+started xs = started-into (length xs)
+
+pub needed : (order slots : ℕ) (sheet : List ℕ) (end : ℕ) → startNeeds order slots sheet ≡ To end → Started maximum order slots sheet end
+unfolding startNeeds
+needed = started-into maximum
+
+pub starts : (xs : List ℕ) (order slots : ℕ) (sheet : List ℕ) (end : ℕ) → Started (length xs) order slots sheet end → startAnswer xs order slots sheet ≡ To end
+unfolding startAnswer startInto
 starts xs order slots sheet end h =
     rw (le-ltb 1 order (h .either), le-ltb slots 1 (h .some), le-ltb slotsMost slots (h .few), h .sized)
     (to-within (length xs) (startSize slots sheet) end (h .new) (h .in-buffer) (h .in-maximum))
+
+-- ---- row 30 by itself
+
+-- a length within the maximum first, and within the room behind it
+pub within-roomed : (space end : ℕ) → within space end ≡ roomed space (within maximum end)
+within-roomed space end = go (ltb space end) (ltb maximum end) refl
+  where
+    go : (a b : Bool) → a ≡ ltb space end → pick (a || b) (refuse NoRoom 0) (To end) ≡ roomed space (pick (b || b) (refuse NoRoom 0) (To end))
+    go true true e = refl
+    go false true e = refl
+    go true false e = rw (← e)
+    go false false e = rw (← e)
+
+-- so a start is the question for its room, and then row 30
+pub start-roomed : (xs : List ℕ) (order slots : ℕ) (sheet : List ℕ) → startAnswer xs order slots sheet ≡ roomed (length xs) (startNeeds order slots sheet)
+unfolding startAnswer startNeeds startInto
+start-roomed xs order slots sheet = go (badStart order slots) (measuredOf nul lineFeed sheet)
+  where
+    end : ℕ
+    end = startSize slots sheet
+
+    go : (w : Bool) (m : Measured) → pick w (refuse StartValues 0) (onMeasured m (within (length xs) end))
+        ≡ roomed (length xs) (pick w (refuse StartValues 0) (onMeasured m (within maximum end)))
+    go true m = refl
+    go false (measured.Size b) = within-roomed (length xs) end
+    go false (measured.Refused r) = refl
 
 pub start-left : (xs : List ℕ) (order slots : ℕ) (sheet : List ℕ) (end : ℕ) → startAnswer xs order slots sheet ≡ To end
     → startLeft xs order slots sheet ≡ put xs 0 (startImage (eqb order 1) slots sheet)

@@ -31,7 +31,7 @@ use Rattle.opening.specs.Opening.{wrongChannel, takenOf, areaAnswer}
 use Rattle.opening.specs.OpeningLaws.{opened}
 use Rattle.entry.specs.Entry.{samplesVerdict}
 use Rattle.entry.specs.EntryLaws.{samples-fit}
-use Rattle.writer.specs.Answers.{addAnswer, addLeft}
+use Rattle.writer.specs.Answers.{addInto, addAnswer, addLeft}
 use Rattle.start.specs.StartShown.{not-refused, from-measured, from-within, to-within, as-area}
 
 -- ---- from an answer back through the rows
@@ -55,7 +55,7 @@ pub record Added (xs : List ℕ) (n : ℕ) (x : Trace) (end : ℕ) : Type 0 wher
   pub in-maximum : end ≤ maximum
 
 pub added : (xs : List ℕ) (n : ℕ) (x : Trace) (end : ℕ) → addAnswer xs n x ≡ To end → Added xs n x end
-unfolding addAnswer
+unfolding addAnswer addInto newLength
 added xs n x end e =
     let f : List ℕ = take n xs in
     let a = from-measured (areaAnswer xs n (x .sheet)) (asked Refused (samplesVerdict (x .code) (x .samples)) (within (length xs) (newLength f n x))) end e in
@@ -76,7 +76,7 @@ added xs n x end e =
     }
 
 pub adds : (xs : List ℕ) (n : ℕ) (x : Trace) (end : ℕ) → Added xs n x end → addAnswer xs n x ≡ To end
-unfolding addAnswer areaAnswer takenOf samplesVerdict
+unfolding addAnswer addInto newLength areaAnswer takenOf samplesVerdict
 adds xs n x end h =
     let s : 4 * countOf (take n xs) + 4 ≤ roomOf (take n xs) = h .slot in
     rw (h .accepted, le-ltb (roomOf (take n xs)) (4 * countOf (take n xs) + 4) s, h .sized, h .channel, h .kind, h .held)

@@ -34,27 +34,26 @@ use Rattle.append.specs.Grown.{newLength, grown}
 use Rattle.append.specs.GrownLaws.{Begins}
 use Rattle.opening.specs.Opening.{areaAnswer}
 use Rattle.opening.specs.OpeningLaws.{room-small, opened, accepted}
-use Rattle.entry.specs.Entry.{samplesVerdict}
-use Rattle.writer.specs.Answers.{addAnswer, addLeft}
+use Rattle.entry.specs.Entry.{samplesVerdict, codeVerdict}
+use Rattle.writer.specs.Answers.{addInto, addAnswer, addNeeds, addLeft}
 use Rattle.writer.specs.Shown.{added, add-left, add-refused}
 
 -- ---- every row, with what 28 and 29 say of the samples as one verdict
 
-unfoldable pub rowsAnswer : List ℕ → ℕ → List ℕ → ℕ → ℕ → Verdict → Written
-rowsAnswer xs n sheet code s fit =
-    let f = take n xs in
-    onMeasured (areaAnswer xs n sheet)
-    (asked Refused fit (within (length xs) (round4 n + (32 + areaSize (stringEnd f) (lineEnd f) sheet + room code s))))
-
-module _ (xs : List ℕ) (n : ℕ) (sheet : List ℕ) (code s : ℕ) (fit : Verdict) where
-  pub rows-shut : {r : Refusal} → areaAnswer xs n sheet ≡ measured.Refused r → Refused r ≡ rowsAnswer xs n sheet code s fit
-  unfolding rowsAnswer
+module _ (space : ℕ) (xs : List ℕ) (n : ℕ) (sheet : List ℕ) (code s : ℕ) (fit : Verdict) where
+  pub rows-shut : {r : Refusal} → areaAnswer xs n sheet ≡ measured.Refused r → Refused r ≡ addInto space xs n sheet code s fit
+  unfolding addInto
   rows-shut h = rw h
 
   pub rows-ended : {size : ℕ} {w : Written} → areaAnswer xs n sheet ≡ measured.Size size
-      → w ≡ asked Refused fit (within (length xs) (round4 n + (32 + size + room code s))) → w ≡ rowsAnswer xs n sheet code s fit
-  unfolding rowsAnswer
+      → w ≡ asked Refused fit (within space (round4 n + (32 + size + room code s))) → w ≡ addInto space xs n sheet code s fit
+  unfolding addInto
   rows-ended {size} o e = rw (o, measured-size _ _ _ _ (opened xs n sheet size o .measured) .1) e
+
+pub needs-told : (xs : List ℕ) (n : ℕ) (sheet : List ℕ) (code s : ℕ) {fit : Verdict} {w : Written} → fit ≡ codeVerdict code s
+    → w ≡ addInto maximum xs n sheet code s fit → w ≡ addNeeds xs n sheet code s
+unfolding addNeeds
+needs-told xs n sheet code s e h = h ∙ rw e
 
 -- ---- row 30
 
@@ -72,9 +71,9 @@ too-many len n size code s k h =
 -- ---- the answer and what is left
 
 module _ (xs : List ℕ) (n : ℕ) (x : Trace) {fit : Verdict} {w : Written} (e : fit ≡ samplesVerdict (x .code) (x .samples))
-    (h : w ≡ rowsAnswer xs n (x .sheet) (x .code) (count (x .samples)) fit) where
+    (h : w ≡ addInto (length xs) xs n (x .sheet) (x .code) (count (x .samples)) fit) where
   answer : w ≡ addAnswer xs n x
-  unfolding rowsAnswer addAnswer newLength
+  unfolding addAnswer
   answer = rw (← e) h
 
   pub kept-left : {r : Refusal} → w ≡ Refused r → (Refused r ≡ addAnswer xs n x) × (xs ≡ addLeft xs n x)

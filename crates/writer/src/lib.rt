@@ -16,10 +16,9 @@ ghost use Rattle.layout.specs.Layout.{integersTrace, patternsTrace};
 ghost use Rattle.layout.specs.LayoutLaws.{Kinded};
 ghost use Rattle.sheet.specs.Area.{areaMost};
 ghost use Rattle.start.specs.Start.{within};
-ghost use Rattle.writer.specs.Answers.{addAnswer, addLeft};
-ghost use Rattle.writer.specs.Writes.{rowsAnswer};
+ghost use Rattle.writer.specs.Answers.{addInto, addAnswer, addNeeds, addLeft};
 
-// ---- every row in its order; `fit` is what rows 28 and 29 say of the samples
+// ---- every row in its order, into `len` bytes of room; `fit` is what rows 28 and 29 say of the samples
 
 // Rows 28 to 30 where the sheet's area has `size` bytes. A count over the maximum is over it in bytes too, and is asked
 // first: a count in a file has 32 bits.
@@ -41,27 +40,53 @@ fn ended(len: usize, n: usize, size: usize, code: u32, count: usize, fit: Verdic
 }
 
 // The new length, or the first row that is met.
-fn answered(buffer: &[u8], n: usize, sheet: &[u8], code: u32, count: usize, fit: Verdict) -> Written
+fn answered(
+    buffer: &[u8],
+    len: usize,
+    n: usize,
+    sheet: &[u8],
+    code: u32,
+    count: usize,
+    fit: Verdict,
+) -> Written
     requires { ⌜ (fit ≡ Verdict.Accepted → Kinded code count) ⌝ }
-    ensures { λ r. ⌜ r ≡ rowsAnswer (now (buffer .entry)) n (now (sheet .entry)) code count fit ⌝ }
+    ensures { λ r. ⌜ r ≡ addInto len (now (buffer .entry)) n (now (sheet .entry)) code count fit ⌝ }
 {
     let o = opening::opened(buffer, n, sheet);
     match o {
         Measured::Refused(r) => Written::Refused(r),
-        Measured::Size(size) => ended(buffer.len(), n, size, code, count, fit),
+        Measured::Size(size) => ended(len, n, size, code, count, fit),
     }
 }
 
 // The same. A function, so that the memory that the answer comes back in is given back before the file grows.
-fn told(buffer: &[u8], n: usize, sheet: &[u8], code: u32, count: usize, fit: Verdict) -> Written
+fn told(
+    buffer: &[u8],
+    len: usize,
+    n: usize,
+    sheet: &[u8],
+    code: u32,
+    count: usize,
+    fit: Verdict,
+) -> Written
     requires { ⌜ (fit ≡ Verdict.Accepted → Kinded code count) ⌝ }
-    ensures { λ r. ⌜ r ≡ rowsAnswer (now (buffer .entry)) n (now (sheet .entry)) code count fit ⌝ }
+    ensures { λ r. ⌜ r ≡ addInto len (now (buffer .entry)) n (now (sheet .entry)) code count fit ⌝ }
 {
-    let w = answered(buffer, n, sheet, code, count, fit);
+    let w = answered(buffer, len, n, sheet, code, count, fit);
     match w {
         Written::Refused(r) => Written::Refused(r),
         Written::To(end) => Written::To(end),
     }
+}
+
+// ---- the room beforehand
+
+// The length that the file would have with a trace of `count` samples, without room for it and without the samples.
+pub fn size(buffer: &[u8], n: usize, sheet: &[u8], code: u32, count: usize) -> Written
+    ensures { λ r. ⌜ r ≡ addNeeds (now (buffer .entry)) n (now (sheet .entry)) code count ⌝ }
+{
+    let fit = entry::code_fits(code, count);
+    told(buffer, head::MAXIMUM, n, sheet, code, count, fit)
 }
 
 // ---- adding
@@ -75,7 +100,7 @@ pub fn add_integers(buffer: &mut [u8], n: usize, sheet: &[u8], code: u32, row: &
         ≡ addLeft (now (buffer .entry)) n (integersTrace (now (sheet .entry)) code (now (row .entry))) ⌝ }
 {
     let fit = entry::integers_fit(code, row);
-    let w = told(&buffer[..], n, sheet, code, row.len(), fit);
+    let w = told(&buffer[..], buffer.len(), n, sheet, code, row.len(), fit);
     match w {
         Written::Refused(r) => Written::Refused(r),
         Written::To(end) => {
@@ -93,7 +118,7 @@ pub fn add_bits(buffer: &mut [u8], n: usize, sheet: &[u8], code: u32, row: &[u64
         ≡ addLeft (now (buffer .entry)) n (patternsTrace (now (sheet .entry)) code (now (row .entry))) ⌝ }
 {
     let fit = entry::bits_fit(code, row);
-    let w = told(&buffer[..], n, sheet, code, row.len(), fit);
+    let w = told(&buffer[..], buffer.len(), n, sheet, code, row.len(), fit);
     match w {
         Written::Refused(r) => Written::Refused(r),
         Written::To(end) => {

@@ -19,8 +19,8 @@ answered-spec =
     let at-opened = at-o2 .before .before in
     let start = at-opened .before .before .before in
     let o = opened _ _ _ _ (sym (at-opened .opened .ensures) ∙ at-o2 .o2 .given .1) in (o .most, measured-size _ _ _ _ (o .measured) .2, start .pre))
-    (λ c. rows-shut _ _ _ _ _ _ (sym (c .before .before .before .opened .ensures) ∙ c .before .o .given .1))
+    (λ c. rows-shut _ _ _ _ _ _ _ (sym (c .before .before .before .opened .ensures) ∙ c .before .o .given .1))
     (λ c.
     let at-o2 = c .before .before in
     let at-opened = at-o2 .before .before in
-    rows-ended _ _ _ _ _ _ (sym (at-opened .opened .ensures) ∙ at-o2 .o2 .given .1) (c .ended .ensures)))
+    rows-ended _ _ _ _ _ _ _ (sym (at-opened .opened .ensures) ∙ at-o2 .o2 .given .1) (c .ended .ensures)))
