@@ -25,6 +25,10 @@
  * The functions with lenient in their name read files of older recorders too, which break the
  * rules in some ways that are forgiven; the strict verdict stands beside each of their answers.
  *
+ * Keywords, sheets and texts of numbers are lent as void *, so that a char * and a uint8_t * need no cast. They are ASCII,
+ * and end by their size, not by a 0: SEG2_LITERAL has both for a literal. seg2_chars has the bytes of a file as a char *.
+ * A trace count is at most 16,383, so that (int32_t)trace_count keeps it: a part is an int32_t, as -1 is one.
+ *
  * An answer begins with the refusal: `number` 0, `part` -1 and `place` 0 where there is
  * none. After a refusal the rest of the answer is 0 and no lent byte has changed. An answer
  * of more than 16 bytes is written to `answer`, which comes first; the functions whose name
@@ -54,6 +58,14 @@ typedef char seg2_size_t_has_64_bits[sizeof(size_t) == 8 ? 1 : -1];
 extern "C" {
 #endif
 
+/* The version: the one place where it stands. Until 1.0 the middle number changes where a struct or a function does. */
+#define SEG2_VERSION_MAJOR 0
+#define SEG2_VERSION_MINOR 9
+#define SEG2_VERSION_PATCH 0
+#define SEG2_VERSION_TEXT_(a, b, c) #a "." #b "." #c
+#define SEG2_VERSION_TEXT(a, b, c) SEG2_VERSION_TEXT_(a, b, c)
+#define SEG2_VERSION SEG2_VERSION_TEXT(SEG2_VERSION_MAJOR, SEG2_VERSION_MINOR, SEG2_VERSION_PATCH)
+
 /* A file is at most this long. */
 #define SEG2_MAXIMUM_LENGTH 67108864
 /* The strings of one block need at most this many bytes where we write them. */
@@ -62,6 +74,10 @@ extern "C" {
 #define SEG2_MAXIMUM_SLOTS 16383
 /* The text of a number is at most this long where we write it: -1.23456789012345678E-99. */
 #define SEG2_MAXIMUM_NUMBER_TEXT 24
+
+/* A keyword, a sheet or a number's text that stands in the program, with its size beside it, for the two arguments that they
+ * are: seg2_value_of(buffer, size, length, 0, SEG2_LITERAL("DELAY")). */
+#define SEG2_LITERAL(text) (text), (sizeof(text) - 1)
 
 /* The refusal table, in its order of checking. Beside each row: what `place` is. seg2_text has the words. */
 enum seg2_refusal {
@@ -327,28 +343,28 @@ seg2_verdict seg2_strings(const uint8_t *buffer, size_t size, size_t length, int
  * RECEIVER_GEOMETRY and SOURCE_GEOMETRY may stand several times running in a part. This question and the next four
  * answer the first of them; seg2_string and seg2_strings have them all. */
 void seg2_keyword(struct seg2_keyword *answer, const uint8_t *buffer, size_t size, size_t length, int32_t part,
-                  const uint8_t *key, size_t key_size);
+                  const void *key, size_t key_size);
 
 /* The value of a keyword as the buffer's own bytes. A no is start 0 and length 0 without a refusal; a value that
  * is there, be it empty, never starts at 0. 18 where there is no such part. */
 void seg2_value(struct seg2_value *answer, const uint8_t *buffer, size_t size, size_t length, int32_t part,
-                const uint8_t *key, size_t key_size);
+                const void *key, size_t key_size);
 
 /* The value of a keyword as a number. 18 where there is no such part, 20 where the value is no number (so where
  * the keyword is missing), 21 where it has too many digits. */
 void seg2_number(struct seg2_number *answer, const uint8_t *buffer, size_t size, size_t length, int32_t part,
-                 const uint8_t *key, size_t key_size);
+                 const void *key, size_t key_size);
 
 /* The value of a keyword as a double: the coefficient, multiplied or divided once by a power of ten. The
  * refusals of seg2_number, then 22 where the coefficient is over 9,007,199,254,740,991 or the power not -15 to 15. */
 void seg2_double(struct seg2_double *answer, const uint8_t *buffer, size_t size, size_t length, int32_t part,
-                 const uint8_t *key, size_t key_size);
+                 const void *key, size_t key_size);
 
 /* The value of a keyword as a location: x, or x, y and z, as doubles parted by spaces or tabs. 18 where there is
  * no such part, 23 where the values are neither one nor three (so where the keyword is missing), then 20 to 22
  * value by value. */
 void seg2_location(struct seg2_location *answer, const uint8_t *buffer, size_t size, size_t length, int32_t part,
-                   const uint8_t *key, size_t key_size);
+                   const void *key, size_t key_size);
 
 /* The samples of a trace of code 1 to 3, into a row of exactly S elements. 18 where there is no such trace, 33
  * where its code is 4 or 5, 32 where the row has another length; after a refusal the row is as it was. */
@@ -399,26 +415,26 @@ seg2_verdict seg2_quick_strings(const uint8_t *buffer, size_t size, size_t lengt
  * string is judged too. Any bytes may be asked for; what cannot be a keyword is sought by its bytes like others, and is a
  * no. */
 void seg2_quick_keyword(struct seg2_keyword *answer, const uint8_t *buffer, size_t size, size_t length, int32_t trace,
-                        const uint8_t *key, size_t key_size);
+                        const void *key, size_t key_size);
 
 /* The value of a trace's keyword as the buffer's own bytes, the first where it stands several times; the strings are read as
  * far as for seg2_quick_keyword. A no is start 0 and length 0 without a refusal; a value that is there, be it empty, never
  * starts at 0. The lines of a NOTE are parted by the line terminator, whose length stands in byte 11 of the file and whose
  * characters in byte 12 on; where there is an answer, both have been judged. */
 void seg2_quick_value(struct seg2_value *answer, const uint8_t *buffer, size_t size, size_t length, int32_t trace,
-                      const uint8_t *key, size_t key_size);
+                      const void *key, size_t key_size);
 
 /* That value as a number: then 20 or 21, as seg2_number. */
 void seg2_quick_number(struct seg2_number *answer, const uint8_t *buffer, size_t size, size_t length, int32_t trace,
-                       const uint8_t *key, size_t key_size);
+                       const void *key, size_t key_size);
 
 /* That value as a double: then 20 to 22, as seg2_double. */
 void seg2_quick_double(struct seg2_double *answer, const uint8_t *buffer, size_t size, size_t length, int32_t trace,
-                       const uint8_t *key, size_t key_size);
+                       const void *key, size_t key_size);
 
 /* That value as a location: then 23, and 20 to 22 value by value, as seg2_location. */
 void seg2_quick_location(struct seg2_location *answer, const uint8_t *buffer, size_t size, size_t length, int32_t trace,
-                         const uint8_t *key, size_t key_size);
+                         const void *key, size_t key_size);
 
 /* The samples of a trace of code 1 to 3, into a row of exactly S elements: 33, then 32, as seg2_integers. */
 seg2_verdict seg2_quick_integers(const uint8_t *buffer, size_t size, size_t length, int32_t trace, int32_t *row, size_t row_size);
@@ -483,24 +499,24 @@ void seg2_lenient_strings(seg2_lenient_verdict *answer, const uint8_t *buffer, s
 
 /* Whether a part has a keyword, in upper or lower case, as seg2_keyword. 18 where there is no such part. */
 void seg2_lenient_keyword(struct seg2_lenient_keyword *answer, const uint8_t *buffer, size_t size, size_t length, int32_t part,
-                          const uint8_t *key, size_t key_size);
+                          const void *key, size_t key_size);
 
 /* The value of a keyword as the buffer's own bytes, the first where it stands several times, as seg2_value: a no is start 0
  * and length 0. 18 where there is no such part. */
 void seg2_lenient_value(struct seg2_lenient_value *answer, const uint8_t *buffer, size_t size, size_t length, int32_t part,
-                        const uint8_t *key, size_t key_size);
+                        const void *key, size_t key_size);
 
 /* That value as a number: 18, then 20 or 21, as seg2_number. */
 void seg2_lenient_number(struct seg2_lenient_number *answer, const uint8_t *buffer, size_t size, size_t length, int32_t part,
-                         const uint8_t *key, size_t key_size);
+                         const void *key, size_t key_size);
 
 /* That value as a double: 18, then 20 to 22, as seg2_double. */
 void seg2_lenient_double(struct seg2_lenient_double *answer, const uint8_t *buffer, size_t size, size_t length, int32_t part,
-                         const uint8_t *key, size_t key_size);
+                         const void *key, size_t key_size);
 
 /* That value as a location: 18, then 23, and 20 to 22 value by value, as seg2_location. */
 void seg2_lenient_location(struct seg2_lenient_location *answer, const uint8_t *buffer, size_t size, size_t length, int32_t part,
-                           const uint8_t *key, size_t key_size);
+                           const void *key, size_t key_size);
 
 /* The samples of a trace of code 1 to 3, into a row of exactly S elements: 18, 33, then 32, as seg2_integers. */
 void seg2_lenient_integers(seg2_lenient_verdict *answer, const uint8_t *buffer, size_t size, size_t length, int32_t trace,
@@ -516,7 +532,7 @@ void seg2_lenient_bits(seg2_lenient_verdict *answer, const uint8_t *buffer, size
 /* A text as a number: what a user typed, before it goes into a sheet. Any bytes may be given. The answer is the one that
  * seg2_number gives where a keyword's value is this text. 20 where it is no number, 21 where it has too many digits;
  * place 0. */
-void seg2_read_number(struct seg2_number *answer, const uint8_t *text, size_t size);
+void seg2_read_number(struct seg2_number *answer, const void *text, size_t size);
 
 /* Writes a number as text, as a value of a sheet has it, at the start of the lent `size` bytes, and answers the text's
  * length: exactly `decimals` digits after the point, at least one before it and otherwise no zero in front, then E with
@@ -525,7 +541,7 @@ void seg2_read_number(struct seg2_number *answer, const uint8_t *text, size_t si
  * other numbers may be given too. Refusals in order, place 0: 20 for zero with a minus, 21 for more than 18 digits before
  * E or more than 2 after it, 30 where the text is longer than `size`. A refusal has changed no byte; bytes past the text
  * stay as they were. */
-void seg2_write_number(seg2_length *answer, uint8_t *text, size_t size, uint32_t minus, uint64_t coefficient,
+void seg2_write_number(seg2_length *answer, void *text, size_t size, uint32_t minus, uint64_t coefficient,
                        int32_t power, uint32_t decimals);
 
 /* ---- writing: a refusal has changed no byte; bytes past the answered length stay as they were
@@ -542,16 +558,29 @@ void seg2_write_number(seg2_length *answer, uint8_t *text, size_t size, uint32_t
  * seg2_order, `slots` how many traces the file can take, 1 to SEG2_MAXIMUM_SLOTS. Refusals in order: 31, 25, 26 (line
  * by line), 27, 30. The image is no file yet: the questions refuse it by 5 until a trace is added. */
 void seg2_start(seg2_length *answer, uint8_t *buffer, size_t size, uint32_t order, uint32_t slots,
-                const uint8_t *sheet, size_t sheet_size);
+                const void *sheet, size_t sheet_size);
+
+/* The room that a start needs: the length that it would answer, without a buffer. Refusals in order: 31, 25, 26 (line by
+ * line), 27. A buffer of that many bytes is enough for seg2_start with the same arguments, and a smaller one is refused
+ * by 30. */
+void seg2_start_size(seg2_length *answer, uint32_t order, uint32_t slots, const void *sheet, size_t sheet_size);
 
 /* Adds a trace of code 1 to 3 behind the file, or new image, that the first `length` bytes are, and answers the new
  * length. Refusals in order: 1 to 17 and 34 for the file, 24, 25, 26 (line by line), 27, 35, 28, 29, 30. */
 void seg2_add_integers(seg2_length *answer, uint8_t *buffer, size_t size, size_t length,
-                       const uint8_t *sheet, size_t sheet_size, uint32_t code, const int32_t *row, size_t row_size);
+                       const void *sheet, size_t sheet_size, uint32_t code, const int32_t *row, size_t row_size);
 
 /* Adds a trace of code 4 or 5 from bit patterns, in the same way and with the same refusals. */
 void seg2_add_bits(seg2_length *answer, uint8_t *buffer, size_t size, size_t length,
-                   const uint8_t *sheet, size_t sheet_size, uint32_t code, const uint64_t *row, size_t row_size);
+                   const void *sheet, size_t sheet_size, uint32_t code, const uint64_t *row, size_t row_size);
+
+/* The room that an addition of `sample_count` samples needs: the new length that it would answer, without room for it and
+ * without the samples. The file stands in the first `length` bytes of the buffer, of which none is changed; `code` is any of
+ * the five. Refusals in order: 1 to 17 and 34 for the file, 24, 25, 26 (line by line), 27, 35, 28 where the code is not 1 to 5
+ * or the count no multiple of 4 under code 3, 30 where the new length is over SEG2_MAXIMUM_LENGTH. With a buffer of that many
+ * bytes, the file in its first ones, the addition is made if each sample is within its code (29). */
+void seg2_add_size(seg2_length *answer, const uint8_t *buffer, size_t size, size_t length, const void *sheet,
+                   size_t sheet_size, uint32_t code, size_t sample_count);
 
 /* ---- the same, with the answer returned */
 
@@ -580,35 +609,35 @@ static inline struct seg2_string seg2_string_of(const uint8_t *buffer, size_t si
 }
 
 static inline struct seg2_keyword seg2_keyword_of(const uint8_t *buffer, size_t size, size_t length, int32_t part,
-                                                  const uint8_t *key, size_t key_size) {
+                                                  const void *key, size_t key_size) {
     struct seg2_keyword answer;
     seg2_keyword(&answer, buffer, size, length, part, key, key_size);
     return answer;
 }
 
 static inline struct seg2_value seg2_value_of(const uint8_t *buffer, size_t size, size_t length, int32_t part,
-                                              const uint8_t *key, size_t key_size) {
+                                              const void *key, size_t key_size) {
     struct seg2_value answer;
     seg2_value(&answer, buffer, size, length, part, key, key_size);
     return answer;
 }
 
 static inline struct seg2_number seg2_number_of(const uint8_t *buffer, size_t size, size_t length, int32_t part,
-                                                const uint8_t *key, size_t key_size) {
+                                                const void *key, size_t key_size) {
     struct seg2_number answer;
     seg2_number(&answer, buffer, size, length, part, key, key_size);
     return answer;
 }
 
 static inline struct seg2_double seg2_double_of(const uint8_t *buffer, size_t size, size_t length, int32_t part,
-                                                const uint8_t *key, size_t key_size) {
+                                                const void *key, size_t key_size) {
     struct seg2_double answer;
     seg2_double(&answer, buffer, size, length, part, key, key_size);
     return answer;
 }
 
 static inline struct seg2_location seg2_location_of(const uint8_t *buffer, size_t size, size_t length, int32_t part,
-                                                    const uint8_t *key, size_t key_size) {
+                                                    const void *key, size_t key_size) {
     struct seg2_location answer;
     seg2_location(&answer, buffer, size, length, part, key, key_size);
     return answer;
@@ -633,35 +662,35 @@ static inline struct seg2_string seg2_quick_string_of(const uint8_t *buffer, siz
 }
 
 static inline struct seg2_keyword seg2_quick_keyword_of(const uint8_t *buffer, size_t size, size_t length, int32_t trace,
-                                                        const uint8_t *key, size_t key_size) {
+                                                        const void *key, size_t key_size) {
     struct seg2_keyword answer;
     seg2_quick_keyword(&answer, buffer, size, length, trace, key, key_size);
     return answer;
 }
 
 static inline struct seg2_value seg2_quick_value_of(const uint8_t *buffer, size_t size, size_t length, int32_t trace,
-                                                    const uint8_t *key, size_t key_size) {
+                                                    const void *key, size_t key_size) {
     struct seg2_value answer;
     seg2_quick_value(&answer, buffer, size, length, trace, key, key_size);
     return answer;
 }
 
 static inline struct seg2_number seg2_quick_number_of(const uint8_t *buffer, size_t size, size_t length, int32_t trace,
-                                                      const uint8_t *key, size_t key_size) {
+                                                      const void *key, size_t key_size) {
     struct seg2_number answer;
     seg2_quick_number(&answer, buffer, size, length, trace, key, key_size);
     return answer;
 }
 
 static inline struct seg2_double seg2_quick_double_of(const uint8_t *buffer, size_t size, size_t length, int32_t trace,
-                                                      const uint8_t *key, size_t key_size) {
+                                                      const void *key, size_t key_size) {
     struct seg2_double answer;
     seg2_quick_double(&answer, buffer, size, length, trace, key, key_size);
     return answer;
 }
 
 static inline struct seg2_location seg2_quick_location_of(const uint8_t *buffer, size_t size, size_t length, int32_t trace,
-                                                          const uint8_t *key, size_t key_size) {
+                                                          const void *key, size_t key_size) {
     struct seg2_location answer;
     seg2_quick_location(&answer, buffer, size, length, trace, key, key_size);
     return answer;
@@ -706,35 +735,35 @@ static inline seg2_lenient_verdict seg2_lenient_strings_of(const uint8_t *buffer
 }
 
 static inline struct seg2_lenient_keyword seg2_lenient_keyword_of(const uint8_t *buffer, size_t size, size_t length,
-                                                                  int32_t part, const uint8_t *key, size_t key_size) {
+                                                                  int32_t part, const void *key, size_t key_size) {
     struct seg2_lenient_keyword answer;
     seg2_lenient_keyword(&answer, buffer, size, length, part, key, key_size);
     return answer;
 }
 
 static inline struct seg2_lenient_value seg2_lenient_value_of(const uint8_t *buffer, size_t size, size_t length, int32_t part,
-                                                              const uint8_t *key, size_t key_size) {
+                                                              const void *key, size_t key_size) {
     struct seg2_lenient_value answer;
     seg2_lenient_value(&answer, buffer, size, length, part, key, key_size);
     return answer;
 }
 
 static inline struct seg2_lenient_number seg2_lenient_number_of(const uint8_t *buffer, size_t size, size_t length, int32_t part,
-                                                                const uint8_t *key, size_t key_size) {
+                                                                const void *key, size_t key_size) {
     struct seg2_lenient_number answer;
     seg2_lenient_number(&answer, buffer, size, length, part, key, key_size);
     return answer;
 }
 
 static inline struct seg2_lenient_double seg2_lenient_double_of(const uint8_t *buffer, size_t size, size_t length, int32_t part,
-                                                                const uint8_t *key, size_t key_size) {
+                                                                const void *key, size_t key_size) {
     struct seg2_lenient_double answer;
     seg2_lenient_double(&answer, buffer, size, length, part, key, key_size);
     return answer;
 }
 
 static inline struct seg2_lenient_location seg2_lenient_location_of(const uint8_t *buffer, size_t size, size_t length,
-                                                                    int32_t part, const uint8_t *key, size_t key_size) {
+                                                                    int32_t part, const void *key, size_t key_size) {
     struct seg2_lenient_location answer;
     seg2_lenient_location(&answer, buffer, size, length, part, key, key_size);
     return answer;
@@ -754,13 +783,13 @@ static inline seg2_lenient_verdict seg2_lenient_bits_of(const uint8_t *buffer, s
     return answer;
 }
 
-static inline struct seg2_number seg2_read_number_of(const uint8_t *text, size_t size) {
+static inline struct seg2_number seg2_read_number_of(const void *text, size_t size) {
     struct seg2_number answer;
     seg2_read_number(&answer, text, size);
     return answer;
 }
 
-static inline seg2_length seg2_write_number_of(uint8_t *text, size_t size, uint32_t minus, uint64_t coefficient,
+static inline seg2_length seg2_write_number_of(void *text, size_t size, uint32_t minus, uint64_t coefficient,
                                                int32_t power, uint32_t decimals) {
     seg2_length answer;
     seg2_write_number(&answer, text, size, minus, coefficient, power, decimals);
@@ -768,27 +797,46 @@ static inline seg2_length seg2_write_number_of(uint8_t *text, size_t size, uint3
 }
 
 static inline seg2_length seg2_start_of(uint8_t *buffer, size_t size, uint32_t order, uint32_t slots,
-                                        const uint8_t *sheet, size_t sheet_size) {
+                                        const void *sheet, size_t sheet_size) {
     seg2_length answer;
     seg2_start(&answer, buffer, size, order, slots, sheet, sheet_size);
     return answer;
 }
 
-static inline seg2_length seg2_add_integers_of(uint8_t *buffer, size_t size, size_t length, const uint8_t *sheet,
+static inline seg2_length seg2_start_size_of(uint32_t order, uint32_t slots, const void *sheet, size_t sheet_size) {
+    seg2_length answer;
+    seg2_start_size(&answer, order, slots, sheet, sheet_size);
+    return answer;
+}
+
+static inline seg2_length seg2_add_integers_of(uint8_t *buffer, size_t size, size_t length, const void *sheet,
                                                size_t sheet_size, uint32_t code, const int32_t *row, size_t row_size) {
     seg2_length answer;
     seg2_add_integers(&answer, buffer, size, length, sheet, sheet_size, code, row, row_size);
     return answer;
 }
 
-static inline seg2_length seg2_add_bits_of(uint8_t *buffer, size_t size, size_t length, const uint8_t *sheet,
+static inline seg2_length seg2_add_bits_of(uint8_t *buffer, size_t size, size_t length, const void *sheet,
                                            size_t sheet_size, uint32_t code, const uint64_t *row, size_t row_size) {
     seg2_length answer;
     seg2_add_bits(&answer, buffer, size, length, sheet, sheet_size, code, row, row_size);
     return answer;
 }
 
+static inline seg2_length seg2_add_size_of(const uint8_t *buffer, size_t size, size_t length, const void *sheet,
+                                           size_t sheet_size, uint32_t code, size_t sample_count) {
+    seg2_length answer;
+    seg2_add_size(&answer, buffer, size, length, sheet, sheet_size, code, sample_count);
+    return answer;
+}
+
 /* ---- words */
+
+/* The buffer's bytes from a place on, as C's functions for text take them: a keyword or a value, with its length beside it,
+ * as in printf("%.*s", (int)value.value_length, seg2_chars(buffer, value.value_start)). No 0 ends them. */
+static inline const char *seg2_chars(const uint8_t *buffer, size_t start) {
+    return (const char *)buffer + start;
+}
 
 /* A row of the table in words for a crew; never null. Rust's `text` and Java's `text()` have the same. */
 static inline const char *seg2_text(uint32_t number) {

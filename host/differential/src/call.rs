@@ -49,8 +49,10 @@ pub enum Call {
     ReadNumber,
     WriteNumber(Forged),
     Start { order: u32, slots: u32 },
+    StartSize { order: u32, slots: u32 },
     AddIntegers { code: u32 },
     AddBits { code: u32 },
+    AddSize { code: u32, count: usize },
 }
 
 /// A number as it is given to be written: any values, also such as no text gives.
@@ -107,8 +109,10 @@ impl Call {
             Call::ReadNumber => "read_number",
             Call::WriteNumber(_) => "write_number",
             Call::Start { .. } => "start",
+            Call::StartSize { .. } => "start_size",
             Call::AddIntegers { .. } => "add_integers",
             Call::AddBits { .. } => "add_bits",
+            Call::AddSize { .. } => "add_size",
         }
     }
 }
@@ -435,6 +439,12 @@ impl Archive {
                 }),
                 Call::Start { order, slots } => answered(beside, |answer| {
                     raw::seg2_start(answer, buffer, size, order, slots, sheet, lines)
+                }),
+                Call::StartSize { order, slots } => answered(beside, |answer| {
+                    raw::seg2_start_size(answer, order, slots, sheet, lines)
+                }),
+                Call::AddSize { code, count } => answered(beside, |answer| {
+                    raw::seg2_add_size(answer, buffer, size, length, sheet, lines, code, count)
                 }),
                 Call::AddIntegers { code } => answered(beside, |answer| {
                     raw::seg2_add_integers(

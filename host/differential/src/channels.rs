@@ -232,8 +232,10 @@ impl Library for Rule {
         }
         let mut memory = lent.contents();
         let answer = match call {
-            Call::AddIntegers { .. } | Call::AddBits { .. } => self.add(call, length, &mut memory),
-            Call::Start { .. } => self.start(call, &mut memory),
+            Call::AddIntegers { .. } | Call::AddBits { .. } | Call::AddSize { .. } => {
+                self.add(call, length, &mut memory)
+            }
+            Call::Start { .. } | Call::StartSize { .. } => self.start(call, &mut memory),
             Call::ReadNumber | Call::WriteNumber(_) => expected(call, length, &mut memory),
             // It reads one trace: no channel number stands beside another (document 02, §5).
             quick if quick.name().starts_with("quick") => expected(call, length, &mut memory),

@@ -156,6 +156,14 @@ fn by_itself(call: Call, length: usize, memory: &mut Memory) -> Answer {
             reference::start(buffer, order, slots.into(), sheet),
             new_length,
         ),
+        Call::StartSize { order, slots } => told(
+            reference::start_size(order, slots.into(), sheet),
+            new_length,
+        ),
+        Call::AddSize { code, count } => told(
+            reference::add_size(buffer, length, sheet, narrow(code), count),
+            new_length,
+        ),
         Call::AddIntegers { code } => told(
             reference::add_integers(buffer, length, sheet, narrow(code), integers),
             new_length,

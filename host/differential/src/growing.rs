@@ -69,17 +69,58 @@ pub fn grow(
     Ok(())
 }
 
-/// One start on both sides. It is given no length.
+/// One start on both sides, its room first. It is given no length.
 pub fn start(pair: &mut Pair, given: &Start) -> Result<Answer, Difference> {
     pair.lend_sheet(&given.sheet);
     let (order, slots) = (given.order, given.slots);
-    pair.ask(0, Call::Start { order, slots })
+    let room = pair.ask(0, Call::StartSize { order, slots })?;
+    let call = Call::Start { order, slots };
+    let answer = pair.ask(0, call)?;
+    then_room(pair, 0, call, room, answer)?;
+    Ok(answer)
 }
 
-/// One addition on both sides.
+/// A call is the question for its room and then row 30: said of the answers alone, beside
+/// the reference's own. Samples that their entry does not take (28, 29) are not known to
+/// the question.
+fn then_room(
+    pair: &Pair,
+    length: usize,
+    call: Call,
+    room: Answer,
+    answer: Answer,
+) -> Result<(), Difference> {
+    let enough = room.values[0] as usize <= pair.memory().buffer.len();
+    let alike = match (room.number, answer.number) {
+        (_, 28 | 29) => room.number == 0 || [28, 30].contains(&room.number),
+        (0, 0) => enough && room == answer,
+        (0, 30) => !enough,
+        _ => room == answer,
+    };
+    match alike {
+        true => Ok(()),
+        false => Err(pair.differs(length, call, format!("{answer:?} behind the room {room:?}"))),
+    }
+}
+
+/// The room of an addition on both sides: of its own samples, and of as many as a number
+/// may say.
+fn ask_room(pair: &mut Pair, length: usize, code: u32, count: usize) -> Result<Answer, Difference> {
+    let many = usize::MAX >> (length % 64);
+    for count in [many, many & !3, count + (1 << 32)] {
+        pair.ask(length, Call::AddSize { code, count })?;
+    }
+    pair.ask(length, Call::AddSize { code, count })
+}
+
+/// One addition on both sides, its room first.
 pub fn add(pair: &mut Pair, length: usize, given: &Given) -> Result<(Answer, Call), Difference> {
     pair.lend_sheet(&given.sheet);
     let code = given.code;
+    let room = match &given.row {
+        Row::Integers(row) => ask_room(pair, length, code, row.len())?,
+        Row::Bits(row) => ask_room(pair, length, code, row.len())?,
+    };
     let call = match &given.row {
         Row::Integers(row) => {
             pair.lend_integers(row);
@@ -90,7 +131,9 @@ pub fn add(pair: &mut Pair, length: usize, given: &Given) -> Result<(Answer, Cal
             Call::AddBits { code }
         }
     };
-    Ok((pair.ask(length, call)?, call))
+    let answer = pair.ask(length, call)?;
+    then_room(pair, length, call, room, answer)?;
+    Ok((answer, call))
 }
 
 /// The image is the file that the start and the list of additions so far define.

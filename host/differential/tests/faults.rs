@@ -40,7 +40,7 @@ fn each_fault_is_noticed() {
     let classes: Piece = Fault::Classes;
     let strings: Piece = Fault::Strings;
     let text: Piece = Fault::Text;
-    let functions: [(&str, usize, &[Piece]); 42] = [
+    let functions: [(&str, usize, &[Piece]); 44] = [
         ("check", 0, &[buffer]),
         ("file_block", 5, &[buffer]),
         ("trace_block", 5, &[buffer]),
@@ -81,8 +81,10 @@ fn each_fault_is_noticed() {
         ("read_number", 4, &[text]),
         ("write_number", 1, &[text]),
         ("start", 1, &[buffer, sheet]),
+        ("start_size", 1, &[sheet]),
         ("add_integers", 1, &[buffer, sheet, integers]),
         ("add_bits", 1, &[buffer, sheet, patterns]),
+        ("add_size", 1, &[buffer, sheet]),
     ];
     let cases = cases();
     for case in &cases {
@@ -102,8 +104,8 @@ fn each_fault_is_noticed() {
         if lenient {
             faults.extend([Fault::StrictNumber, Fault::StrictPart, Fault::StrictPlace]);
         }
-        let writes = fills || matches!(function, "start" | "write_number");
-        if writes || function.starts_with("add") {
+        let writers = ["start", "write_number", "add_integers", "add_bits"];
+        if fills || writers.contains(&function) {
             faults.push(Fault::Nothing);
         }
         for fault in faults {

@@ -2,8 +2,10 @@
 //! after it, and what stands around the buffer.
 
 use seg2_differential::case::Given;
+use seg2_differential::draw::rng_of;
 use seg2_differential::growing::add;
-use seg2_differential::{all_alike, draw, Answer, Archive, Call, Pair};
+use seg2_differential::lent::Lent;
+use seg2_differential::{all_alike, draw, Answer, Archive, Call, Case, Library, Pair};
 use seg2_reference::{file_of, is_of_check, Row, TraceGiven, ALL};
 
 #[test]
@@ -114,4 +116,87 @@ fn every_slot() {
     let last = Call::Integers { trace: traces };
     assert_eq!(pair.ask(length, last), Ok(Answer::good([])));
     assert_eq!(pair.memory().integers, [traces]);
+}
+
+/// The archive, but the room is asked for in another way.
+struct Roomy(fn(Call, usize, &mut Lent) -> Answer);
+
+impl Library for Roomy {
+    fn call(&self, call: Call, length: usize, lent: &mut Lent) -> Answer {
+        match call {
+            Call::StartSize { .. } | Call::AddSize { .. } => (self.0)(call, length, lent),
+            _ => Archive.call(call, length, lent),
+        }
+    }
+}
+
+/// The call with another number of samples or slots.
+fn counted(call: Call, change: impl Fn(usize) -> usize) -> Call {
+    match call {
+        Call::AddSize { code, count } => Call::AddSize {
+            code,
+            count: change(count),
+        },
+        Call::StartSize { order, slots } => Call::StartSize {
+            order,
+            slots: change(slots as usize) as u32,
+        },
+        other => other,
+    }
+}
+
+/// What a host would be told wrong of the room that it needs.
+#[test]
+fn another_room_is_noticed() {
+    let wrong: [(&str, fn(Call, usize, &mut Lent) -> Answer); 8] = [
+        ("room that has to be there", |call, length, lent| {
+            let room = lent.contents().buffer.len();
+            match Archive.call(call, length, lent) {
+                answer if answer.values[0] as usize > room => Answer::refused(30, -1, 0),
+                answer => answer,
+            }
+        }),
+        ("one sample or slot more", |call, length, lent| {
+            Archive.call(counted(call, |n| n.saturating_add(1)), length, lent)
+        }),
+        ("no samples", |call, length, lent| {
+            Archive.call(counted(call, |n| n.min(1)), length, lent)
+        }),
+        ("a count of 32 bits", |call, length, lent| {
+            Archive.call(counted(call, |n| n as u32 as usize), length, lent)
+        }),
+        ("whole groups alone", |call, length, lent| {
+            Archive.call(counted(call, |n| n & !3), length, lent)
+        }),
+        ("a sheet without lines", |call, length, lent| {
+            let memory = lent.contents();
+            lent.sheet.lend(b"");
+            let answer = Archive.call(call, length, lent);
+            lent.sheet.lend(&memory.sheet);
+            answer
+        }),
+        (
+            "a file that is not checked",
+            |call, length, lent| match Archive.call(call, length, lent) {
+                answer if is_of_check(answer.number as u8) => Answer::good([length as u64]),
+                answer => answer,
+            },
+        ),
+        ("the trace without the file", |call, length, lent| {
+            let mut answer = Archive.call(call, length, lent);
+            answer.values[0] = answer.values[0].saturating_sub(length as u64);
+            answer
+        }),
+    ];
+    let draws = [draw::started, draw::added, draw::added_to_broken];
+    let cases: Vec<Case> = (0..400)
+        .flat_map(|i| draws.map(|draw| draw(&mut rng_of(307, i))))
+        .collect();
+    for case in &cases {
+        assert_eq!(case.compare(&Archive).err(), None);
+    }
+    for (what, call) in wrong {
+        let noticed = cases.iter().any(|case| case.compare(&Roomy(call)).is_err());
+        assert!(noticed, "{what}");
+    }
 }

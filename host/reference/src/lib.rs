@@ -53,4 +53,6 @@ pub use quick::{
 pub use refusal::{is_of_check, Refusal, ALL};
 pub use strings::{Manner, StringPlace};
 pub use words::Order;
-pub use write::{add, add_bits, add_integers, file_of, start, Row, TraceGiven};
+pub use write::{
+    add, add_bits, add_integers, add_size, file_of, start, start_size, Row, TraceGiven,
+};

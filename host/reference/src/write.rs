@@ -37,6 +37,39 @@ pub fn start(buffer: &mut [u8], order: u32, slots: u64, sheet: &[u8]) -> Result<
     Ok(image.len())
 }
 
+/// The length that the file of a start would have: rows 31, 25, 26, 27.
+pub fn start_size(order: u32, slots: u64, sheet: &[u8]) -> Result<usize, Refusal> {
+    Ok(start_image(order, slots, sheet)?.len())
+}
+
+/// The length that the image would have after an addition of so many samples: the file's
+/// check, then 24 to 27, 35, 28 for a code that is none or a count that it cannot have, and
+/// 30 for the maximum.
+pub fn add_size(
+    buffer: &[u8],
+    length: usize,
+    sheet: &[u8],
+    code: u8,
+    count: usize,
+) -> Result<usize, Refusal> {
+    let file = check_for_addition(buffer, length)?;
+    refuse_if(file.n >= file.m / 4, Refusal::file(24, 0))?;
+    let area = area_of(sheet, file.order, &terminators_of(&file))?;
+    judge_sheet(sheet, traces_have_channels(&file, buffer))?;
+    // in so many bits no count is too large for the sums
+    let count = count as u128;
+    let data = match code {
+        1 => 2 * count,
+        2 | 4 => 4 * count,
+        3 if count % 4 == 0 => count / 4 * 10,
+        5 => 8 * count,
+        _ => return Err(Refusal::file(28, 0)),
+    };
+    let end = (round_up_4(length) + 32 + area.len()) as u128 + data.div_ceil(4) * 4;
+    refuse_if(end > MAXIMUM_LENGTH as u128, Refusal::file(30, 0))?;
+    Ok(end as usize)
+}
+
 /// Adds a trace of code 1, 2 or 3 to the image of the given length and answers
 /// the new length: the file's check, then 24 to 27, 35, 28 to 30.
 pub fn add_integers(

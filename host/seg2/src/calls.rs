@@ -214,6 +214,27 @@ pub fn start(buffer: &mut [u8], order: u32, slots: u32, sheet: &[u8]) -> raw::Le
     answered(|a| unsafe { raw::seg2_start(a, image, size, order, slots, text, text_size) })
 }
 
+pub fn start_size(order: u32, slots: u32, sheet: &[u8]) -> raw::Length {
+    let (text, text_size) = (sheet.as_ptr(), sheet.len());
+    // SAFETY: a place for the answer; pointer and size of one slice
+    answered(|a| unsafe { raw::seg2_start_size(a, order, slots, text, text_size) })
+}
+
+pub fn add_size(
+    buffer: &[u8],
+    length: usize,
+    sheet: &[u8],
+    code: u32,
+    count: usize,
+) -> raw::Length {
+    let (image, size) = (buffer.as_ptr(), buffer.len());
+    let (text, text_size) = (sheet.as_ptr(), sheet.len());
+    // SAFETY: a place for the answer; pointer and size of two slices
+    answered(|a| unsafe {
+        raw::seg2_add_size(a, image, size, length, text, text_size, code, count)
+    })
+}
+
 /// The two additions differ in their samples alone.
 macro_rules! addition {
     ($name:ident, $exported:ident, $sample:ty) => {

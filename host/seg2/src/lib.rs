@@ -66,7 +66,7 @@ pub use part::{Lines, Pair, Strings};
 pub use quick::Quick;
 pub use refusal::{numbers, text, LenientRefusal, Place, Refusal};
 pub use trace::{Bits, Block, Class, Trace};
-pub use write::{add_bits, add_integers, start, Builder};
+pub use write::{add_bits, add_integers, add_size, start, start_size, Builder};
 
 /// A file is at most this many bytes long.
 ///

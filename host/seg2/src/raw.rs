@@ -146,6 +146,8 @@ extern "C" {
     pub fn seg2_read_number(answer: *mut Number, text: *const u8, size: usize);
     pub fn seg2_write_number(answer: *mut Length, text: *mut u8, size: usize, minus: u32, coefficient: u64, power: i32, decimals: u32);
     pub fn seg2_start(answer: *mut Length, buffer: *mut u8, size: usize, order: u32, slots: u32, sheet: *const u8, sheet_size: usize);
+    pub fn seg2_start_size(answer: *mut Length, order: u32, slots: u32, sheet: *const u8, sheet_size: usize);
     pub fn seg2_add_integers(answer: *mut Length, buffer: *mut u8, size: usize, length: usize, sheet: *const u8, sheet_size: usize, code: u32, row: *const i32, row_size: usize);
     pub fn seg2_add_bits(answer: *mut Length, buffer: *mut u8, size: usize, length: usize, sheet: *const u8, sheet_size: usize, code: u32, row: *const u64, row_size: usize);
+    pub fn seg2_add_size(answer: *mut Length, buffer: *const u8, size: usize, length: usize, sheet: *const u8, sheet_size: usize, code: u32, sample_count: usize);
 }

@@ -24,11 +24,30 @@ use crate::{calls, Order, Refusal, MAXIMUM_AREA, MAXIMUM_LENGTH};
 /// # Ok::<(), seg2::Refusal>(())
 /// ```
 pub fn start(buffer: &mut [u8], order: Order, slots: u32, sheet: &[u8]) -> Result<usize, Refusal> {
-    let order = match order {
+    let answer = calls::start(buffer, number_of(order), slots, sheet).told()?;
+    Ok(answer.length)
+}
+
+fn number_of(order: Order) -> u32 {
+    match order {
         Order::Low => 0,
         Order::High => 1,
-    };
-    Ok(calls::start(buffer, order, slots, sheet).told()?.length)
+    }
+}
+
+/// The room that a start needs: the length that [`start`] would answer, without a buffer.
+/// Refusals in order: 31, 25, 26 (line by line), 27.
+///
+/// ```
+/// let room = seg2::start_size(seg2::Order::Low, 1, b"UNITS\tMETERS\n")?;
+/// let mut buffer = vec![0; room];
+/// assert_eq!(seg2::start(&mut buffer, seg2::Order::Low, 1, b"UNITS\tMETERS\n")?, room);
+/// assert_eq!(seg2::start_size(seg2::Order::Low, 0, b"").unwrap_err().number, 31);
+/// # Ok::<(), seg2::Refusal>(())
+/// ```
+pub fn start_size(order: Order, slots: u32, sheet: &[u8]) -> Result<usize, Refusal> {
+    let answer = calls::start_size(number_of(order), slots, sheet).told()?;
+    Ok(answer.length)
 }
 
 /// Adds a trace of code 1 to 3 behind the file, or new image, that the buffer's first
@@ -74,6 +93,31 @@ pub fn add_bits(
     Ok(answer.length)
 }
 
+/// The room that an addition of `count` samples needs: the length that the file, or new
+/// image, in the buffer's first `length` bytes would have, without room for it and without
+/// the samples. Any of the five codes. Refusals in order: 1 to 17 and 34 for the file, 24,
+/// 25, 26 (line by line), 27, 35, 28, and 30 where the file would be longer than
+/// [`MAXIMUM_LENGTH`].
+///
+/// ```
+/// let mut buffer = vec![0; seg2::start_size(seg2::Order::Low, 1, b"")?];
+/// let length = seg2::start(&mut buffer, seg2::Order::Low, 1, b"")?;
+/// let room = seg2::add_size(&buffer, length, b"STACK\t1\n", 1, 3)?;
+/// buffer.resize(room, 0);
+/// assert_eq!(seg2::add_integers(&mut buffer, length, b"STACK\t1\n", 1, &[1, -1, 256])?, room);
+/// # Ok::<(), seg2::Refusal>(())
+/// ```
+pub fn add_size(
+    buffer: &[u8],
+    length: usize,
+    sheet: &[u8],
+    code: u32,
+    count: usize,
+) -> Result<usize, Refusal> {
+    let answer = calls::add_size(buffer, length, sheet, code, count).told()?;
+    Ok(answer.length)
+}
+
 /// A file under construction that owns its bytes and grows as traces are added, up to
 /// [`MAXIMUM_LENGTH`]. A refusal leaves it as it was.
 ///
@@ -101,11 +145,8 @@ impl Builder {
     /// assert_eq!(refusal.to_string(), "refused (25) at byte 0 of the sheet: a line of the sheet is not a keyword, a tab and a value");
     /// ```
     pub fn start(order: Order, slots: u32, sheet: &[u8]) -> Result<Builder, Refusal> {
-        // 16 bits count the bytes of a pointer room; more slots are refused before any is written
-        let room = 32 + 4 * (slots as usize).min(1 << 14) + area_at_most(sheet);
-        let mut image = vec![0; room];
-        let length = start(&mut image, order, slots, sheet)?;
-        image.truncate(length);
+        let mut image = vec![0; start_size(order, slots, sheet)?];
+        start(&mut image, order, slots, sheet)?;
         Ok(Builder { image })
     }
 
@@ -183,7 +224,8 @@ impl Builder {
 
     /// Lends the bytes with room for one more trace behind them, then cuts them to the new
     /// length, or to the old one after a refusal. `data` is at least what the samples need,
-    /// but for rounding up: no code needs more bytes than a row of its samples has.
+    /// but for rounding up: no code needs more bytes than a row of its samples has. The exact
+    /// room is [`add_size`]'s, which checks the file once more.
     fn grow(
         &mut self,
         sheet: &[u8],

@@ -11,11 +11,6 @@ typedef char a_verdict_has_16_bytes[sizeof(seg2_verdict) == 16 ? 1 : -1];
 static uint8_t buffer[400];
 static uint8_t before[400];
 
-/* A text as the library takes it. */
-static const uint8_t *bytes(const char *text) {
-    return (const uint8_t *)text;
-}
-
 /* Number, part and place, as every answer begins. */
 static void refusal(const char *what, uint32_t number, int32_t part, size_t place) {
     printf("%s: %u %d %lu", what, (unsigned)number, (int)part, (unsigned long)place);
@@ -50,8 +45,8 @@ static void told_count(const char *what, seg2_count a) {
 
 static void told_string(const char *what, struct seg2_string a) {
     refusal(what, a.number, a.part, a.place);
-    printf(" found %u '%.*s' '%.*s'\n", (unsigned)a.found, (int)a.key_length, (const char *)buffer + a.key_start, (int)a.value_length,
-           (const char *)buffer + a.value_start);
+    printf(" found %u '%.*s' '%.*s'\n", (unsigned)a.found, (int)a.key_length, seg2_chars(buffer, a.key_start), (int)a.value_length,
+           seg2_chars(buffer, a.value_start));
 }
 
 static void told_double(const char *what, struct seg2_double a) {
@@ -113,26 +108,26 @@ static void ask(size_t length) {
     told_verdict("strings", seg2_strings(buffer, size, length, -1, places, 4));
     told_places(places);
 
-    seg2_keyword(&keyword, buffer, size, length, 0, bytes("STACK"), 5);
+    seg2_keyword(&keyword, buffer, size, length, 0, SEG2_LITERAL("STACK"));
     refusal("keyword", keyword.number, keyword.part, keyword.place);
     printf(" found %u\n", (unsigned)keyword.found);
 
     /* no bytes at all are asked for, and the pointer is still not null */
-    keyword = seg2_keyword_of(buffer, size, length, 0, bytes(""), 0);
+    keyword = seg2_keyword_of(buffer, size, length, 0, SEG2_LITERAL(""));
     refusal("no keyword", keyword.number, keyword.part, keyword.place);
     printf(" found %u\n", (unsigned)keyword.found);
 
-    seg2_value(&value, buffer, size, length, -1, bytes("UNITS"), 5);
+    seg2_value(&value, buffer, size, length, -1, SEG2_LITERAL("UNITS"));
     refusal("value", value.number, value.part, value.place);
-    printf(" '%.*s' at %lu\n", (int)value.value_length, (const char *)buffer + value.value_start, (unsigned long)value.value_start);
+    printf(" '%.*s' at %lu\n", (int)value.value_length, seg2_chars(buffer, value.value_start), (unsigned long)value.value_start);
 
-    seg2_number(&number, buffer, size, length, 0, bytes("STACK"), 5);
+    seg2_number(&number, buffer, size, length, 0, SEG2_LITERAL("STACK"));
     told_number("number", number);
 
-    seg2_double(&twice, buffer, size, length, 0, bytes("STACK"), 5);
+    seg2_double(&twice, buffer, size, length, 0, SEG2_LITERAL("STACK"));
     told_double("double", twice);
 
-    seg2_location(&location, buffer, size, length, 0, bytes("STACK"), 5);
+    seg2_location(&location, buffer, size, length, 0, SEG2_LITERAL("STACK"));
     told_location("location", location);
 
     told_verdict("integers", seg2_integers(buffer, size, length, 0, row, 3));
@@ -147,14 +142,14 @@ static void ask_wrongly(size_t length) {
     uint8_t classes[3] = {7, 7, 7};
     size_t places[8] = {7, 7, 7, 7, 7, 7, 7, 7};
     struct seg2_value value;
-    struct seg2_number number = seg2_number_of(buffer, size, length, -1, bytes("UNITS"), 5);
-    struct seg2_double twice = seg2_double_of(buffer, size, length, -1, bytes("UNITS"), 5);
-    struct seg2_location location = seg2_location_of(buffer, size, length, 0, bytes("MISSING"), 7);
+    struct seg2_number number = seg2_number_of(buffer, size, length, -1, SEG2_LITERAL("UNITS"));
+    struct seg2_double twice = seg2_double_of(buffer, size, length, -1, SEG2_LITERAL("UNITS"));
+    struct seg2_location location = seg2_location_of(buffer, size, length, 0, SEG2_LITERAL("MISSING"));
     seg2_trace trace = seg2_trace_block_of(buffer, size, length, -1);
     seg2_count count = seg2_string_count_of(buffer, size, length, 1);
     seg2_file file = seg2_file_block_of(buffer, size, size + 1);
 
-    value = seg2_value_of(buffer, size, length, -2, bytes("UNITS"), 5);
+    value = seg2_value_of(buffer, size, length, -2, SEG2_LITERAL("UNITS"));
     refusal("value of no part", value.number, value.part, value.place);
     printf(" at %lu length %lu\n", (unsigned long)value.value_start, (unsigned long)value.value_length);
     refusal("no number", number.number, number.part, number.place);
@@ -175,9 +170,9 @@ static void ask_wrongly(size_t length) {
 }
 
 static void told_quickly(const char *what, size_t length, int32_t trace, const char *key) {
-    struct seg2_value value = seg2_quick_value_of(buffer, sizeof buffer, length, trace, bytes(key), strlen(key));
+    struct seg2_value value = seg2_quick_value_of(buffer, sizeof buffer, length, trace, key, strlen(key));
     refusal(what, value.number, value.part, value.place);
-    printf(" '%.*s' at %lu\n", (int)value.value_length, (const char *)buffer + value.value_start, (unsigned long)value.value_start);
+    printf(" '%.*s' at %lu\n", (int)value.value_length, seg2_chars(buffer, value.value_start), (unsigned long)value.value_start);
 }
 
 /* Every quick question on a trace of integers with the one string STACK, each answer written to its place. */
@@ -202,17 +197,17 @@ static void quickly_all(size_t length, int32_t of) {
     told_string("quick string", string);
     told_verdict("quick strings", seg2_quick_strings(buffer, size, length, of, places, 4));
     told_places(places);
-    seg2_quick_keyword(&keyword, buffer, size, length, of, bytes("STACK"), 5);
+    seg2_quick_keyword(&keyword, buffer, size, length, of, SEG2_LITERAL("STACK"));
     refusal("quick keyword", keyword.number, keyword.part, keyword.place);
     printf(" found %u\n", (unsigned)keyword.found);
-    seg2_quick_value(&value, buffer, size, length, of, bytes("STACK"), 5);
+    seg2_quick_value(&value, buffer, size, length, of, SEG2_LITERAL("STACK"));
     refusal("quick value", value.number, value.part, value.place);
-    printf(" '%.*s' at %lu\n", (int)value.value_length, (const char *)buffer + value.value_start, (unsigned long)value.value_start);
-    seg2_quick_number(&number, buffer, size, length, of, bytes("STACK"), 5);
+    printf(" '%.*s' at %lu\n", (int)value.value_length, seg2_chars(buffer, value.value_start), (unsigned long)value.value_start);
+    seg2_quick_number(&number, buffer, size, length, of, SEG2_LITERAL("STACK"));
     told_number("quick number", number);
-    seg2_quick_double(&twice, buffer, size, length, of, bytes("STACK"), 5);
+    seg2_quick_double(&twice, buffer, size, length, of, SEG2_LITERAL("STACK"));
     told_double("quick double", twice);
-    seg2_quick_location(&location, buffer, size, length, of, bytes("STACK"), 5);
+    seg2_quick_location(&location, buffer, size, length, of, SEG2_LITERAL("STACK"));
     told_location("quick location", location);
     told_verdict("quick integers", seg2_quick_integers(buffer, size, length, of, row, 3));
     printf("row %d %d %d\n", (int)row[0], (int)row[1], (int)row[2]);
@@ -229,7 +224,7 @@ static void quickly(size_t length) {
 
     quickly_all(length, 0);
     quickly_all(length, 1);
-    keyword = seg2_quick_keyword_of(buffer, size, length, 0, bytes(""), 0);
+    keyword = seg2_quick_keyword_of(buffer, size, length, 0, SEG2_LITERAL(""));
     refusal("no quick keyword", keyword.number, keyword.part, keyword.place);
     printf(" found %u\n", (unsigned)keyword.found);
     told_quickly("a quick no", length, 0, "DELAY");
@@ -238,9 +233,9 @@ static void quickly(size_t length) {
     told_trace("quick block of trace -1", seg2_quick_trace_block_of(buffer, size, length, -1));
     told_count("quick count of trace -1", seg2_quick_string_count_of(buffer, size, length, -1));
     told_string("quick string past the last", seg2_quick_string_of(buffer, size, length, 0, 1));
-    told_number("no quick number", seg2_quick_number_of(buffer, size, length, 0, bytes("DELAY"), 5));
-    told_double("no quick double", seg2_quick_double_of(buffer, size, length, 0, bytes("DELAY"), 5));
-    told_location("no quick location", seg2_quick_location_of(buffer, size, length, 0, bytes("DELAY"), 5));
+    told_number("no quick number", seg2_quick_number_of(buffer, size, length, 0, SEG2_LITERAL("DELAY")));
+    told_double("no quick double", seg2_quick_double_of(buffer, size, length, 0, SEG2_LITERAL("DELAY")));
+    told_location("no quick location", seg2_quick_location_of(buffer, size, length, 0, SEG2_LITERAL("DELAY")));
     told_verdict("a quick row of 4", seg2_quick_integers(buffer, size, length, 0, row, 4));
     told_verdict("quick bits of code 1", seg2_quick_bits(buffer, size, length, 0, patterns, 3, classes, 3));
     told_verdict("5 quick places", seg2_quick_strings(buffer, size, length, 0, places, 5));
@@ -304,22 +299,22 @@ static void leniently_all(size_t length) {
     told_verdict("lenient strings", verdict.answer);
     told_places(places);
     told_places(places + 4);
-    seg2_lenient_keyword(&keyword, buffer, size, length, 0, bytes("STACK"), 5);
+    seg2_lenient_keyword(&keyword, buffer, size, length, 0, SEG2_LITERAL("STACK"));
     strictly(keyword.strict);
     refusal("lenient keyword", keyword.answer.number, keyword.answer.part, keyword.answer.place);
     printf(" found %u\n", (unsigned)keyword.answer.found);
-    seg2_lenient_value(&value, buffer, size, length, 0, bytes("STACK"), 5);
+    seg2_lenient_value(&value, buffer, size, length, 0, SEG2_LITERAL("STACK"));
     strictly(value.strict);
     refusal("lenient value", value.answer.number, value.answer.part, value.answer.place);
-    printf(" '%.*s' at %lu\n", (int)value.answer.value_length, (const char *)buffer + value.answer.value_start,
+    printf(" '%.*s' at %lu\n", (int)value.answer.value_length, seg2_chars(buffer, value.answer.value_start),
            (unsigned long)value.answer.value_start);
-    seg2_lenient_number(&number, buffer, size, length, 0, bytes("STACK"), 5);
+    seg2_lenient_number(&number, buffer, size, length, 0, SEG2_LITERAL("STACK"));
     strictly(number.strict);
     told_number("lenient number", number.answer);
-    seg2_lenient_double(&twice, buffer, size, length, 0, bytes("STACK"), 5);
+    seg2_lenient_double(&twice, buffer, size, length, 0, SEG2_LITERAL("STACK"));
     strictly(twice.strict);
     told_double("lenient double", twice.answer);
-    seg2_lenient_location(&location, buffer, size, length, 0, bytes("STACK"), 5);
+    seg2_lenient_location(&location, buffer, size, length, 0, SEG2_LITERAL("STACK"));
     strictly(location.strict);
     told_location("lenient location", location.answer);
     seg2_lenient_integers(&verdict, buffer, size, length, 0, row, 3);
@@ -346,12 +341,12 @@ static void leniently_wrongly(size_t length) {
     told_count("lenient count of trace 1", seg2_lenient_string_count_of(buffer, size, length, 1).answer);
     told_string("lenient string past the last", seg2_lenient_string_of(buffer, size, length, 0, 2).answer);
     told_verdict("7 lenient places", seg2_lenient_strings_of(buffer, size, length, 0, places, 7).answer);
-    printf("no lenient keyword: %u\n", (unsigned)seg2_lenient_keyword_of(buffer, size, length, 0, bytes(""), 0).answer.found);
-    printf("asked in small letters: %u\n", (unsigned)seg2_lenient_keyword_of(buffer, size, length, 0, bytes("stack"), 5).answer.found);
-    printf("no lenient value: %lu\n", (unsigned long)seg2_lenient_value_of(buffer, size, length, -1, bytes("STACK"), 5).answer.value_start);
-    told_number("no lenient number", seg2_lenient_number_of(buffer, size, length, -1, bytes("UNITS"), 5).answer);
-    told_double("no lenient double", seg2_lenient_double_of(buffer, size, length, -1, bytes("STACK"), 5).answer);
-    told_location("no lenient location", seg2_lenient_location_of(buffer, size, length, 0, bytes("UNITS"), 5).answer);
+    printf("no lenient keyword: %u\n", (unsigned)seg2_lenient_keyword_of(buffer, size, length, 0, SEG2_LITERAL("")).answer.found);
+    printf("asked in small letters: %u\n", (unsigned)seg2_lenient_keyword_of(buffer, size, length, 0, SEG2_LITERAL("stack")).answer.found);
+    printf("no lenient value: %lu\n", (unsigned long)seg2_lenient_value_of(buffer, size, length, -1, SEG2_LITERAL("STACK")).answer.value_start);
+    told_number("no lenient number", seg2_lenient_number_of(buffer, size, length, -1, SEG2_LITERAL("UNITS")).answer);
+    told_double("no lenient double", seg2_lenient_double_of(buffer, size, length, -1, SEG2_LITERAL("STACK")).answer);
+    told_location("no lenient location", seg2_lenient_location_of(buffer, size, length, 0, SEG2_LITERAL("UNITS")).answer);
     told_verdict("a lenient row of 4", seg2_lenient_integers_of(buffer, size, length, 0, row, 4).answer);
     told_verdict("lenient bits of trace 1", seg2_lenient_bits_of(buffer, size, length, 1, patterns, 3, classes, 3).answer);
     printf("row %d %lu %u\n", (int)row[0], (unsigned long)patterns[0], (unsigned)classes[0]);
@@ -366,10 +361,10 @@ static void leniently(void) {
     uint64_t patterns[2] = {7, 7};
     uint8_t classes[2] = {7, 7};
     seg2_length answer;
-    size_t length = told_length("start", seg2_start_of(buffer, size, SEG2_LOW_FIRST, 2, bytes("UNITS\tMETERS\n"), 13));
+    size_t length = told_length("start", seg2_start_of(buffer, size, SEG2_LOW_FIRST, 2, SEG2_LITERAL("UNITS\tMETERS\n")));
     size_t strings;
 
-    length = told_length("add", seg2_add_integers_of(buffer, size, length, bytes("DELAY\t2\nSTACK\t4.50\n"), 19, SEG2_FIXED_16, samples, 3));
+    length = told_length("add", seg2_add_integers_of(buffer, size, length, SEG2_LITERAL("DELAY\t2\nSTACK\t4.50\n"), SEG2_FIXED_16, samples, 3));
     strings = seg2_trace_block_of(buffer, size, length, 0).start + 32;
     printf("strings at %lu\n", (unsigned long)strings);
     leniently_all(length);
@@ -381,7 +376,7 @@ static void leniently(void) {
     leniently_all(length);
     leniently_wrongly(length);
     printf("%s\n", memcmp(before, buffer, size) == 0 ? "unchanged" : "changed");
-    told_length("no addition", seg2_add_integers_of(buffer, size, length, bytes(""), 0, SEG2_FIXED_16, samples, 3));
+    told_length("no addition", seg2_add_integers_of(buffer, size, length, SEG2_LITERAL(""), SEG2_FIXED_16, samples, 3));
 
     /* what is not forgiven, behind what is: the strict row is the earlier one */
     buffer[strings + 12] = 0xE9;
@@ -396,8 +391,8 @@ static void leniently(void) {
     leniently_all(length);
 
     /* floats, in a file that is read leniently alone */
-    length = told_length("start", seg2_start_of(buffer, size, SEG2_HIGH_FIRST, 1, bytes("UNITS\tMETERS\n"), 13));
-    seg2_add_bits(&answer, buffer, size, length, bytes(""), 0, SEG2_FLOAT_64, doubles, 2);
+    length = told_length("start", seg2_start_of(buffer, size, SEG2_HIGH_FIRST, 1, SEG2_LITERAL("UNITS\tMETERS\n")));
+    seg2_add_bits(&answer, buffer, size, length, SEG2_LITERAL(""), SEG2_FLOAT_64, doubles, 2);
     length = told_length("add", answer);
     buffer[38] = 'u';
     {
@@ -417,7 +412,7 @@ static void numbers_and_texts(void) {
     size_t i;
 
     for (i = 0; i < sizeof typed / sizeof typed[0]; i++) {
-        seg2_read_number(&number, bytes(typed[i]), strlen(typed[i]));
+        seg2_read_number(&number, typed[i], strlen(typed[i]));
         told_number("typed", number);
         if (number.number != 0) {
             continue;
@@ -448,16 +443,16 @@ static void numbers_and_texts(void) {
 static void channels(void) {
     const size_t size = sizeof buffer;
     const int32_t samples[2] = {1, 2};
-    size_t length = told_length("start", seg2_start_of(buffer, size, SEG2_LOW_FIRST, 2, bytes("CHANNEL_NUMBER\tany\n"), 19));
+    size_t length = told_length("start", seg2_start_of(buffer, size, SEG2_LOW_FIRST, 2, SEG2_LITERAL("CHANNEL_NUMBER\tany\n")));
     size_t strings;
 
-    told_length("0 as the first", seg2_add_integers_of(buffer, size, length, bytes("CHANNEL_NUMBER\t0\n"), 17, SEG2_FIXED_16, samples, 2));
-    length = told_length("channel 1", seg2_add_integers_of(buffer, size, length, bytes("CHANNEL_NUMBER\t1\n"), 17, SEG2_FIXED_16, samples, 2));
+    told_length("0 as the first", seg2_add_integers_of(buffer, size, length, SEG2_LITERAL("CHANNEL_NUMBER\t0\n"), SEG2_FIXED_16, samples, 2));
+    length = told_length("channel 1", seg2_add_integers_of(buffer, size, length, SEG2_LITERAL("CHANNEL_NUMBER\t1\n"), SEG2_FIXED_16, samples, 2));
     memcpy(before, buffer, size);
-    told_length("none", seg2_add_integers_of(buffer, size, length, bytes("STACK\t1\n"), 8, SEG2_FIXED_16, samples, 2));
-    told_length("1.0", seg2_add_integers_of(buffer, size, length, bytes("CHANNEL_NUMBER\t1.0\n"), 19, SEG2_FIXED_16, samples, 2));
+    told_length("none", seg2_add_integers_of(buffer, size, length, SEG2_LITERAL("STACK\t1\n"), SEG2_FIXED_16, samples, 2));
+    told_length("1.0", seg2_add_integers_of(buffer, size, length, SEG2_LITERAL("CHANNEL_NUMBER\t1.0\n"), SEG2_FIXED_16, samples, 2));
     printf("%s\n", memcmp(before, buffer, size) == 0 ? "unchanged" : "changed");
-    length = told_length("channel 2", seg2_add_integers_of(buffer, size, length, bytes("CHANNEL_NUMBER\t2\n"), 17, SEG2_FIXED_16, samples, 2));
+    length = told_length("channel 2", seg2_add_integers_of(buffer, size, length, SEG2_LITERAL("CHANNEL_NUMBER\t2\n"), SEG2_FIXED_16, samples, 2));
     told_verdict("both", seg2_check(buffer, size, length));
     /* the value's only digit: offset, keyword and space stand before it */
     strings = seg2_trace_block_of(buffer, size, length, 1).start + 32;
@@ -466,6 +461,33 @@ static void channels(void) {
         seg2_verdict v = seg2_check(buffer, size, length);
         printf("%u in trace %d where its strings start %d\n", (unsigned)v.number, (int)v.part, v.place == strings);
     }
+}
+
+/* the room of a start and of an addition, asked beforehand: exactly that much is enough */
+static void rooms(void) {
+    const int32_t samples[3] = {1, -1, 256};
+    size_t room = told_length("a start needs", seg2_start_size_of(SEG2_LOW_FIRST, 1, SEG2_LITERAL("UNITS\tMETERS\n")));
+    size_t length;
+    seg2_length answer;
+
+    told_length("no slots", seg2_start_size_of(SEG2_LOW_FIRST, 0, SEG2_LITERAL("")));
+    told_length("a bad second line", seg2_start_size_of(SEG2_LOW_FIRST, 1, SEG2_LITERAL("A\t1\nB 2\n")));
+    told_length("a byte less", seg2_start_of(buffer, room - 1, SEG2_LOW_FIRST, 1, SEG2_LITERAL("UNITS\tMETERS\n")));
+    length = told_length("a start", seg2_start_of(buffer, room, SEG2_LOW_FIRST, 1, SEG2_LITERAL("UNITS\tMETERS\n")));
+    memcpy(before, buffer, sizeof buffer);
+    /* the buffer is the file and no byte more */
+    seg2_add_size(&answer, buffer, length, length, SEG2_LITERAL("STACK\t1\n"), SEG2_FIXED_16, 3);
+    room = told_length("an addition needs", answer);
+    told_length("code 6", seg2_add_size_of(buffer, length, length, SEG2_LITERAL(""), 6, 3));
+    told_length("5 samples in fours", seg2_add_size_of(buffer, length, length, SEG2_LITERAL(""), SEG2_FLOAT_20, 5));
+    told_length("more than a file may have", seg2_add_size_of(buffer, length, length, SEG2_LITERAL(""), SEG2_FLOAT_64, SIZE_MAX));
+    told_length("the largest", seg2_add_size_of(buffer, length, length, SEG2_LITERAL(""), SEG2_FIXED_32, 16777193));
+    told_length("a sample more", seg2_add_size_of(buffer, length, length, SEG2_LITERAL(""), SEG2_FIXED_32, 16777194));
+    told_length("no file", seg2_add_size_of(buffer, length, 31, SEG2_LITERAL(""), SEG2_FIXED_16, 3));
+    printf("%s\n", memcmp(before, buffer, sizeof buffer) == 0 ? "unchanged" : "changed");
+    told_length("a byte less", seg2_add_integers_of(buffer, room - 1, length, SEG2_LITERAL("STACK\t1\n"), SEG2_FIXED_16, samples, 3));
+    length = told_length("an addition", seg2_add_integers_of(buffer, room, length, SEG2_LITERAL("STACK\t1\n"), SEG2_FIXED_16, samples, 3));
+    told_length("no slot", seg2_add_size_of(buffer, room, length, SEG2_LITERAL(""), SEG2_FIXED_16, 3));
 }
 
 int main(void) {
@@ -483,10 +505,10 @@ int main(void) {
 
     /* document 01's example */
     memset(buffer, 0xEE, size);
-    seg2_start(&answer, buffer, size, SEG2_LOW_FIRST, 1, bytes("UNITS\tMETERS\n"), 13);
+    seg2_start(&answer, buffer, size, SEG2_LOW_FIRST, 1, SEG2_LITERAL("UNITS\tMETERS\n"));
     length = told_length("start", answer);
     told_verdict("check of a start", seg2_check(buffer, size, length));
-    seg2_add_integers(&answer, buffer, size, length, bytes("STACK\t1\n"), 8, SEG2_FIXED_16, samples, 3);
+    seg2_add_integers(&answer, buffer, size, length, SEG2_LITERAL("STACK\t1\n"), SEG2_FIXED_16, samples, 3);
     length = told_length("add", answer);
     printf("past the end %02X\n", (unsigned)buffer[length]);
     memcpy(before, buffer, size);
@@ -495,20 +517,20 @@ int main(void) {
     quickly(length);
 
     /* refused writers change nothing */
-    told_length("no slot", seg2_add_integers_of(buffer, size, length, bytes(""), 0, SEG2_FIXED_16, samples, 3));
-    told_length("no order", seg2_start_of(buffer, size, 2, 1, bytes(""), 0));
-    told_length("a bad second line", seg2_start_of(buffer, size, 0, 1, bytes("A\t1\nB 2\n"), 8));
-    told_length("a line out of order", seg2_start_of(buffer, size, 0, 1, bytes("B\t1\nA\t2\n"), 8));
-    told_length("no room", seg2_start_of(buffer, 39, 0, 1, bytes(""), 0));
+    told_length("no slot", seg2_add_integers_of(buffer, size, length, SEG2_LITERAL(""), SEG2_FIXED_16, samples, 3));
+    told_length("no order", seg2_start_of(buffer, size, 2, 1, SEG2_LITERAL("")));
+    told_length("a bad second line", seg2_start_of(buffer, size, 0, 1, SEG2_LITERAL("A\t1\nB 2\n")));
+    told_length("a line out of order", seg2_start_of(buffer, size, 0, 1, SEG2_LITERAL("B\t1\nA\t2\n")));
+    told_length("no room", seg2_start_of(buffer, 39, 0, 1, SEG2_LITERAL("")));
     printf("%s\n", memcmp(before, buffer, size) == 0 ? "unchanged" : "changed");
 
     /* high byte first, codes 3 and 5, decimals of a location */
-    length = told_length("start", seg2_start_of(buffer, size, SEG2_HIGH_FIRST, 3, bytes(""), 0));
-    length = told_length("add 3", seg2_add_integers_of(buffer, size, length, bytes("RECEIVER_LOCATION\t1 -2.5 3.00\n"), 30, SEG2_FLOAT_20, groups, 4));
-    seg2_add_bits(&answer, buffer, size, length, bytes(""), 0, SEG2_FLOAT_64, doubles, 2);
+    length = told_length("start", seg2_start_of(buffer, size, SEG2_HIGH_FIRST, 3, SEG2_LITERAL("")));
+    length = told_length("add 3", seg2_add_integers_of(buffer, size, length, SEG2_LITERAL("RECEIVER_LOCATION\t1 -2.5 3.00\n"), SEG2_FLOAT_20, groups, 4));
+    seg2_add_bits(&answer, buffer, size, length, SEG2_LITERAL(""), SEG2_FLOAT_64, doubles, 2);
     length = told_length("add 5", answer);
-    told_length("too large", seg2_add_integers_of(buffer, size, length, bytes(""), 0, SEG2_FLOAT_20, large, 4));
-    told_length("bits as code 1", seg2_add_bits_of(buffer, size, length, bytes(""), 0, SEG2_FIXED_16, doubles, 2));
+    told_length("too large", seg2_add_integers_of(buffer, size, length, SEG2_LITERAL(""), SEG2_FLOAT_20, large, 4));
+    told_length("bits as code 1", seg2_add_bits_of(buffer, size, length, SEG2_LITERAL(""), SEG2_FIXED_16, doubles, 2));
     told_verdict("integers 3", seg2_integers(buffer, size, length, 0, row, 4));
     printf("row %d %d %d %d\n", (int)row[0], (int)row[1], (int)row[2], (int)row[3]);
     told_verdict("bits", seg2_bits(buffer, size, length, 1, patterns, 2, classes, 2));
@@ -518,8 +540,8 @@ int main(void) {
     told_verdict("quick bits", seg2_quick_bits(buffer, size, length, 1, patterns, 2, classes, 2));
     told_patterns(patterns, classes);
     told_count("no quick strings", seg2_quick_string_count_of(buffer, size, length, 1));
-    told_location("location", seg2_location_of(buffer, size, length, 0, bytes("RECEIVER_LOCATION"), 17));
-    told_location("quick location", seg2_quick_location_of(buffer, size, length, 0, bytes("RECEIVER_LOCATION"), 17));
+    told_location("location", seg2_location_of(buffer, size, length, 0, SEG2_LITERAL("RECEIVER_LOCATION")));
+    told_location("quick location", seg2_quick_location_of(buffer, size, length, 0, SEG2_LITERAL("RECEIVER_LOCATION")));
     numbers_and_texts();
 
     /* a lower-case letter in trace 0's keyword, in words */
@@ -532,6 +554,7 @@ int main(void) {
     }
     channels();
     leniently();
+    rooms();
     for (i = 0; i < 100; i++) {
         printf("%u %s\n", (unsigned)i, seg2_text(i));
     }

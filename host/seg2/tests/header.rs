@@ -261,6 +261,22 @@ start: 0 -1 0 length 56
 add: 0 -1 0 length 108
 strict 16 -1 36, lenient bits: 0 -1 0
 row 7FF0000000000000 3 8000000000000000 0
+a start needs: 0 -1 0 length 56
+no slots: 31 -1 0 length 0
+a bad second line: 25 -1 4 length 0
+a byte less: 30 -1 0 length 0
+a start: 0 -1 0 length 56
+an addition needs: 0 -1 0 length 108
+code 6: 28 -1 0 length 0
+5 samples in fours: 28 -1 0 length 0
+more than a file may have: 30 -1 0 length 0
+the largest: 0 -1 0 length 67108864
+a sample more: 30 -1 0 length 0
+no file: 1 -1 0 length 0
+unchanged
+a byte less: 30 -1 0 length 0
+an addition: 0 -1 0 length 108
+no slot: 24 -1 0 length 0
 ";
 
 /// The answers, then the words of each number of two digits, which are those of the Rust
@@ -403,14 +419,30 @@ fn before() -> String {
 
 #[test]
 fn the_lines_on_numbers_in_the_docs_work() {
-    let (before, lines) = (before(), lines_of_c(1));
+    let (before, lines) = (before(), lines_of_c(2));
     let program = format!("{before}int main(void) {{\n{lines}return 0;\n}}\n");
     assert_eq!(printed_by("numbers", &program), "0.250\n");
 }
 
 #[test]
+fn the_lines_on_room_in_the_docs_work() {
+    let (before, lines) = (before(), lines_of_c(1));
+    let program = format!(
+        "#include <stdlib.h>
+        {before}int main(void) {{
+            const int32_t samples[3] = {{1, -1, 256}};
+            {lines}
+            printf(\"%zu %u\\n\", length, (unsigned)seg2_check(file, room.length, length).number);
+            free(file);
+            return 0;
+        }}\n"
+    );
+    assert_eq!(printed_by("room", &program), "200 0\n");
+}
+
+#[test]
 fn the_lines_on_one_trace_in_the_docs_work() {
-    let (before, value, list) = (before(), lines_of_c(2), lines_of_c(3));
+    let (before, value, list) = (before(), lines_of_c(3), lines_of_c(4));
     // the page asks the last of 2,000 traces, which are two here
     let value = value.replace(" 1999,", " 1,");
     let program = format!(
@@ -419,11 +451,11 @@ fn the_lines_on_one_trace_in_the_docs_work() {
             static uint8_t buffer[400];
             const size_t size = sizeof buffer;
             const int32_t row[1] = {{1}};
-            size_t length = seg2_start_of(buffer, size, SEG2_LOW_FIRST, 2, TEXT(\"UNITS\\tMETERS\\n\")).length;
-            length = seg2_add_integers_of(buffer, size, length, TEXT(\"DELAY\\t0\\nSTACK\\t4\\n\"), SEG2_FIXED_16, row, 1).length;
-            length = seg2_add_integers_of(buffer, size, length, TEXT(\"STACK\\t8\\n\"), SEG2_FIXED_16, row, 1).length;
+            size_t length = seg2_start_of(buffer, size, SEG2_LOW_FIRST, 2, SEG2_LITERAL(\"UNITS\\tMETERS\\n\")).length;
+            length = seg2_add_integers_of(buffer, size, length, SEG2_LITERAL(\"DELAY\\t0\\nSTACK\\t4\\n\"), SEG2_FIXED_16, row, 1).length;
+            length = seg2_add_integers_of(buffer, size, length, SEG2_LITERAL(\"STACK\\t8\\n\"), SEG2_FIXED_16, row, 1).length;
             {value}
-            printf(\"%.*s\\n\", (int)stack.value_length, (const char *)buffer + stack.value_start);
+            printf(\"%.*s\\n\", (int)stack.value_length, seg2_chars(buffer, stack.value_start));
             list(buffer, size, length);
             list(buffer, size, length - 1);
             return 0;
@@ -435,17 +467,17 @@ fn the_lines_on_one_trace_in_the_docs_work() {
 
 #[test]
 fn the_lines_on_older_recorders_in_the_docs_work() {
-    let (before, list) = (before(), lines_of_c(4));
+    let (before, list) = (before(), lines_of_c(5));
     let program = format!(
         "{before}{list}
         int main(void) {{
             static uint8_t buffer[400];
             const size_t size = sizeof buffer;
             const int32_t row[1] = {{1}};
-            size_t length = seg2_start_of(buffer, size, SEG2_LOW_FIRST, 1, TEXT(\"UNITS\\tMETERS\\n\")).length;
-            length = seg2_add_integers_of(buffer, size, length, TEXT(\"DELAY\\t0\\nSTACK\\t4\\n\"), SEG2_FIXED_16, row, 1).length;
+            size_t length = seg2_start_of(buffer, size, SEG2_LOW_FIRST, 1, SEG2_LITERAL(\"UNITS\\tMETERS\\n\")).length;
+            length = seg2_add_integers_of(buffer, size, length, SEG2_LITERAL(\"DELAY\\t0\\nSTACK\\t4\\n\"), SEG2_FIXED_16, row, 1).length;
             list_old(buffer, size, length, 0);
-            buffer[seg2_value_of(buffer, size, length, 0, TEXT(\"STACK\")).value_start - 5] = 't';
+            buffer[seg2_value_of(buffer, size, length, 0, SEG2_LITERAL(\"STACK\")).value_start - 5] = 't';
             list_old(buffer, size, length, 0);
             list_old(buffer, size, length - 1, 0);
             return 0;
