@@ -137,6 +137,8 @@ static void call_lenient_integers(void) { seg2_lenient_integers(&lenient_verdict
 static void call_lenient_bits(void) { seg2_lenient_bits(&lenient_verdict, buffer, size, length, 1, patterns, samples, classes, samples); }
 static void call_read_number(void) { seg2_read_number(&read_back, typed, sizeof typed - 1); }
 static void call_write_number(void) { seg2_write_number(&text_length, text, sizeof text, 1, 123456789012345678u, -116, 17); }
+static void call_start_size(void) { seg2_start_size(&written, order, TRACES, sheet, sheet_size); }
+static void call_add_size(void) { seg2_add_size(&written, buffer, size, length, sheet, sheet_size, code_of_bits, samples); }
 static void call_start(void) { seg2_start(&written, buffer, size, order, TRACES, sheet, sheet_size); }
 static void call_add_integers(void) { seg2_add_integers(&written, buffer, size, length, sheet, sheet_size, code_of_integers, integers, samples); }
 static void call_add_bits(void) { seg2_add_bits(&written, buffer, size, length, sheet, sheet_size, code_of_bits, patterns, samples); }
@@ -149,6 +151,8 @@ static struct {
     {"seg2_start", call_start, 0},
     {"seg2_add_integers", call_add_integers, 0},
     {"seg2_add_bits", call_add_bits, 0},
+    {"seg2_start_size", call_start_size, 0},
+    {"seg2_add_size", call_add_size, 0},
     {"seg2_check", call_check, 0},
     {"seg2_file_block", call_file_block, 0},
     {"seg2_trace_block", call_trace_block, 0},
