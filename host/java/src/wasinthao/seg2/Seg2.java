@@ -20,6 +20,9 @@ import java.util.Arrays;
  * be any row from 1 to 17 of the table, or 34, before one of its own. The methods with quick in their name do not: each reads one trace,
  * and judges what it reads ({@link #quickTraceBlock}). Whoever wants much of a file asks {@link #check} once, and then the quick ones.
  *
+ * <p><b>A file as an object</b> is {@link Seg2File}, which asks these methods: open, then traces, strings and samples. One that grows is
+ * {@link Seg2Growing}, and {@link Seg2Sheet} makes the sheets.
+ *
  * <p><b>Older recorders.</b> The methods with lenient in their name also read files whose strings stand in any order, in lower case or
  * without an end mark, and tell the strict refusal beside their answer ({@link #lenientCheck}).
  *
@@ -142,7 +145,7 @@ public final class Seg2 {
         }
 
         /** Whether the row is one of a file's check: its part is the file or a trace, and its place a byte of the file. */
-        private boolean isOfCheck() {
+        boolean isOfCheck() {
             return (number >= LENGTH && number <= KEYWORD_ORDER) || number == CHANNEL_NUMBER;
         }
 
@@ -998,14 +1001,14 @@ public final class Seg2 {
 
     // ---- what is lent
 
-    private static <T> T there(T given, String what) {
+    static <T> T there(T given, String what) {
         if (given == null) {
             throw new IllegalArgumentException("the " + what + " is null");
         }
         return given;
     }
 
-    private static ByteBuffer lent(ByteBuffer buffer) {
+    static ByteBuffer lent(ByteBuffer buffer) {
         if (!there(buffer, "buffer").isDirect()) {
             throw new IllegalArgumentException("the buffer is not direct: use ByteBuffer.allocateDirect, or map the file");
         }

@@ -23,18 +23,19 @@ import java.util.concurrent.atomic.AtomicReference;
 import java.util.regex.Matcher;
 import java.util.regex.Pattern;
 
-/** Tests of Seg2: a main that counts, and no library beside Java's own. The argument is the path of seg2.h. */
+/** Tests of Seg2, and behind them those of the file object: a main that counts, and no library beside Java's own. The arguments are the paths of
+ * seg2.h and of the list of refusals in words. */
 public final class Seg2Test {
     private Seg2Test() {}
 
-    private interface Body {
+    interface Body {
         void run() throws Exception;
     }
 
     private static int passed;
     private static int failed;
 
-    private static void test(String name, Body body) {
+    static void test(String name, Body body) {
         try {
             body.run();
             passed++;
@@ -46,13 +47,13 @@ public final class Seg2Test {
         }
     }
 
-    private static void same(Object wanted, Object is) {
+    static void same(Object wanted, Object is) {
         if (!java.util.Objects.deepEquals(wanted, is)) {
             throw new AssertionError("wanted " + wanted + ", got " + is);
         }
     }
 
-    private static void accepted(Seg2.Answer answer) {
+    static void accepted(Seg2.Answer answer) {
         if (!answer.accepted() || answer.refusal() != null) {
             throw new AssertionError("refused: " + answer.refusal());
         }
@@ -66,7 +67,7 @@ public final class Seg2Test {
     }
 
     /** Misuse: IllegalArgumentException with a sentence that has these words. */
-    private static void misused(String words, Body body) throws Exception {
+    static void misused(String words, Body body) throws Exception {
         try {
             body.run();
         } catch (IllegalArgumentException e) {
@@ -78,7 +79,7 @@ public final class Seg2Test {
         throw new AssertionError("no IllegalArgumentException: " + words);
     }
 
-    private static byte[] copy(ByteBuffer buffer) {
+    static byte[] copy(ByteBuffer buffer) {
         byte[] all = new byte[buffer.capacity()];
         ByteBuffer view = buffer.duplicate();
         view.clear();
@@ -94,7 +95,7 @@ public final class Seg2Test {
         return buffer;
     }
 
-    private static IntBuffer direct(int... values) {
+    static IntBuffer direct(int... values) {
         IntBuffer row = ByteBuffer.allocateDirect(4 * values.length).order(ByteOrder.nativeOrder()).asIntBuffer();
         for (int i = 0; i < values.length; i++) {
             row.put(i, values[i]);
@@ -103,7 +104,7 @@ public final class Seg2Test {
     }
 
     /** Document 01's example, in a buffer of 200 bytes. */
-    private static ByteBuffer example() {
+    static ByteBuffer example() {
         ByteBuffer buffer = painted(200);
         Seg2.Length started = Seg2.start(buffer, Seg2.LOW_FIRST, 1, "UNITS\tMETERS\n");
         accepted(started);
@@ -418,7 +419,7 @@ public final class Seg2Test {
     }
 
     /** A file of three traces, each with a CHANNEL_NUMBER of its own, a STACK and a NOTE of two lines. */
-    private static ByteBuffer threeTraces() {
+    static ByteBuffer threeTraces() {
         ByteBuffer b = painted(2000);
         int length = Seg2.start(b, Seg2.LOW_FIRST, 3, "UNITS\tMETERS\n").length;
         for (int trace = 0; trace < 3; trace++) {
@@ -658,7 +659,7 @@ public final class Seg2Test {
     }
 
     /** An area of strings as an older recorder may have it, high byte first: offset, text and terminator of each, then the given tail. */
-    private static byte[] area(String tail, String... texts) {
+    static byte[] area(String tail, String... texts) {
         StringBuilder bytes = new StringBuilder();
         for (String text : texts) {
             bytes.append('\0').append((char) (text.length() + 3)).append(text).append('\0');
@@ -669,7 +670,7 @@ public final class Seg2Test {
     }
 
     /** A file laid out by hand: its own strings from byte 32 + 4 * traces on, then a block for each trace, with the samples 1 and -1. */
-    private static ByteBuffer laid(byte[] own, byte[]... traces) {
+    static ByteBuffer laid(byte[] own, byte[]... traces) {
         int room = 4 * traces.length;
         ByteBuffer b = ByteBuffer.allocateDirect(4096);
         b.putShort((short) 0x3A55).putShort((short) 1).putShort((short) room).putShort((short) traces.length);
@@ -688,7 +689,7 @@ public final class Seg2Test {
     }
 
     /** The end mark with zeros behind it, so many bytes in all. */
-    private static String mark(int size) {
+    static String mark(int size) {
         return new String(new char[size]);
     }
 
@@ -696,7 +697,7 @@ public final class Seg2Test {
     private static final byte[] GOOD = area(mark(2), "STACK 4");
 
     /** Mixed case, any order, repeats, a note in the middle, full areas without a mark, a channel number in one trace alone. */
-    private static ByteBuffer olderFile() {
+    static ByteBuffer olderFile() {
         byte[] own = area("", "Units METERS", "note one\ntwo", "units FEET", "Date x");
         byte[] first = area("", "stack 4", "Delay -0.020", "receiver_location 1 2.50 0", "STACK 5");
         return laid(own, first, area(mark(4), "Channel_Number none", "STACK 8"));
@@ -1461,6 +1462,7 @@ public final class Seg2Test {
         // the machine gives a Java thread the least it can live with where less is asked for
         test("a thread with a small stack", () -> onThreads(1, 32 * 1024, 50));
         test("many threads at a time", () -> onThreads(8, 0, 50));
+        Seg2FileTest.all();
         System.out.println(passed + " passed, " + failed + " failed");
         System.exit(failed == 0 ? 0 : 1);
     }
