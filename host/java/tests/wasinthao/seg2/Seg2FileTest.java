@@ -745,8 +745,8 @@ final class Seg2FileTest {
         same(13, sheet.size());
         same(null, sheet.fault());
         String text = sheet.build().value();
-        same("A\t\nAA\tx\nNOTES\ty\nRECEIVER_GEOMETRY\t2 0 0\nRECEIVER_GEOMETRY\t1 0 0\nSOURCE_GEOMETRY\t1\nSOURCE_GEOMETRY\t1\nSTACK\t4\n_\tafter all letters\n"
-            + "NOTE\twet\nNOTE\t and cold\nNOTE\t\nNOTE\tend\n", text);
+        same("A\t\nAA\tx\nNOTES\ty\nRECEIVER_GEOMETRY\t2 0 0\nRECEIVER_GEOMETRY\t1 0 0\nSOURCE_GEOMETRY\t1\nSOURCE_GEOMETRY\t1\nSTACK\t4\n"
+            + "_\tafter all letters\nNOTE\twet\nNOTE\t and cold\nNOTE\t\nNOTE\tend\n", text);
         same(text, sheet.toString());
         Seg2File file = grown(sheet);
         same(Arrays.asList("wet", " and cold", "", "end"), file.trace(0).value().note());
@@ -801,8 +801,8 @@ final class Seg2FileTest {
 
     private static void numbersInSheets() {
         Seg2Sheet sheet = new Seg2Sheet().number("E", "0.250").number("D", 12).number("C", new BigDecimal("-12.50")).number("B", new BigDecimal("1E+3"))
-            .number("A", Seg2.readNumber("2.50E-3")).number("F", -7L).number("G", new BigDecimal("0.000")).location("H", "1 2.50 0").location("I", "1", "-2", "3")
-            .location("J", "5.0");
+            .number("A", Seg2.readNumber("2.50E-3")).number("F", -7L).number("G", new BigDecimal("0.000"))
+            .location("H", "1 2.50 0").location("I", "1", "-2", "3").location("J", "5.0");
         same("A\t2.50E-3\nB\t1E3\nC\t-12.50\nD\t12\nE\t0.250\nF\t-7\nG\t0.000\nH\t1 2.50 0\nI\t1 -2 3\nJ\t5.0\n", sheet.build().value());
         // a comma is no point: refused where it stands, and not dropped
         refusedSheet(new Seg2Sheet().put("A", "1").number("DELAY", "0,5"), 20, 0, 1, -1, 0);
