@@ -150,7 +150,8 @@ object Seg2KotlinTest {
             note(listOf("a", ""))
             "A" to -3
         }
-        same("A\t-3\nB\t-12.50\nC\t7\nD\t1.0\nDELAY\t0.250\nE\t2.50E-3\nRECEIVER_LOCATION\t1 2 3\nSTACK\t8\nZ\t12345678901\nNOTE\tb\nNOTE\ta\nNOTE\t\n", good.build().getOrThrow())
+        same("A\t-3\nB\t-12.50\nC\t7\nD\t1.0\nDELAY\t0.250\nE\t2.50E-3\nRECEIVER_LOCATION\t1 2 3\nSTACK\t8\nZ\t12345678901\n" +
+            "NOTE\tb\nNOTE\ta\nNOTE\t\n", good.build().getOrThrow())
         same(null, good.faultOrNull)
         val comma = sheet { "STACK" to 1; number("DELAY", "0,5") }
         refused(20, 0, comma.build())
