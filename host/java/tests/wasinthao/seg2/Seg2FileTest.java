@@ -442,6 +442,7 @@ final class Seg2FileTest {
     private static void olderFiles() throws Exception {
         ByteBuffer b = olderFile();
         int n = b.limit();
+        b.put(n - 3, (byte) 7); // the first sample of the second trace
         refused(16, 40, Seg2File.open(b));
         refused(16, 40, Seg2Growing.open(b));
         byte[] bytes = Arrays.copyOf(copy(b), n);
@@ -468,6 +469,11 @@ final class Seg2FileTest {
             same(new double[] {1, -1}, trace.doubles().value());
             IntBuffer view = direct(0, 0);
             same(-1, trace.integers(view).value().get(1));
+            same(new int[] {7, -1}, file.trace(1).value().integers().value());
+            same(7, file.trace(1).value().integers(view).value().get(0));
+            same("8", file.trace(1).value().value("STACK"));
+            same(8.0, file.trace(1).value().doubleValue("STACK").value());
+            same("[Channel_Number none, STACK 8]", file.trace(1).value().strings().toString());
             refused(33, 0, trace.bits());
             refused(33, 0, trace.floats());
             refused(18, 0, file.trace(2));
@@ -825,6 +831,8 @@ final class Seg2FileTest {
         refusedSheet(new Seg2Sheet().number("A", "1234567890123456789"), 21, 0, 0, -1, 0);
         refusedSheet(new Seg2Sheet().number("A", Long.MIN_VALUE), 21, 0, 0, -1, 0);
         refusedSheet(new Seg2Sheet().number("A", new BigDecimal(BigInteger.TEN.pow(40))), 21, 0, 0, -1, 0);
+        // of more than 64 bits nothing is cut off: this is no 5
+        refusedSheet(new Seg2Sheet().number("A", new BigDecimal(BigInteger.ONE.shiftLeft(64).add(BigInteger.valueOf(5)))), 21, 0, 0, -1, 0);
         refusedSheet(new Seg2Sheet().number("A", new BigDecimal(BigInteger.ONE, Integer.MIN_VALUE)), 21, 0, 0, -1, 0);
         refusedSheet(new Seg2Sheet().number("A", new BigDecimal(BigInteger.ONE, Integer.MAX_VALUE)), 21, 0, 0, -1, 0);
         refusedSheet(new Seg2Sheet().number("A", Seg2.readNumber("0,5")), 20, 0, 0, -1, 0);
