@@ -173,7 +173,7 @@ object Seg2KotlinTest {
         val bytes = shot().toByteArray()
         // `Stack` for STACK in trace 0, as an older recorder has it
         val at = String(bytes, Charsets.ISO_8859_1).indexOf("STACK")
-        bytes[at + 1] = 't'.toByte()
+        bytes[at + 1] = 0x74
         val (none, refusal) = Seg2File.open(bytes)
         same(null, none)
         same(16, refusal?.number)
@@ -209,7 +209,7 @@ object Seg2KotlinTest {
             told.clear()
             same(1, openAny(ByteArrayInputStream(before)) { told += it }?.traceCount())
             same(emptyList<String>(), told)
-            before[String(before, Charsets.ISO_8859_1).indexOf("STACK")] = 's'.toByte()
+            before[String(before, Charsets.ISO_8859_1).indexOf("STACK")] = 0x73
             same(1, openAny(ByteArrayInputStream(before)) { told += it }?.traceCount())
             same(null, openAny(ByteArrayInputStream(ByteArray(3))) { told += it })
             same(2, told.size)
