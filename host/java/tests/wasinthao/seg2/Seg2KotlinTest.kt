@@ -76,12 +76,12 @@ object Seg2KotlinTest {
         val traces = Seg2File.open(shot().toByteArray()).getOrThrow().traces
         val kinds = traces.map {
             when (val samples = it.samples) {
-                is Seg2Samples.Integers -> Arrays.toString(samples.values)
-                is Seg2Samples.Floats -> Arrays.toString(samples.values)
-                is Seg2Samples.Doubles -> Arrays.toString(samples.values)
+                is Seg2Samples.Integers -> "integers " + Arrays.toString(samples.values)
+                is Seg2Samples.Floats -> "floats " + Arrays.toString(samples.values)
+                is Seg2Samples.Doubles -> "doubles " + Arrays.toString(samples.values)
             }
         }
-        same(listOf("[1, -1, 256]", "[0.5, NaN]", "[1.0E300]"), kinds)
+        same(listOf("integers [1, -1, 256]", "floats [0.5, NaN]", "doubles [1.0E300]"), kinds)
         same(listOf(1.0, -1.0, 256.0), traces[0].doubles.toList())
         same(listOf(0.5, Double.NaN), traces[1].doubles.toList())
         val row = IntArray(3)
