@@ -343,3 +343,26 @@ NATIVE(void, nativeAddIntegersBuffer)(JNIEnv *env, UNUSED jclass self, jobject b
         TELL(LENGTH(a));
     }
 }
+
+/* ---- room beforehand */
+
+NATIVE(void, nativeStartSize)(JNIEnv *env, UNUSED jclass self, jint order, jint slots, jbyteArray sheet, jlongArray answer) {
+    lent s;
+    seg2_length a;
+    if (places(env, answer, PLACES(LENGTH(a))) && bytes(env, sheet, &s)) {
+        seg2_start_size(&a, (uint32_t)order, (uint32_t)slots, s.at, s.size);
+        returned(env, sheet, s);
+        TELL(LENGTH(a));
+    }
+}
+
+NATIVE(void, nativeAddSize)(JNIEnv *env, UNUSED jclass self, jobject buffer, jint size, jlong length, jbyteArray sheet, jint code, jlong count,
+                            jlongArray answer) {
+    lent b, s;
+    seg2_length a;
+    if (places(env, answer, PLACES(LENGTH(a))) && direct(env, buffer, size, 1, &b) && bytes(env, sheet, &s)) {
+        seg2_add_size(&a, b.at, b.size, (size_t)length, s.at, s.size, (uint32_t)code, (size_t)count);
+        returned(env, sheet, s);
+        TELL(LENGTH(a));
+    }
+}

@@ -999,6 +999,35 @@ public final class Seg2 {
         return addBits(buffer, length, bytesOf(sheet, "sheet"), code, row);
     }
 
+    // ---- room beforehand
+
+    /** The length that the file of a start would have, without a buffer: the start's refusals 31, 25, 26 and 27. */
+    public static Length startSize(int order, int slots, byte[] sheet) {
+        long[] a = new long[4];
+        nativeStartSize(order, slots, there(sheet, "sheet"), a);
+        return new Length(a);
+    }
+
+    /** The same, of a sheet in a String. */
+    public static Length startSize(int order, int slots, String sheet) {
+        return startSize(order, slots, bytesOf(sheet, "sheet"));
+    }
+
+    /**
+     * The length that the file would have after an addition, without room for it and without the samples; their count is without a sign. The
+     * addition's refusals but 29, and 30 only where the file would be longer than {@link #MAXIMUM_LENGTH}.
+     */
+    public static Length addSize(ByteBuffer buffer, long length, byte[] sheet, int code, long sampleCount) {
+        long[] a = new long[4];
+        nativeAddSize(lent(buffer), buffer.limit(), length, there(sheet, "sheet"), code, sampleCount, a);
+        return new Length(a);
+    }
+
+    /** The same, of a sheet in a String. */
+    public static Length addSize(ByteBuffer buffer, long length, String sheet, int code, long sampleCount) {
+        return addSize(buffer, length, bytesOf(sheet, "sheet"), code, sampleCount);
+    }
+
     // ---- what is lent
 
     static <T> T there(T given, String what) {
@@ -1162,4 +1191,8 @@ public final class Seg2 {
     private static native void nativeAddIntegersBuffer(ByteBuffer buffer, int size, long length, byte[] sheet, int code, IntBuffer row, int count, long[] answer);
 
     private static native void nativeAddBits(ByteBuffer buffer, int size, long length, byte[] sheet, int code, long[] row, long[] answer);
+
+    private static native void nativeStartSize(int order, int slots, byte[] sheet, long[] answer);
+
+    private static native void nativeAddSize(ByteBuffer buffer, int size, long length, byte[] sheet, int code, long sampleCount, long[] answer);
 }

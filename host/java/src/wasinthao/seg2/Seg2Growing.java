@@ -45,7 +45,7 @@ public final class Seg2Growing {
      * to {@link Seg2#MAXIMUM_SLOTS}. Refusals in order: 31, 25, 26 (line by line), 27. It is no file until a trace is added.
      */
     public static Seg2Result<Seg2Growing> start(int order, int slots, String sheet) {
-        Seg2.Length size = startSize(order, slots, sheet);
+        Seg2.Length size = Seg2.startSize(order, slots, sheet);
         if (!size.accepted()) {
             return Seg2Result.refused(size.refusal());
         }
@@ -181,15 +181,9 @@ public final class Seg2Growing {
 
     // ---- room
 
-    /** How much room the file needs with such a trace behind it; no more than there is where no room would do. */
+    /** How much room the file needs with such a trace behind it; 0 where no room would do. */
     private int roomFor(String sheet, int code, int sampleCount) {
-        return (int) Math.min(2L * buffer.capacity(), Seg2.MAXIMUM_LENGTH);
-    }
-
-    /** The length that the file of a start would have, or the start's refusal: 31, 25, 26 or 27. */
-    static Seg2.Length startSize(int order, int slots, String sheet) {
-        // the longest that a start writes: 32 bytes, the pointers of 16,383 slots, the strings
-        return Seg2.start(ByteBuffer.allocateDirect(32 + 4 * Seg2.MAXIMUM_SLOTS + Seg2.MAXIMUM_AREA), order, slots, sheet);
+        return Seg2.addSize(buffer, length, sheet, code, sampleCount).length;
     }
 
     /** At least so much room: half as much again as there is, so that many additions do not copy the file each time. */

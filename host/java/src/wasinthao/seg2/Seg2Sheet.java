@@ -264,7 +264,7 @@ public final class Seg2Sheet {
 
     /** What the library says of a sheet's lines. */
     private static Seg2.Refusal judged(String sheet) {
-        return Seg2Growing.startSize(Seg2.LOW_FIRST, 1, sheet).refusal();
+        return Seg2.startSize(Seg2.LOW_FIRST, 1, sheet).refusal();
     }
 
     /** What the library says of a value as a location: in the smallest file that has it. Where no sheet can hold the value, that is told later. */

@@ -1133,6 +1133,50 @@ public final class Seg2Test {
     }
 
     /** What a String holds beside ASCII is no keyword and no value, and stands for nothing else. */
+    /** Room beforehand: what a start or an addition with room enough answers, of lengths and refusals, and nothing is written. */
+    private static void roomBeforehand() {
+        String[] sheets = {"", "UNITS\tMETERS\n", "A\tb\nC\td\nNOTE\t1\nNOTE\t 2\n", "UNITS METERS\n", "B\t1\nA\t1\n", "CHANNEL_NUMBER\t1\n",
+            "\u00e9\t1\n"};
+        for (int order = 0; order < 3; order++) {
+            for (int slots : new int[] {0, 1, 2, 16383, 16384, -1}) {
+                for (String sheet : sheets) {
+                    sameLength(Seg2.start(ByteBuffer.allocateDirect(70000), order, slots, sheet), Seg2.startSize(order, slots, sheet));
+                }
+            }
+        }
+        ByteBuffer room = painted(1000);
+        int length = Seg2.start(room, Seg2.LOW_FIRST, 2, "").length;
+        for (int traces = 0; traces < 3; traces++) {
+            ByteBuffer exact = ByteBuffer.allocateDirect(length); // no room for a byte more
+            exact.put(copy(room), 0, length);
+            byte[] before = copy(exact);
+            for (String sheet : sheets) {
+                for (int code = 0; code < 7; code++) {
+                    for (int count : new int[] {0, 1, 2, 4, 7, 8}) {
+                        ByteBuffer larger = ByteBuffer.allocateDirect(1000);
+                        larger.put(before);
+                        Seg2.Length wanted = code == 4 || code == 5
+                            ? Seg2.addBits(larger, length, sheet, code, new long[count]) : Seg2.addIntegers(larger, length, sheet, code, new int[count]);
+                        sameLength(wanted, Seg2.addSize(exact, length, sheet, code, count));
+                        sameLength(wanted, Seg2.addSize(exact.asReadOnlyBuffer(), length, sheet.getBytes(StandardCharsets.ISO_8859_1), code, count));
+                    }
+                }
+            }
+            same(before, copy(exact));
+            refused(traces == 2 ? 24 : 30, -1, 0, Seg2.addSize(exact, length, "", Seg2.FIXED_16, 33554432));
+            refused(traces == 2 ? 24 : 30, -1, 0, Seg2.addSize(exact, length, "", Seg2.FIXED_16, -1));
+            refused(1, -1, 0, Seg2.addSize(exact, length + 1, "", Seg2.FIXED_16, 1));
+            if (traces < 2) {
+                length = Seg2.addIntegers(room, length, "", Seg2.FIXED_16, new int[] {1}).length;
+            }
+        }
+    }
+
+    private static void sameLength(Seg2.Length wanted, Seg2.Length is) {
+        same(wanted.refusal(), is.refusal());
+        same(wanted.length, is.length);
+    }
+
     private static void otherCharacters() {
         ByteBuffer b = withSheet("?\t1\nA\t2\n");
         same(true, Seg2.keyword(b, b.limit(), 0, "?").found);
@@ -1251,6 +1295,7 @@ public final class Seg2Test {
             misused(words, () -> Seg2.addIntegers(bad, 108, key, 1, new int[3]));
             misused(words, () -> Seg2.addIntegers(bad, 108, key, 1, direct(0)));
             misused(words, () -> Seg2.addBits(bad, 108, key, 4, new long[3]));
+            misused(words, () -> Seg2.addSize(bad, 108, key, 4, 3));
         }
         misused("read-only", () -> Seg2.start(readOnly, 0, 1, ""));
         misused("read-only", () -> Seg2.addIntegers(readOnly, 108, "", 1, new int[1]));
@@ -1284,6 +1329,10 @@ public final class Seg2Test {
         misused("sheet is null", () -> Seg2.start(good, 0, 1, none));
         misused("sheet is null", () -> Seg2.addIntegers(good, 108, noText, 1, new int[1]));
         misused("sheet is null", () -> Seg2.addBits(good, 108, none, 4, new long[1]));
+        misused("sheet is null", () -> Seg2.startSize(0, 1, none));
+        misused("sheet is null", () -> Seg2.startSize(0, 1, noText));
+        misused("sheet is null", () -> Seg2.addSize(good, 108, none, 4, 1));
+        misused("sheet is null", () -> Seg2.addSize(good, 108, noText, 4, 1));
         misused("text is null", () -> Seg2.readNumber(none));
         misused("text is null", () -> Seg2.readNumber(noText));
         misused("text is null", () -> Seg2.writeNumber(none, false, 7, 0, 0));
@@ -1452,6 +1501,7 @@ public final class Seg2Test {
         test("numbers that no text gives", Seg2Test::forgedNumbers);
         test("the lines of a NOTE", Seg2Test::noteLines);
         test("a refused start or addition changes nothing", Seg2Test::refusedAdditionsChangeNothing);
+        test("room beforehand", Seg2Test::roomBeforehand);
         test("characters that are no ASCII", Seg2Test::otherCharacters);
         test("the limit of a buffer holds", Seg2Test::theLimitHolds);
         test("a mapped file", Seg2Test::mappedFile);
