@@ -1,7 +1,7 @@
-# Sourced by tools/native-archive and tools/phone-archive: how a proved crate becomes an archive for an AArch64 machine.
+# Sourced by tools/native-archive and tools/platform-archives: how a proved crate becomes an archive for another machine or system than Linux on x86-64.
 #
 # The LLVM module that the kit made of the proved crate is kept while `rt staticlib` runs, and the kit's own clang compiles the same module for another
-# triple. Only the triple, the data layout and the processor's name are changed. Why the module means the same on both machines, and so what the tests
+# triple. Only the triple, the data layout and the processor's name are changed. Why the module means the same everywhere, and so what the tests
 # below end the script for: docs/DECISIONS.md, "The archive for the machine at hand".
 #
 # The script that sources this has set `me`, its own name for messages, stands in the repository's root and has sourced lib-install.sh.
@@ -18,7 +18,7 @@ find_kit() {
     machine=$(uname -m)
     tools=$kit/on/$machine/toolchain
     clang=$tools/bin/clang
-    for tool in clang llvm-ar; do
+    for tool in clang llvm-ar ld.lld; do
         [ -x "$tools/bin/$tool" ] || die "the kit at $kit has no $tool for $machine"
     done
 }
@@ -114,7 +114,7 @@ WRAPPER
     same_everywhere "$1" "$2"
 }
 
-# same_everywhere NAME WORK: ends the script if the module could mean something else on AArch64.
+# same_everywhere NAME WORK: ends the script if the module could mean something else on AArch64, or on one of Apple's systems.
 same_everywhere() {
     sed -e '/^;/d' -e '/^target /d' -e '/^attributes #/s/ "target-cpu"="x86-64"//' "$2/x86.ll" >"$2/plain.ll"
     # x86 by name, its own number type, and machine code in the text
@@ -139,22 +139,126 @@ same_everywhere() {
         cat "$2/left" >&2
         die "an exported function takes or returns what goes another way on AArch64"
     fi
+    # Apple on AArch64: who calls extends a number of under 32 bits, and elsewhere who is called; and what goes by the stack, from the ninth on, stands
+    # beside the one before, and elsewhere on 8 bytes of its own. So there is no such number, and only 64 bits go by the stack.
+    if grep -E '(^define [^@]*|[(, ])(i1|i8|i16) ' "$2/exported" >"$2/left" ||
+        sed 's/^[^(]*(//; s/).*//' "$2/exported" | awk -F', ' '{ for (i = 9; i <= NF; i++) if ($i !~ /^(i64|double|ptr) /) print }' | grep . >"$2/left"; then
+        cat "$2/left" >&2
+        die "an exported function takes or returns what goes another way on Apple's AArch64"
+    fi
     if grep -E '^declare ' "$2/plain.ll" | grep -v ' @llvm\.' >"$2/left"; then
         cat "$2/left" >&2
         die "the module calls code of C"
     fi
 }
 
-# compile_module NAME WORK TRIPLE ARCHIVE: compiles the module of WORK for TRIPLE into ARCHIVE.
+# The triples that stand in a platform's archive, in this order; those of Apple with the least system that is named in them. Apple's own processor has
+# simulators from iOS 14 on only.
+triples_of() {
+    case $1 in
+    linux-x86_64) echo x86_64-unknown-linux-gnu ;;
+    linux-aarch64) echo aarch64-unknown-linux-gnu ;;
+    android-arm64-v8a) echo aarch64-unknown-linux-android ;;
+    android-x86_64) echo x86_64-unknown-linux-android ;;
+    ios-arm64) echo arm64-apple-ios13.0 ;;
+    ios-simulator) echo arm64-apple-ios14.0-simulator x86_64-apple-ios13.0-simulator ;;
+    macos) echo arm64-apple-macosx11.0 x86_64-apple-macosx11.0 ;;
+    *) die "there is no platform $1: $platforms" ;;
+    esac
+}
+platforms='linux-x86_64 linux-aarch64 android-arm64-v8a android-x86_64 ios-arm64 ios-simulator macos'
+
+# layout_of TRIPLE: the data layout that is known for it. All have the byte order, the sizes and the alignments that the module counts on alike; they
+# differ in how symbols are named, in f80, which the module has not, and in what is preferred.
+layout_of() {
+    case $1 in
+    x86_64-*-linux-*) echo e-m:e-p270:32:32-p271:32:32-p272:64:64-i64:64-i128:128-f80:128-n8:16:32:64-S128 ;;
+    aarch64-*-linux-*) echo e-m:e-p270:32:32-p271:32:32-p272:64:64-i8:8:32-i16:16:32-i64:64-i128:128-n32:64-S128-Fn32 ;;
+    arm64-apple-*) echo e-m:o-p270:32:32-p271:32:32-p272:64:64-i64:64-i128:128-n32:64-S128-Fn32 ;;
+    x86_64-apple-*) echo e-m:o-p270:32:32-p271:32:32-p272:64:64-i64:64-i128:128-f80:128-n8:16:32:64-S128 ;;
+    esac
+}
+
+# compiled TRIPLE OUT WORD..: the module of WORD.. by the kit's clang. No product and sum of floats become one operation; a clang that takes the module
+# for another triple's says so, which is an error here.
+compiled() {
+    triple_=$1
+    out_=$2
+    shift 2
+    "$clang" "--target=$triple_" -O3 -ffp-contract=off -fPIC -ffunction-sections -fdata-sections -Werror -o "$out_" "$@"
+}
+
+# archived TRIPLE ARCHIVE OBJECT: one object as an archive of the kind that the system's linker reads, without times and owners.
+archived() {
+    case $1 in
+    *-apple-*) format=darwin ;;
+    *) format=gnu ;;
+    esac
+    rm -f "$2"
+    "$tools/bin/llvm-ar" --format=$format rcsD "$2" "$3"
+}
+
+# compile_module NAME WORK TRIPLE ARCHIVE: compiles the module of WORK for TRIPLE into ARCHIVE. Where the system keeps register 18 for itself, the script
+# ends if the code uses it.
 compile_module() {
-    # the layout is asked of the clang that compiles, and has to be the one that is known
-    layout=$(printf 'int x;\n' | "$clang" "--target=$3" -x c -S -emit-llvm -o - - | sed -n 's/^target datalayout = "\(.*\)"$/\1/p')
-    [ "$layout" = e-m:e-p270:32:32-p271:32:32-p272:64:64-i8:8:32-i16:16:32-i64:64-i128:128-n32:64-S128-Fn32 ] || die "the layout of $3 is another: $layout"
-    { printf 'target datalayout = "%s"\ntarget triple = "%s"\n' "$layout" "$3" && cat "$2/plain.ll"; } >"$2/$3.ll"
-    # no product and sum of floats become one operation; a clang that takes the module for another triple's says so, which is an error here
+    # layout and full triple are asked of the clang that compiles, and the layout has to be the one that is known
+    printf 'int x;\n' | "$clang" "--target=$3" -x c -S -emit-llvm -o - - | grep '^target ' >"$2/$3.head"
+    grep -qFx "target datalayout = \"$(layout_of "$3")\"" "$2/$3.head" || die "the layout of $3 is another: $(cat "$2/$3.head")"
+    cat "$2/$3.head" "$2/plain.ll" >"$2/$3.ll"
     mkdir -p "$2/$3"
-    "$clang" "--target=$3" -O3 -ffp-contract=off -fPIC -ffunction-sections -fdata-sections -Werror -c -x ir -o "$2/$3/$1.o" "$2/$3.ll"
-    rm -f "$4"
-    "$tools/bin/llvm-ar" --format=gnu rcs "$2/$3.a" "$2/$3/$1.o"
+    compiled "$3" "$2/$3/$1.o" -c -x ir "$2/$3.ll"
+    if keeps_18 "$3"; then
+        compiled "$3" "$2/$3.s" -S -x ir "$2/$3.ll"
+        ! uses_18 "$2/$3.s" || die "the code for $3 uses register 18, which the system keeps for itself"
+    fi
+    archived "$3" "$2/$3.a" "$2/$3/$1.o"
     mv "$2/$3.a" "$4"
+}
+
+# Android keeps register 18 of AArch64 for its shadow call stack, and Apple's systems keep it too; Linux does not.
+keeps_18() {
+    case $1 in
+    aarch64-*-linux-android | arm64-apple-*) ;;
+    *) return 1 ;;
+    esac
+}
+uses_18() { grep -nwE '[wx]18' "$1" >&2; }
+
+# The functions that the header declares: each stands at the start of a line, behind what it returns.
+declared() {
+    sed -n '/^static/d; s/^\(void\|seg2_[a-z]*\|struct seg2_[a-z]*\) \(seg2_[a-z0-9_]*\)(.*/\2/p' include/seg2.h | sort
+}
+
+# dylib WORK TRIPLE ARCHIVE OUT: an Apple library of the whole archive, by the kit's linker, with small functions in the place of C's.
+dylib() {
+    case $2 in
+    *-simulator) system=ios-simulator ;;
+    *-ios*) system=ios ;;
+    *) system=macos ;;
+    esac
+    least=$(printf '%s\n' "$2" | sed 's/^[a-z0-9_]*-apple-[a-z]*\([0-9.]*\).*/\1/')
+    "$clang" "--target=$2" -O1 -fPIC -fno-builtin -Werror -c tools/platform/fill.c -o "$1/fill-$2.o"
+    "$tools/bin/ld.lld" -flavor darwin -dylib -arch "${2%%-*}" -platform_version "$system" "$least" "$least" -install_name libseg2.dylib \
+        -fatal_warnings -all_load "$3" "$1/fill-$2.o" -o "$4"
+}
+
+# look WORK ARCHIVE TRIPLE..: ends the script if the archive is not what an app for these triples can link.
+look() {
+    work_=$1
+    archive_=$2
+    shift 2
+    declared >"$work_/declared"
+    [ -s "$work_/declared" ] || die "include/seg2.h declares no function"
+    tools/platform/objects.py look "$archive_" "$work_/declared" "$@" || die "$archive_ is not what an app can link"
+    # May it stand at any address? With -z text a place in the code that would have to be changed when the library is loaded is an error; of an Apple
+    # library nothing is changed but what stands in a segment of its own, and there is none.
+    for triple_ in "$@"; do
+        case $triple_ in
+        *-apple-*)
+            dylib "$work_" "$triple_" "$archive_" "$work_/looked.dylib" &&
+                tools/platform/objects.py image "$work_/looked.dylib" looked "$work_/looked.bin" "$work_/looked.s"
+            ;;
+        *) "$tools/bin/ld.lld" -shared -z text --fatal-warnings --whole-archive "$archive_" -o "$work_/looked.so" ;;
+        esac || die "$archive_ cannot be part of a shared library"
+    done
 }
