@@ -4,7 +4,7 @@
 # triple. Only the triple, the data layout and the processor's name are changed. Why the module means the same everywhere, and so what the tests
 # below end the script for: docs/DECISIONS.md, "The archive for the machine at hand".
 #
-# The script that sources this has set `me`, its own name for messages, stands in the repository's root and has sourced lib-install.sh.
+# The script that sources this has set `me`, its own name for messages, and `root`, the repository's root, stands there and has sourced lib-install.sh.
 
 die() {
     printf '%s: %s\n' "$me" "$*" >&2
@@ -73,9 +73,29 @@ links() { # FROM TO EXCEPT: in TO a link to each entry of FROM but one
     done
 }
 
-# prove_module NAME WORK: proves the crate and leaves its module, for x86-64, as text in WORK/x86.ll. WORK is an absolute path to an empty folder.
+# sources_sum: what the crates, the kit and this file are.
+sources_sum() {
+    { rt version && find crates crates.txt tools/lib-archive.sh -type f | LC_ALL=C sort | tr '\n' '\0' | xargs -0 sha256sum; } | sha256sum | cut -d ' ' -f 1
+}
+
+# prove_module NAME: proves the crate and leaves the kit's archive of it in target/module/NAME/libNAME.a, and the module without what is x86-64's as text
+# in plain.ll. What stands there is taken where it was made of the same sources by the same kit: `rt staticlib` proves the crate itself each time.
 prove_module() {
     find_kit
+    sum=$(sources_sum)
+    module=$root/target/module/$1
+    if [ "$(cat "$module/sum" 2>/dev/null)" = "$sum" ]; then
+        return
+    fi
+    rm -rf "$module"
+    mkdir -p "$module"
+    module_of "$1" "$module"
+    cp "target/staticlib/lib$1.a" "$module/lib$1.a"
+    echo "$sum" >"$module/sum"
+}
+
+# module_of NAME WORK: proves the crate and leaves its module, for x86-64, as text in WORK/x86.ll. WORK is an absolute path to an empty folder.
+module_of() {
     # A folder of links that is the kit but for its clang: a script that keeps the module that it is given, and then compiles it as asked. So
     # `rt staticlib` itself proves, and no word of its command is repeated here.
     shadow=$2/kit
@@ -198,18 +218,21 @@ archived() {
     "$tools/bin/llvm-ar" --format=$format rcsD "$2" "$3"
 }
 
-# compile_module NAME WORK TRIPLE ARCHIVE: compiles the module of WORK for TRIPLE into ARCHIVE. Where the system keeps register 18 for itself, the script
+# compile_module NAME WORK TRIPLE ARCHIVE: compiles the module that prove_module left for TRIPLE into ARCHIVE, by way of WORK. Where the system keeps register 18 for itself, the script
 # ends if the code uses it.
 compile_module() {
     # layout and full triple are asked of the clang that compiles, and the layout has to be the one that is known
     printf 'int x;\n' | "$clang" "--target=$3" -x c -S -emit-llvm -o - - | grep '^target ' >"$2/$3.head"
     grep -qFx "target datalayout = \"$(layout_of "$3")\"" "$2/$3.head" || die "the layout of $3 is another: $(cat "$2/$3.head")"
-    cat "$2/$3.head" "$2/plain.ll" >"$2/$3.ll"
+    cat "$2/$3.head" "$module/plain.ll" >"$2/$3.ll"
     mkdir -p "$2/$3"
-    compiled "$3" "$2/$3/$1.o" -c -x ir "$2/$3.ll"
     if keeps_18 "$3"; then
+        # what is looked at as text is what is then assembled
         compiled "$3" "$2/$3.s" -S -x ir "$2/$3.ll"
         ! uses_18 "$2/$3.s" || die "the code for $3 uses register 18, which the system keeps for itself"
+        "$clang" "--target=$3" -Werror -c "$2/$3.s" -o "$2/$3/$1.o"
+    else
+        compiled "$3" "$2/$3/$1.o" -c -x ir "$2/$3.ll"
     fi
     archived "$3" "$2/$3.a" "$2/$3/$1.o"
     mv "$2/$3.a" "$4"

@@ -1,6 +1,6 @@
 /* Asks an archive of the proved library what vectors.rs wrote, and compares every answer and every lent byte.
  *
- * Each call is made as a careless phone app could make it at worst, so that what goes wrong ends the program:
+ * Each call is made as a careless app could make it at worst, so that what goes wrong ends the program:
  *   - on a thread that has 32 KiB of stack left above a page that may not be touched;
  *   - with every lent piece of memory at the end of a page behind which nothing may be touched;
  *   - with memory that the function only reads locked against writing.
@@ -219,8 +219,18 @@ static void locked(void *at, size_t size, int how) {
     }
 }
 
+static int read_only[ROOMS];
+
+/* A room is mostly as it was; to ask the system each time takes longer than the calls. */
+static void only_read(int room, int only) {
+    if (read_only[room] != only) {
+        locked(rooms[room], ROOM, only ? PROT_READ : PROT_READ | PROT_WRITE);
+        read_only[room] = only;
+    }
+}
+
 static uint8_t *end_of(int room, size_t size) {
-    locked(rooms[room], ROOM, PROT_READ | PROT_WRITE);
+    only_read(room, 0);
     return rooms[room] + ROOM - size;
 }
 
@@ -309,33 +319,29 @@ __attribute__((noinline)) static void perform(call *c) {
     }
 }
 
-/* A C library asks for a larger stack than 32 KiB, for itself: the thread goes down through what is more than that before it calls. */
+/* A C library asks for a larger stack than 32 KiB, for itself: the thread that asks stands above, and goes down through what is more than that before it
+ * calls. It makes all calls, as an emulator keeps what each thread had. */
 enum { ABOVE = 256 * 1024 };
 static uint8_t *stack; /* STACK bytes for the call, then ABOVE bytes for the thread */
-static pthread_attr_t small;
 
-static void *on_thread(void *c) {
+__attribute__((noinline)) static void far_down(call *c) {
     uint8_t *here = __builtin_frame_address(0);
     /* alloca keeps 16 bytes' alignment and may give a few bytes more, so the call has a little less than STACK, never more */
     void *gone = alloca((size_t)(here - (stack + STACK)));
     __asm__ volatile("" : : "r"(gone) : "memory"); /* so that it is not left out */
     perform(c);
     __asm__ volatile("" : : "r"(gone) : "memory");
-    return NULL;
 }
 
 /* The bytes of stack that the call used; every byte below them still has its paint. */
 static size_t called(call *c) {
     static uint8_t *lowest;
-    pthread_t thread;
     const uint64_t paint = 0xA5A5A5A5A5A5A5A5u;
     if (lowest == NULL) {
         lowest = stack;
     }
     memset(lowest, 0xA5, (size_t)(stack + STACK - lowest));
-    if (pthread_create(&thread, &small, on_thread, c) != 0 || pthread_join(thread, NULL) != 0) {
-        stop("no thread");
-    }
+    far_down(c);
     for (lowest = stack; lowest < stack + STACK && memcmp(lowest, &paint, sizeof paint) == 0; lowest += sizeof paint) {
     }
     return (size_t)(stack + STACK - lowest);
@@ -403,7 +409,7 @@ static void lend_row(call *c) {
             ((uint64_t *)c->row)[i] = value;
         }
     }
-    locked(rooms[ROW], ROOM, PROT_READ);
+    only_read(ROW, 1);
 }
 
 /* The rows that samples or the places of strings are read into, painted. */
@@ -427,13 +433,13 @@ static call question(uint64_t function, bytes buffer, size_t length) {
     c.function = function;
     c.buffer = lend(BUFFER, buffer), c.size = buffer.size, c.length = length;
     if (!is_writer(function)) {
-        locked(rooms[BUFFER], ROOM, PROT_READ);
+        only_read(BUFFER, 1);
     }
     c.part = (int32_t)(int64_t)number();
     c.index = number();
     text = some_bytes();
     c.text = lend(TEXT, text), c.text_size = text.size;
-    locked(rooms[TEXT], ROOM, PROT_READ);
+    only_read(TEXT, 1);
     free(text.at);
     switch (function) {
     case START: c.code = (uint32_t)number(), c.slots = (uint32_t)number(); break;
@@ -525,17 +531,13 @@ static void prepare(void) {
     stack = mapped(page + STACK + ABOVE);
     locked(stack, page, PROT_NONE);
     stack += page;
-    if (pthread_attr_init(&small) != 0 || pthread_attr_setstack(&small, stack, STACK + ABOVE) != 0) {
-        stop("no small stack");
-    }
 }
 
-int main(void) {
+static void *all_vectors(void *nothing) {
     size_t depth[FUNCTIONS] = {0}, deepest = 0, length = 0;
     uint64_t asked[FUNCTIONS] = {0}, vectors = 0, wrong = 0, function;
     bytes buffer = {NULL, 0};
     int i;
-    prepare();
     while ((function = number()) != UINT64_MAX) {
         call c;
         uint64_t refusal[3];
@@ -570,5 +572,18 @@ int main(void) {
         wrong += asked[i] == 0 || depth[i] == 0; /* every call uses some, or it was not measured */
     }
     printf("%llu vectors, %llu wrong, %zu of %d bytes of stack used\n", (unsigned long long)vectors, (unsigned long long)wrong, deepest, (int)STACK);
-    return wrong != 0;
+    exit(wrong != 0);
+    return nothing;
+}
+
+int main(void) {
+    pthread_attr_t small;
+    pthread_t thread;
+    prepare();
+    if (pthread_attr_init(&small) != 0 || pthread_attr_setstack(&small, stack, STACK + ABOVE) != 0 ||
+        pthread_create(&thread, &small, all_vectors, NULL) != 0) {
+        stop("no thread with a small stack");
+    }
+    pthread_join(thread, NULL);
+    return 2;
 }

@@ -1,4 +1,5 @@
-//! Writes questions and writings with the independent reader's answers, for replay.c to ask of an archive.
+//! Writes questions and writings with the independent reader's answers, for replay.c to ask of an archive. With a number
+//! behind its name: not all, but about so many of each function, evenly taken, for an emulator.
 //!
 //! Part of the differential tests of host/seg2, in a form that needs no Rust on the machine that the archive is for. The
 //! answers are those of host/reference, which shares no code with the proved library; the same seed gives the same bytes
@@ -11,7 +12,7 @@ use reference::generate::{
 };
 use reference::{Number, Order, Question, Refusal, Row, StringPlace, Trace, TraceGiven};
 use std::collections::BTreeSet;
-use std::io::{BufWriter, Write};
+use std::io::Write;
 
 /// The exported functions by the numbers that replay.c knows them by. NEW_BUFFER is none, but tells the buffer of the
 /// vectors behind it; END is none either, and the number of vectors stands behind it.
@@ -38,23 +39,64 @@ const START: u64 = 39;
 const ADD_INTEGERS: u64 = 40;
 const ADD_BITS: u64 = 41;
 const WRITE_NUMBER: u64 = 42;
+const FUNCTIONS: usize = 43;
 const END: u64 = u64::MAX;
 
 type Answer = Result<Vec<u64>, Refusal>;
 
 struct Out {
-    file: BufWriter<std::io::Stdout>,
+    /// The vector that is being written, or a buffer; both go on to `all` when the next begins.
+    open: Vec<u8>,
+    all: Vec<u8>,
     vectors: u64,
+    /// Whether the open one is a buffer, and the last buffer until a vector that is taken needs it.
+    is_buffer: bool,
+    buffer: Vec<u8>,
+    /// The open one's function, how many of each there were, and every how many-th of each is taken.
+    function: usize,
+    seen: [u64; FUNCTIONS],
+    every: [u64; FUNCTIONS],
 }
 
 impl Out {
+    fn new(every: [u64; FUNCTIONS]) -> Out {
+        Out {
+            open: Vec::new(),
+            all: Vec::new(),
+            vectors: 0,
+            is_buffer: false,
+            buffer: Vec::new(),
+            function: 0,
+            seen: [0; FUNCTIONS],
+            every,
+        }
+    }
+
+    /// Settles what is open: a buffer waits, and a vector is taken, behind its buffer, or left.
+    fn settle(&mut self) {
+        let open = std::mem::take(&mut self.open);
+        if self.is_buffer {
+            self.buffer = open;
+            return;
+        }
+        if open.is_empty() {
+            return;
+        }
+        if self.seen[self.function] % self.every[self.function] == 0 {
+            self.all.append(&mut self.buffer);
+            self.all.extend_from_slice(&open);
+            self.vectors += 1;
+        }
+        self.seen[self.function] += 1;
+    }
+
     fn number(&mut self, value: u64) {
-        self.file.write_all(&value.to_le_bytes()).expect("standard output takes the vectors");
+        self.open.extend_from_slice(&value.to_le_bytes());
     }
 
     fn bytes(&mut self, bytes: &[u8]) {
         self.number(bytes.len() as u64);
-        self.file.write_all(bytes).expect("standard output takes the vectors");
+        self.open.extend_from_slice(bytes);
     }
 
     fn row(&mut self, row: &[u64]) {
@@ -66,6 +108,8 @@ impl Out {
 
     /// The buffer of the questions that follow.
     fn buffer(&mut self, buffer: &[u8], length: usize) {
+        self.settle();
+        self.is_buffer = true;
         self.number(NEW_BUFFER);
         self.bytes(buffer);
         self.number(length as u64);
@@ -73,7 +117,9 @@ impl Out {
 
     /// Opens a vector: which function, and what it is given beside the buffer.
     fn ask(&mut self, function: u64, part: i32, index: u64, text: &[u8]) {
-        self.vectors += 1;
+        self.settle();
+        self.is_buffer = false;
+        self.function = function as usize;
         self.number(function);
         self.number(part as i64 as u64);
         self.number(index);
@@ -620,8 +666,9 @@ fn additions(out: &mut Out, rng: &mut Rng) {
     }
 }
 
-fn main() {
-    let mut out = Out { file: BufWriter::new(std::io::stdout()), vectors: 0 };
+/// All vectors, of each function every how many-th.
+fn written(every: [u64; FUNCTIONS]) -> Out {
+    let mut out = Out::new(every);
     let mut rng = Rng::new(20_261_115);
     let parts = [
         valid_files, damaged_files, broken_files, one_trace, any_bytes, numbers, texts_of_numbers, samples, starts, additions,
@@ -630,7 +677,18 @@ fn main() {
     for part in parts {
         part(&mut out, &mut rng);
     }
+    out.settle();
+    out
+}
+
+fn main() {
+    let mut out = written([1; FUNCTIONS]);
+    if let Some(word) = std::env::args().nth(1) {
+        let about: u64 = word.parse().expect("how many of each function");
+        out = written(out.seen.map(|n| (n / about).max(1)));
+    }
     out.number(END);
     out.number(out.vectors);
-    out.file.flush().expect("standard output takes the vectors");
+    let mut to = std::io::stdout().lock();
+    to.write_all(&out.all).and_then(|()| to.write_all(&out.open)).and_then(|()| to.flush()).expect("standard output takes the vectors");
 }
