@@ -48,6 +48,9 @@
 #![deny(missing_docs)]
 #![deny(unsafe_code)]
 
+/// The version, as the header has it.
+pub const VERSION: &str = env!("SEG2_VERSION");
+
 #[doc(hidden)]
 pub mod calls;
 mod file;

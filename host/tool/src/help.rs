@@ -208,7 +208,9 @@ told, but for the text of a trace's value.
 ";
 
 /// What --version prints.
-pub const VERSION: &str = concat!("seg2 ", env!("CARGO_PKG_VERSION"), "\n");
+pub fn version() -> String {
+    format!("seg2 {}\n", seg2::VERSION)
+}
 
 impl Command {
     pub fn usage(&self) -> String {

@@ -43,7 +43,7 @@ fn run(words: &[OsString]) -> Answer {
     let verb = verb.to_string_lossy();
     match verb.as_ref() {
         "help" | "--help" | "-h" => return print(asked_help(rest)?.as_bytes()),
-        "version" | "--version" | "-V" => return print(help::VERSION.as_bytes()),
+        "version" | "--version" | "-V" => return print(help::version().as_bytes()),
         _ => {}
     }
     let command = help::command(&verb).ok_or_else(|| no_command(&verb))?;

@@ -31,10 +31,23 @@ fn fed(words: &[&str], input: &[u8]) -> Ended {
 // ---- options
 
 #[test]
-fn the_version_is_the_packages() {
+fn the_version_is_the_headers() {
+    let header = include_str!("../../../include/seg2.h");
+    let number = |name: &str| {
+        let word = format!("#define SEG2_VERSION_{name} ");
+        header
+            .lines()
+            .find_map(|line| line.strip_prefix(&word))
+            .expect("a number")
+    };
+    let version = format!(
+        "seg2 {}.{}.{}\n",
+        number("MAJOR"),
+        number("MINOR"),
+        number("PATCH")
+    );
     for word in ["--version", "-V", "version"] {
-        let version = concat!("seg2 ", env!("CARGO_PKG_VERSION"), "\n");
-        assert_eq!(run!(word), (0, version.into(), "".into()));
+        assert_eq!(run!(word), (0, version.clone(), "".into()));
     }
 }
 
