@@ -230,7 +230,12 @@ compile_module() {
         # what is looked at as text is what is then assembled
         compiled "$3" "$2/$3.s" -S -x ir "$2/$3.ll"
         ! uses_18 "$2/$3.s" || die "the code for $3 uses register 18, which the system keeps for itself"
-        "$clang" "--target=$3" -Werror -c "$2/$3.s" -o "$2/$3/$1.o"
+        # (this clang's assembler takes a simulator for another system than its phone and warns; the look at the archive tells)
+        case $3 in
+        *-simulator) quiet=-Wa,--no-warn ;;
+        *) quiet= ;;
+        esac
+        "$clang" "--target=$3" -Werror $quiet -c "$2/$3.s" -o "$2/$3/$1.o"
     else
         compiled "$3" "$2/$3/$1.o" -c -x ir "$2/$3.ll"
     fi
@@ -246,6 +251,12 @@ keeps_18() {
     esac
 }
 uses_18() { grep -nwE '[wx]18' "$1" >&2; }
+
+# stale_archive PLATFORM: its archive is missing, or older than what it is made of.
+stale_archive() {
+    [ ! -f "archives/$1/libseg2.a" ] ||
+        [ -n "$(find crates crates.txt include/seg2.h tools/lib-archive.sh tools/platform-archives tools/platform/objects.py -newer "archives/$1/libseg2.a" -print -quit)" ]
+}
 
 # The functions that the header declares: each stands at the start of a line, behind what it returns.
 declared() {

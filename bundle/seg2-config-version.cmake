@@ -1,0 +1,11 @@
+# Until 1.0 the middle number changes where a struct or a function does, so it has to be the one that is asked for.
+set(PACKAGE_VERSION "@VERSION@")
+string(REGEX MATCH "^[0-9]+\\.[0-9]+" _seg2_own "${PACKAGE_VERSION}")
+string(REGEX MATCH "^[0-9]+\\.[0-9]+" _seg2_asked "${PACKAGE_FIND_VERSION}")
+set(PACKAGE_VERSION_COMPATIBLE FALSE)
+if(NOT _seg2_asked OR (_seg2_asked STREQUAL _seg2_own AND NOT PACKAGE_FIND_VERSION VERSION_GREATER PACKAGE_VERSION))
+    set(PACKAGE_VERSION_COMPATIBLE TRUE)
+endif()
+if(PACKAGE_FIND_VERSION VERSION_EQUAL PACKAGE_VERSION)
+    set(PACKAGE_VERSION_EXACT TRUE)
+endif()
