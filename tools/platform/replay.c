@@ -78,6 +78,8 @@ enum {
     LENIENT_INTEGERS,
     LENIENT_BITS,
     READ_NUMBER,
+    START_SIZE,
+    ADD_SIZE,
     START,
     ADD_INTEGERS,
     ADD_BITS,
@@ -127,6 +129,8 @@ static const struct {
     [LENIENT_INTEGERS] = {"seg2_lenient_integers", sizeof(seg2_lenient_verdict)},
     [LENIENT_BITS] = {"seg2_lenient_bits", sizeof(seg2_lenient_verdict)},
     [READ_NUMBER] = {"seg2_read_number", sizeof(struct seg2_number)},
+    [START_SIZE] = {"seg2_start_size", sizeof(seg2_length)},
+    [ADD_SIZE] = {"seg2_add_size", sizeof(seg2_length)},
     [START] = {"seg2_start", sizeof(seg2_length)},
     [ADD_INTEGERS] = {"seg2_add_integers", sizeof(seg2_length)},
     [ADD_BITS] = {"seg2_add_bits", sizeof(seg2_length)},
@@ -248,7 +252,7 @@ typedef struct call {
     size_t size;
     size_t length;
     int32_t part;
-    size_t index;
+    size_t index; /* or how many samples */
     uint8_t *text;
     size_t text_size;
     uint32_t code; /* or the byte order */
@@ -311,6 +315,8 @@ __attribute__((noinline)) static void perform(call *c) {
         seg2_lenient_bits(c->answer, c->buffer, c->size, c->length, c->part, c->row, c->row_size, c->classes, c->classes_size);
         break;
     case READ_NUMBER: seg2_read_number(c->answer, c->text, c->text_size); break;
+    case START_SIZE: seg2_start_size(c->answer, c->code, c->slots, c->text, c->text_size); break;
+    case ADD_SIZE: seg2_add_size(c->answer, c->buffer, c->size, c->length, c->text, c->text_size, c->code, c->index); break;
     case START: seg2_start(c->answer, c->buffer, c->size, c->code, c->slots, c->text, c->text_size); break;
     case ADD_INTEGERS: seg2_add_integers(c->answer, c->buffer, c->size, c->length, c->text, c->text_size, c->code, c->row, c->row_size); break;
     case ADD_BITS: seg2_add_bits(c->answer, c->buffer, c->size, c->length, c->text, c->text_size, c->code, c->row, c->row_size); break;
@@ -383,6 +389,8 @@ static size_t fields_of(uint64_t function, const void *answer, uint64_t *f) {
         f[4] = a->x_decimals, f[5] = a->y_decimals, f[6] = a->z_decimals;
         return 7;
     }
+    case START_SIZE:
+    case ADD_SIZE:
     case START:
     case ADD_INTEGERS:
     case ADD_BITS:
@@ -442,7 +450,9 @@ static call question(uint64_t function, bytes buffer, size_t length) {
     only_read(TEXT, 1);
     free(text.at);
     switch (function) {
+    case START_SIZE:
     case START: c.code = (uint32_t)number(), c.slots = (uint32_t)number(); break;
+    case ADD_SIZE: c.code = (uint32_t)number(); break;
     case ADD_INTEGERS:
     case ADD_BITS: c.code = (uint32_t)number(), lend_row(&c); break;
     case WRITE_NUMBER:

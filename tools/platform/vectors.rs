@@ -35,11 +35,13 @@ const QUICK: u64 = 11;
 /// So far behind each question, CHECK to BITS, stands its lenient form.
 const LENIENT: u64 = 24;
 const READ_NUMBER: u64 = 38;
-const START: u64 = 39;
-const ADD_INTEGERS: u64 = 40;
-const ADD_BITS: u64 = 41;
-const WRITE_NUMBER: u64 = 42;
-const FUNCTIONS: usize = 43;
+const START_SIZE: u64 = 39;
+const ADD_SIZE: u64 = 40;
+const START: u64 = 41;
+const ADD_INTEGERS: u64 = 42;
+const ADD_BITS: u64 = 43;
+const WRITE_NUMBER: u64 = 44;
+const FUNCTIONS: usize = 45;
 const END: u64 = u64::MAX;
 
 type Answer = Result<Vec<u64>, Refusal>;
@@ -642,6 +644,10 @@ fn starts(out: &mut Out, rng: &mut Rng) {
         let case = start_case(rng);
         let Ok(slots) = u32::try_from(case.slots) else { continue };
         out.buffer(&case.buffer, 0);
+        out.ask(START_SIZE, 0, 0, &case.sheet);
+        out.number(u64::from(case.order));
+        out.number(u64::from(slots));
+        out.told(1, reference::start_size(case.order, case.slots, &case.sheet).map(|n| vec![n as u64]));
         out.ask(START, 0, 0, &case.sheet);
         out.number(u64::from(case.order));
         out.number(u64::from(slots));
@@ -658,6 +664,13 @@ fn additions(out: &mut Out, rng: &mut Rng) {
             Row::Integers(row) => (ADD_INTEGERS, row.iter().map(|&v| v as i64 as u64).collect()),
             Row::Bits(row) => (ADD_BITS, row.clone()),
         };
+        // its own samples, whole groups of them, and more than a file may have
+        for count in [row.len(), row.len() & !3, usize::MAX - row.len()] {
+            out.ask(ADD_SIZE, 0, count as u64, &case.sheet);
+            out.number(u64::from(case.code));
+            let room = reference::add_size(&case.buffer, case.length, &case.sheet, case.code, count);
+            out.told(1, room.map(|n| vec![n as u64]));
+        }
         out.ask(function, 0, 0, &case.sheet);
         out.number(u64::from(case.code));
         out.row(&row);
