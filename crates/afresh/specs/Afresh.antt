@@ -16,7 +16,7 @@ use Rattle.sheet.specs.Lines.{sheetLines}
 use Rattle.sheet.specs.Area.{areaSize, measuredOf}
 use Rattle.channel.specs.Count.{counts}
 use Rattle.channel.specs.Channel.{channelNumber}
-use Rattle.sheet_channel.specs.SheetChannel.{valueOfLine}
+use Rattle.channel_line.specs.ChannelLine.{valueOfLine}
 use Rattle.sheet_channel.specs.Meant.{keeps-sheet}
 use Rattle.image.specs.Accepted.{withOf}
 use Rattle.sheet.specs.declared.Measured.the-variants.{Size}

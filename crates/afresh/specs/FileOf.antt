@@ -16,7 +16,7 @@ use Rattle.sheet.specs.Lines.{sheetLines}
 use Rattle.sheet.specs.Area.{areaOf, measuredOf}
 use Rattle.channel.specs.Count.{Counts}
 use Rattle.channel.specs.Channel.{channelNumber}
-use Rattle.sheet_channel.specs.SheetChannel.{hasLine, valueOfLine}
+use Rattle.channel_line.specs.ChannelLine.{hasLine, valueOfLine}
 use Rattle.layout.specs.Layout.{slotsMost, nul, lineFeed, fileBlock, startSize, Trace, fitting, unfit, traceSize, traceBytes}
 
 -- "B and D of all traces"

@@ -24,7 +24,7 @@ use Rattle.head_words.specs.HeadWords.{revisionOf, roomOf, countOf}
 use Rattle.head.specs.Head.{headOf}
 use Rattle.head.specs.HeadLaws.{own-known, own-revision, own-room, own-count}
 use Rattle.image.specs.Image.{imageOf, checkOf}
-use Rattle.image.specs.ImageLaws.{length-accepts}
+use Rattle.file_length.specs.FileLength.{length-accepts}
 use Rattle.refusal.specs.declared.Written.the-variants.{To}
 use Rattle.layout.specs.Layout.{nul, lineFeed}
 use Rattle.start.specs.Start.{startAnswer, startLeft}

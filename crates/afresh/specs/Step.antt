@@ -20,7 +20,7 @@ use Rattle.sheet.specs.Lines.{sheetLines}
 use Rattle.sheet.specs.Area.{areaOf, areaSize}
 use Rattle.channel.specs.Count.{counted}
 use Rattle.channel.specs.Channel.{channelNumber}
-use Rattle.sheet_channel.specs.SheetChannel.{valueOfLine}
+use Rattle.channel_line.specs.ChannelLine.{valueOfLine}
 use Rattle.sheet_channel.specs.Meant.{KeepsSheet, sheet-keeps}
 use Rattle.head_words.specs.HeadWords.{roomOf, countOf}
 use Rattle.refusal.specs.declared.Written.the-variants.{To}

@@ -21,7 +21,7 @@ use Rattle.encode.specs.Write.{flat, residue, fixedBytes, filledUp, integersDat
 use Rattle.sheet_line.specs.SheetLine.{lineLen, lineKeyLen, continues, lineJudged, lineStep}
 use Rattle.sheet.specs.Lines.{checkFrom, linesVerdict, sheetLinesFrom, sheetLines}
 use Rattle.sheet.specs.Area.{joined, sheetStrings, textSize, areaOf, areaSize, measuredOf}
-use Rattle.sheet_channel.specs.SheetChannel.{hasLine}
+use Rattle.channel_line.specs.ChannelLine.{hasLine}
 use Rattle.layout.specs.Layout.{nul, lineFeed, fileBlock, startSize, Trace, Samples.integers, count, fitting, unfit}
 use Rattle.layout.specs.Layout.{samplesData, traceBlock, blockBytes, dataBytes, traceBytes}
 use Rattle.afresh.specs.FileOf.{sizes, pointers, blocks, fileOf, fileSize, Measures, hasChannel, AllGood}

@@ -26,19 +26,19 @@ pub fn check(buffer: &[u8], n: usize) -> Seg2Verdict
 pub fn file_block(buffer: &[u8], n: usize) -> Seg2File
     ensures { λ r. ⌜ r ≡ asFile (fileAnswer Strict (now (buffer .entry)) n) ⌝ }
 {
-    face::file_told(reader::file_block(buffer, n, Manner::Strict))
+    face::file_told(block_answers::file_block(buffer, n, Manner::Strict))
 }
 
 // A trace's block.
 pub fn trace_block(buffer: &[u8], n: usize, trace: i32) -> Seg2Trace
     ensures { λ r. ⌜ r ≡ asTrace (traceAnswer Strict (now (buffer .entry)) n trace) ⌝ }
 {
-    face::trace_told(reader::trace_block(buffer, n, trace, Manner::Strict))
+    face::trace_told(block_answers::trace_block(buffer, n, trace, Manner::Strict))
 }
 
 // How many strings the file (part -1) or a trace has.
 pub fn string_count(buffer: &[u8], n: usize, part: i32) -> Seg2Count
     ensures { λ r. ⌜ r ≡ asCount (countAnswer Strict (now (buffer .entry)) n part) ⌝ }
 {
-    face::count_told(reader::string_count(buffer, n, part, Manner::Strict))
+    face::count_told(string_answers::string_count(buffer, n, part, Manner::Strict))
 }

@@ -33,7 +33,10 @@ pub fn file_block(buffer: &[u8], n: usize) -> Seg2LenientFile
         (checkOf Strict Read (now (buffer .entry)) n) ⌝ }
 {
     let strict = strict_check::strictly(buffer, n);
-    face_lenient::file_beside(reader::file_block(buffer, n, Manner::Lenient), strict)
+    face_lenient::file_beside(
+        block_answers::file_block(buffer, n, Manner::Lenient),
+        strict,
+    )
 }
 
 // A trace's block.
@@ -43,7 +46,7 @@ pub fn trace_block(buffer: &[u8], n: usize, trace: i32) -> Seg2LenientTrace
 {
     let strict = strict_check::strictly(buffer, n);
     face_lenient::trace_beside(
-        reader::trace_block(buffer, n, trace, Manner::Lenient),
+        block_answers::trace_block(buffer, n, trace, Manner::Lenient),
         strict,
     )
 }
@@ -55,7 +58,7 @@ pub fn string_count(buffer: &[u8], n: usize, part: i32) -> Seg2LenientCount
 {
     let strict = strict_check::strictly(buffer, n);
     face_lenient::count_beside(
-        reader::string_count(buffer, n, part, Manner::Lenient),
+        string_answers::string_count(buffer, n, part, Manner::Lenient),
         strict,
     )
 }

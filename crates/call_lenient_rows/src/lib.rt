@@ -23,7 +23,7 @@ pub fn strings(buffer: &[u8], n: usize, part: i32, row: &mut [usize]) -> Seg2Len
 {
     let strict = strict_check::strictly(buffer, n);
     face_lenient::verdict_beside(
-        string_rows::strings(buffer, n, part, row, Manner::Lenient),
+        part_rows::strings(buffer, n, part, row, Manner::Lenient),
         strict,
     )
 }

@@ -20,7 +20,7 @@ pub fn string(buffer: &[u8], n: usize, part: i32, index: usize) -> Seg2LenientSt
 {
     let strict = strict_check::strictly(buffer, n);
     face_lenient::string_beside(
-        reader::string(buffer, n, part, index, Manner::Lenient),
+        string_answers::string(buffer, n, part, index, Manner::Lenient),
         strict,
     )
 }
@@ -32,7 +32,7 @@ pub fn keyword(buffer: &[u8], n: usize, part: i32, key: &[u8]) -> Seg2LenientKey
 {
     let strict = strict_check::strictly(buffer, n);
     face_lenient::keyword_beside(
-        reader::keyword(buffer, n, part, key, Manner::Lenient),
+        string_answers::keyword(buffer, n, part, key, Manner::Lenient),
         strict,
     )
 }
@@ -43,5 +43,8 @@ pub fn value(buffer: &[u8], n: usize, part: i32, key: &[u8]) -> Seg2LenientValue
         (checkOf Strict Read (now (buffer .entry)) n) ⌝ }
 {
     let strict = strict_check::strictly(buffer, n);
-    face_lenient::value_beside(reader::find(buffer, n, part, key, Manner::Lenient), strict)
+    face_lenient::value_beside(
+        string_answers::find(buffer, n, part, key, Manner::Lenient),
+        strict,
+    )
 }

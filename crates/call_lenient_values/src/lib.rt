@@ -20,7 +20,10 @@ pub fn number(buffer: &[u8], n: usize, part: i32, key: &[u8]) -> Seg2LenientNumb
 {
     let strict = strict_check::strictly(buffer, n);
     face_lenient::number_beside(
-        values::number_of(buffer, reader::find(buffer, n, part, key, Manner::Lenient)),
+        values::number_of(
+            buffer,
+            string_answers::find(buffer, n, part, key, Manner::Lenient), // of a number
+        ),
         strict,
     )
 }
@@ -32,7 +35,10 @@ pub fn double(buffer: &[u8], n: usize, part: i32, key: &[u8]) -> Seg2LenientDoub
 {
     let strict = strict_check::strictly(buffer, n);
     face_lenient::double_beside(
-        values::double_of(buffer, reader::find(buffer, n, part, key, Manner::Lenient)),
+        values::double_of(
+            buffer,
+            string_answers::find(buffer, n, part, key, Manner::Lenient), // of a double
+        ),
         strict,
     )
 }
@@ -44,7 +50,10 @@ pub fn location(buffer: &[u8], n: usize, part: i32, key: &[u8]) -> Seg2LenientLo
 {
     let strict = strict_check::strictly(buffer, n);
     face_lenient::location_beside(
-        values::location_of(buffer, reader::find(buffer, n, part, key, Manner::Lenient)),
+        values::location_of(
+            buffer,
+            string_answers::find(buffer, n, part, key, Manner::Lenient), // of a location
+        ),
         strict,
     )
 }

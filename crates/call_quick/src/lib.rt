@@ -31,19 +31,19 @@ pub fn string_count(buffer: &[u8], n: usize, trace: i32) -> Seg2Count
 pub fn string(buffer: &[u8], n: usize, trace: i32, index: usize) -> Seg2String
     ensures { λ r. ⌜ r ≡ asString (quickNth (now (buffer .entry)) n trace index) ⌝ }
 {
-    face_values::string_told(quick_strings::string(buffer, n, trace, index))
+    face_strings::string_told(quick_strings::string(buffer, n, trace, index))
 }
 
 // Whether a trace has a keyword: one of the two calls.
 pub fn keyword(buffer: &[u8], n: usize, trace: i32, key: &[u8]) -> Seg2Keyword
     ensures { λ r. ⌜ r ≡ asKeyword (quickKeyword (now (buffer .entry)) n trace (now (key .entry))) ⌝ }
 {
-    face_values::keyword_told(quick::keyword(buffer, n, trace, key))
+    face_strings::keyword_told(quick::keyword(buffer, n, trace, key))
 }
 
 // Its value: the other one.
 pub fn value(buffer: &[u8], n: usize, trace: i32, key: &[u8]) -> Seg2Value
     ensures { λ r. ⌜ r ≡ asValue (quickFind (now (buffer .entry)) n trace (now (key .entry))) ⌝ }
 {
-    face_values::value_told(quick::find(buffer, n, trace, key))
+    face_strings::value_told(quick::find(buffer, n, trace, key))
 }

@@ -18,7 +18,7 @@ pub fn strings(buffer: &[u8], n: usize, part: i32, row: &mut [usize]) -> Seg2Ver
         (length (now (row .entry)))) ⌝ }
     ensures row { λ _. ⌜ now (row .exit) ≡ stringsLeft Strict (now (buffer .entry)) n part (now (row .entry)) ⌝ }
 {
-    face::told(string_rows::strings(buffer, n, part, row, Manner::Strict))
+    face::told(part_rows::strings(buffer, n, part, row, Manner::Strict))
 }
 
 // All strings of a trace, quickly.
@@ -26,7 +26,7 @@ pub fn quick_strings(buffer: &[u8], n: usize, trace: i32, row: &mut [usize]) -> 
     ensures answer { λ r. ⌜ r ≡ asVerdict (quickStrings (now (buffer .entry)) n trace (length (now (row .entry)))) ⌝ }
     ensures row { λ _. ⌜ now (row .exit) ≡ quickStringsLeft (now (buffer .entry)) n trace (now (row .entry)) ⌝ }
 {
-    face::told(quick_strings::strings(buffer, n, trace, row))
+    face::told(quick_rows::strings(buffer, n, trace, row))
 }
 
 // The samples of a trace of code 1 to 3, quickly, into a row of as many.

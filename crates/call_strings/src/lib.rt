@@ -14,19 +14,19 @@ ghost use Rattle.face_values.specs.FaceValues.{asString, asKeyword, asValue};
 pub fn string(buffer: &[u8], n: usize, part: i32, index: usize) -> Seg2String
     ensures { λ r. ⌜ r ≡ asString (nthAnswer Strict (now (buffer .entry)) n part index) ⌝ }
 {
-    face_values::string_told(reader::string(buffer, n, part, index, Manner::Strict))
+    face_strings::string_told(string_answers::string(buffer, n, part, index, Manner::Strict))
 }
 
 // Whether a keyword is there: one of the two calls of a keyword question.
 pub fn keyword(buffer: &[u8], n: usize, part: i32, key: &[u8]) -> Seg2Keyword
     ensures { λ r. ⌜ r ≡ asKeyword (keywordAnswer Strict (now (buffer .entry)) n part (now (key .entry))) ⌝ }
 {
-    face_values::keyword_told(reader::keyword(buffer, n, part, key, Manner::Strict))
+    face_strings::keyword_told(string_answers::keyword(buffer, n, part, key, Manner::Strict))
 }
 
 // A keyword's value: the other one.
 pub fn value(buffer: &[u8], n: usize, part: i32, key: &[u8]) -> Seg2Value
     ensures { λ r. ⌜ r ≡ asValue (findAnswer Strict (now (buffer .entry)) n part (now (key .entry))) ⌝ }
 {
-    face_values::value_told(reader::find(buffer, n, part, key, Manner::Strict))
+    face_strings::value_told(string_answers::find(buffer, n, part, key, Manner::Strict))
 }

@@ -27,7 +27,7 @@ use Rattle.channel.specs.Count.{countMost, countIn, wholly, pointless, Counts, 
 use Rattle.channel.specs.Channel.{channelNumber}
 use Rattle.chars.specs.Runs.{all}
 use Rattle.sheet.specs.Lines.{sheetLines}
-use Rattle.sheet_channel.specs.SheetChannel.{hasLine, valueOfLine}
+use Rattle.channel_line.specs.ChannelLine.{hasLine, valueOfLine}
 use Rattle.sheet_channel.specs.Meant.{sheet-keeps, keeps-sheet}
 use Rattle.head_words.specs.HeadWords.{highFirst, countOf}
 use Rattle.block.specs.Block.{dataAt}

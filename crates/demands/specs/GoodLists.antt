@@ -23,7 +23,7 @@ use Rattle.refusal.specs.Rows.{pick}
 use Rattle.chars.specs.Runs.{same, same-eq, same-not}
 use Rattle.channel.specs.Count.{Counts}
 use Rattle.channel.specs.Channel.{channelNumber}
-use Rattle.sheet_channel.specs.SheetChannel.{hasLine, valueOfLine}
+use Rattle.channel_line.specs.ChannelLine.{hasLine, valueOfLine}
 use Rattle.sheet.specs.Lines.{Line, sheetLines}
 use Rattle.sheet.specs.Area.{areaMost, joined, sheetStrings, textSize, areaOf, areaSize}
 use Rattle.sheet.specs.Sizes.{length-area}

@@ -30,7 +30,7 @@ use Rattle.sheet.specs.Area.{areaMost, joined, sheetStrings, textSize, areaSize
 use Rattle.sheet.specs.Sizes.{length-area}
 use Rattle.sheet.specs.Paper.{sheetOf, GoodLines, lines-read}
 use Rattle.channel.specs.Channel.{channelNumber}
-use Rattle.sheet_channel.specs.SheetChannel.{hasLine}
+use Rattle.channel_line.specs.ChannelLine.{hasLine}
 use Rattle.area.specs.Meaning.{strsOf}
 use Rattle.reader.specs.declared.KeywordAnswer.the-variants.{Yes}
 use Rattle.reader.specs.Questions.{yesOrNo, valueThere, nthAnswer, findAnswer, keywordAnswer, valueAnswer, numberAnswer}

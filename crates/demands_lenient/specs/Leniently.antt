@@ -50,8 +50,8 @@ use Rattle.lenient.specs.Forgiven.{ForgivenIn, strict-lenient, refused-or-forgi
 use Rattle.lenient.specs.Never.{never-order}
 use Rattle.lenient.specs.Answers.{file-alike, trace-alike, count-alike, nth-alike, find-alike, keyword-alike, number-alike, double-alike}
 use Rattle.lenient.specs.Answers.{location-alike, strings-alike, integers-alike, bits-alike}
-use Rattle.demands.specs.FileRows.{checkRows, check-answers-first}
-use Rattle.demands.specs.QuestionRows.{stringsAskedRows, strings-answer-first, integersAskedRows, integers-answer-first, bitsAskedRows, bits-answer-first}
+use Rattle.demands_rows.specs.FileRows.{checkRows, check-answers-first}
+use Rattle.demands_rows.specs.QuestionRows.{stringsAskedRows, strings-answer-first, integersAskedRows, integers-answer-first, bitsAskedRows, bits-answer-first}
 
 -- ---- accepted leniently exactly where the lenient rules are kept: `Keeps` in the lenient manner, in no order of checking.
 -- What that asks of strings, in plain words, is Plain's. Rules out a reading that takes a broken file, and one that refuses

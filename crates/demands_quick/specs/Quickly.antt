@@ -40,7 +40,8 @@ use Rattle.terminators.specs.Terminators.{stringEnd, lineEnd}
 use Rattle.terminators.specs.TerminatorLaws.{good-ends}
 use Rattle.block.specs.Block.{blockSize, dataAt, blockRows, blockOf, pointerRow}
 use Rattle.block.specs.BlockLaws.{headAt}
-use Rattle.image.specs.Image.{badLength, checkOf}
+use Rattle.file_length.specs.FileLength.{badLength}
+use Rattle.image.specs.Image.{checkOf}
 use Rattle.image.specs.Keeps.{traceAt}
 use Rattle.image.specs.Accepted.{image-headed}
 use Rattle.block.specs.declared.TraceAnswer.{TraceAnswer}
@@ -83,8 +84,8 @@ use Rattle.shortcut.specs.Same.{value-same, span-same, number-same, double-same
 use Rattle.shortcut.specs.Same.{AllNamed, block-named, strings-named, integers-named, bits-named, found-is-last}
 use Rattle.face.specs.Face.{asVerdict, asTrace, asCount}
 use Rattle.face_values.specs.FaceValues.{asString, asKeyword, asValue, asNumber, asDouble, asLocation}
-use Rattle.demands.specs.FileRows.{text-first, ends-first, pick-first, pointerTest, block-first, head-first}
-use Rattle.demands.specs.QuestionRows.{fourIn, ruled-rows}
+use Rattle.demands_rows.specs.FileRows.{text-first, ends-first, pick-first, pointerTest, block-first, head-first}
+use Rattle.demands_rows.specs.QuestionRows.{fourIn, ruled-rows}
 use Rattle.shortcut.specs.Row.{row-holds}
 
 -- ---- "On every file that the full check accepts, the answer equals the full one": every question, as it crosses, and each
@@ -218,7 +219,7 @@ found-is-the-last-read = found-is-last
 
 -- ---- "Refusals: those of 01 for the bytes read, in 01's order, with 18 between 7 and 8", then the question's own
 
--- the strings from one at the place `at` on: 14 and 15, 16 and 17 of each as in demands/FileRows `stringRows`, and then the
+-- the strings from one at the place `at` on: 14 and 15, 16 and 17 of each as in demands_rows/FileRows `stringRows`, and then the
 -- next string's, unless the walk ends
 unfoldable pub walkRows : (ℕ → List ℕ → Turn) → ℕ → Bool → List ℕ → List ℕ → Part → ℕ → List ℕ → List ℕ → ℕ → List Verdict
 walkRows look zero high t u p j prev l at = row true StringOffset p at ∷ []

@@ -33,7 +33,7 @@ use Rattle.sheet.specs.declared.Measured.{Measured}
 use Rattle.sheet.specs.declared.Measured.the-variants as measured
 use Rattle.sheet.specs.Area.{areaSize, measuredOf}
 use Rattle.image.specs.Image.{checkOf}
-use Rattle.image.specs.ImageLaws.{length-accepts}
+use Rattle.file_length.specs.FileLength.{length-accepts}
 use Rattle.layout.specs.Layout.{nul, lineFeed, startImage, startSize, Trace, count}
 use Rattle.layout.specs.LayoutLaws.{length-startImage}
 use Rattle.start.specs.Start.{within, roomed, onMeasured, badStart, startInto, startAnswer, startNeeds, startLeft}
@@ -46,8 +46,8 @@ use Rattle.entry.specs.Entry.{samplesVerdict, codeVerdict}
 use Rattle.entry.specs.EntryLaws.{code-of-samples, code-refused}
 use Rattle.writer.specs.Answers.{addInto, addAnswer, addNeeds}
 use Rattle.writer.specs.Shown.{added}
-use Rattle.demands.specs.Answers.{writes}
-use Rattle.demands.specs.WriterRows.{sheetRows, sheet-first, intoRows, into-answers-first}
+use Rattle.demands_rows.specs.Answers.{writes}
+use Rattle.demands_rows.specs.WriterRows.{sheetRows, sheet-first, intoRows, into-answers-first}
 
 -- ---- a start
 

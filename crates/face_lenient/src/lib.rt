@@ -129,7 +129,7 @@ pub fn string_beside(a: StringAnswer, strict: Verdict) -> Seg2LenientString
     ensures { λ r. ⌜ r ≡ lenientString a strict ⌝ }
 {
     Seg2LenientString {
-        answer: face_values::string_told(a),
+        answer: face_strings::string_told(a),
         strict: face::told(strict),
     }
 }
@@ -138,7 +138,7 @@ pub fn keyword_beside(a: KeywordAnswer, strict: Verdict) -> Seg2LenientKeyword
     ensures { λ r. ⌜ r ≡ lenientKeyword a strict ⌝ }
 {
     Seg2LenientKeyword {
-        answer: face_values::keyword_told(a),
+        answer: face_strings::keyword_told(a),
         strict: face::told(strict),
     }
 }
@@ -147,7 +147,7 @@ pub fn value_beside(a: StringAnswer, strict: Verdict) -> Seg2LenientValue
     ensures { λ r. ⌜ r ≡ lenientValue a strict ⌝ }
 {
     Seg2LenientValue {
-        answer: face_values::value_told(a),
+        answer: face_strings::value_told(a),
         strict: face::told(strict),
     }
 }

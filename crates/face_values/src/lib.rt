@@ -1,18 +1,15 @@
 // The answers on strings and their values as they cross to another language, and a number as it comes back: C structs
-// as those of `face`, each beginning with the same three numbers. FaceValues has the definitions; include/seg2.h
-// declares the structs, with the same fields in the same order, to which a host test holds both.
+// as those of `face`, each beginning with the same three numbers. FaceValues has the definitions, those of `face_strings`
+// too; include/seg2.h declares the structs, with the same fields in the same order, to which a host test holds both.
 // Stands on `face`, `reader`, `location`, `double` and what they stand on.
 // The rules in words: docs/FORMAT.md, "Refusal numbers, in order of checking".
 use decimal_parts::Decimal;
 use decimal_parts::NumberAnswer;
 use double::DoubleAnswer;
 use location::LocationAnswer;
-use reader::KeywordAnswer;
-use reader::StringAnswer;
 use refusal::Verdict;
 ghost use mathlib.Core.Path.{_≡_};
-ghost use Prim.Native.Nat.{_-_};
-ghost use Rattle.face_values.specs.FaceValues.{asString, asKeyword, asValue, asNumber, asDouble, asLocation};
+ghost use Rattle.face_values.specs.FaceValues.{asNumber, asDouble, asLocation};
 ghost use Rattle.face_values.specs.FaceValues.{asGiven};
 
 // Whether there is such a string; start and length of its keyword and of its value in the caller's own buffer.
@@ -81,16 +78,6 @@ pub struct Seg2Location {
     pub z_decimals: u32,
 }
 
-// How many bytes stand from a up to e.
-fn span(a: usize, e: usize) -> usize
-    ensures { λ r. ⌜ r ≡ e - a ⌝ }
-{
-    if e < a {
-        return 0;
-    }
-    e - a
-}
-
 // ---- a number as it comes back from another language
 
 // Its sign is a number there: 0 for plus, any other for minus.
@@ -106,105 +93,6 @@ pub fn number_given(minus: u32, coefficient: u64, power: i32, decimals: u32) -> 
 }
 
 // ---- answers as they cross to another language
-
-pub fn string_told(a: StringAnswer) -> Seg2String
-    ensures { λ r. ⌜ r ≡ asString a ⌝ }
-{
-    match a {
-        StringAnswer::There(s) => Seg2String {
-            number: 0,
-            part: -1,
-            place: 0,
-            found: 1,
-            key_start: s.key,
-            key_length: span(s.key, s.gap),
-            value_start: s.value,
-            value_length: span(s.value, s.end),
-        },
-        StringAnswer::Absent => Seg2String {
-            number: 0,
-            part: -1,
-            place: 0,
-            found: 0,
-            key_start: 0,
-            key_length: 0,
-            value_start: 0,
-            value_length: 0,
-        },
-        StringAnswer::Refused(r) => {
-            let t = face::told(Verdict::Refused(r));
-            Seg2String {
-                number: t.number,
-                part: t.part,
-                place: t.place,
-                found: 0,
-                key_start: 0,
-                key_length: 0,
-                value_start: 0,
-                value_length: 0,
-            }
-        }
-    }
-}
-
-pub fn keyword_told(a: KeywordAnswer) -> Seg2Keyword
-    ensures { λ r. ⌜ r ≡ asKeyword a ⌝ }
-{
-    match a {
-        KeywordAnswer::Yes => Seg2Keyword {
-            number: 0,
-            part: -1,
-            place: 0,
-            found: 1,
-        },
-        KeywordAnswer::No => Seg2Keyword {
-            number: 0,
-            part: -1,
-            place: 0,
-            found: 0,
-        },
-        KeywordAnswer::Refused(r) => {
-            let t = face::told(Verdict::Refused(r));
-            Seg2Keyword {
-                number: t.number,
-                part: t.part,
-                place: t.place,
-                found: 0,
-            }
-        }
-    }
-}
-
-pub fn value_told(a: StringAnswer) -> Seg2Value
-    ensures { λ r. ⌜ r ≡ asValue a ⌝ }
-{
-    match a {
-        StringAnswer::There(s) => Seg2Value {
-            number: 0,
-            part: -1,
-            place: 0,
-            value_start: s.value,
-            value_length: span(s.value, s.end),
-        },
-        StringAnswer::Absent => Seg2Value {
-            number: 0,
-            part: -1,
-            place: 0,
-            value_start: 0,
-            value_length: 0,
-        },
-        StringAnswer::Refused(r) => {
-            let t = face::told(Verdict::Refused(r));
-            Seg2Value {
-                number: t.number,
-                part: t.part,
-                place: t.place,
-                value_start: 0,
-                value_length: 0,
-            }
-        }
-    }
-}
 
 pub fn number_told(a: NumberAnswer) -> Seg2Number
     ensures { λ r. ⌜ r ≡ asNumber a ⌝ }

@@ -28,7 +28,7 @@ use Rattle.channel.specs.Channel.{channelNumber}
 use Rattle.sheet.specs.Area as area
 use Rattle.sheet.specs.Area.{areaSize}
 use Rattle.sheet.specs.Lines.{linesVerdict, sheetLines}
-use Rattle.sheet_channel.specs.SheetChannel.{hasLine, valueOfLine}
+use Rattle.channel_line.specs.ChannelLine.{hasLine, valueOfLine}
 use Rattle.sheet_channel.specs.Meant.{has-meant, value-meant, KeepsSheet, sheet-keeps}
 use Rattle.area.specs.Spelling.{measured-size, area-bounds, area-spells}
 use Rattle.head_words.specs.HeadWords.{highFirst, roomOf, countOf}

@@ -32,7 +32,8 @@ use Rattle.head.specs.declared.FileAnswer.the-variants as file
 use Rattle.reader.specs.Listed.{found-value}
 use Rattle.reader.specs.Answers.{data-at, samples-at, patterns-at, classes-at}
 use Rattle.block.specs.declared.TraceBlock.{TraceBlock}
-use Rattle.reader.specs.Questions.{blockAt, noTrace, whoseOf, areaNamed, areaAsked, onArea, onTrace, fileAnswer}
+use Rattle.part_number.specs.PartNumber.{whoseOf}
+use Rattle.reader.specs.Questions.{blockAt, noTrace, areaNamed, areaAsked, onArea, onTrace, fileAnswer}
 use Rattle.reader.specs.Questions.{traceAnswer, placesIn, countAnswer, there, nthAnswer, findAnswer, keywordAnswer}
 use Rattle.reader.specs.Questions.{valueThere, valueAnswer, numberAnswer, doubleAnswer, locationAnswer, dataOf}
 use Rattle.reader.specs.Questions.{integersVerdict, bitsVerdict, integersAnswer, bitsAnswer, samplesOf, patternsOf}

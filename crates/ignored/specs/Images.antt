@@ -31,7 +31,8 @@ use Rattle.terminators.specs.Terminators.{terminatorAt, stringEnd, lineEnd, goo
 use Rattle.head.specs.Head.{headOf}
 use Rattle.block.specs.Block.{pointerOf, markAt, blockSize, dataSize, sampleCount, formatCode, dataAt, endAt, blockOf}
 use Rattle.trace.specs.Trace.{areaVerdict, channelAt}
-use Rattle.image.specs.Image.{withChannel, traceOf, tracesFrom, filledChecks, restOf, imageOf}
+use Rattle.traces.specs.Traces.{withChannel, traceOf, tracesFrom}
+use Rattle.image.specs.Image.{filledChecks, restOf, imageOf}
 use Rattle.block.specs.BlockLaws.{headAt, own-mark, own-size, own-data, own-samples, own-code}
 use Rattle.refusal.specs.FirstRow.{firstOf}
 use Rattle.image.specs.Keeps.{traceAt, stringsEnd}

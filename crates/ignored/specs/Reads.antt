@@ -24,15 +24,16 @@ use Rattle.terminators.specs.Terminators.{stringEnd}
 use Rattle.block.specs.Block.{sampleCount, formatCode, dataAt, endAt, traceBlockOf}
 use Rattle.image.specs.Image.{checkOf}
 use Rattle.image.specs.Keeps.{traceAt, stringsEnd}
-use Rattle.reader.specs.declared.Whose.{Whose}
-use Rattle.reader.specs.declared.Whose.the-variants.{Whole, One, Nobody}
+use Rattle.part_number.specs.declared.Whose.{Whose}
+use Rattle.part_number.specs.declared.Whose.the-variants.{Whole, One, Nobody}
 use Rattle.reader.specs.declared.Area.{Area}
 use Rattle.reader.specs.declared.Area.the-variants.{Outside, From}
 use Rattle.reader.specs.declared.StringAnswer.the-variants as string
 use Rattle.head.specs.declared.FileAnswer.the-variants as file
 use Rattle.block.specs.declared.TraceAnswer.the-variants as trace
 use Rattle.reader.specs.declared.CountAnswer.the-variants as count
-use Rattle.reader.specs.Questions.{noTrace, whoseOf, areaNamed, areaAsked, onArea, onTrace, fileAnswer, traceAnswer}
+use Rattle.part_number.specs.PartNumber.{whoseOf}
+use Rattle.reader.specs.Questions.{noTrace, areaNamed, areaAsked, onArea, onTrace, fileAnswer, traceAnswer}
 use Rattle.reader.specs.Questions.{placesIn, countAnswer, there, nthAnswer, findAnswer, keywordAnswer, yesOrNo}
 use Rattle.reader.specs.Questions.{valueThere, valueAnswer, numberAnswer, doubleAnswer, locationAnswer, codeAt, countAt}
 use Rattle.reader.specs.Questions.{dataOf, integersVerdict, bitsVerdict, integersAnswer, bitsAnswer, samplesIn}

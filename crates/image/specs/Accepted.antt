@@ -44,10 +44,12 @@ use Rattle.head.specs.HeadLaws.{Headed, headed, head-accepts}
 use Rattle.terminators.specs.TerminatorLaws.{good-length, good-chars, good-ends}
 use Rattle.block.specs.Block.{blockSize, dataSize, dataAt, endAt}
 use Rattle.trace.specs.Trace.{areaVerdict, channelAt, channelVerdict}
-use Rattle.image.specs.Image.{withChannel, traceChecks, traceOf, tracesFrom, filledChecks, restOf, imageOf, badLength}
+use Rattle.traces.specs.Traces.{withChannel, traceChecks, traceOf, tracesFrom}
+use Rattle.file_length.specs.FileLength.{badLength}
+use Rattle.image.specs.Image.{filledChecks, restOf, imageOf}
 use Rattle.image.specs.Image.{checkOf}
 use Rattle.block.specs.BlockLaws.{Pointed, pointed, pointer-accepts, Blocked, blocked, block-accepts}
-use Rattle.image.specs.ImageLaws.{long-enough, length-accepts}
+use Rattle.file_length.specs.FileLength.{long-enough, length-accepts}
 use Rattle.image.specs.Keeps.{traceAt, endBefore, stringsEnd, Strings, GoodChannel, KeepsTerminator, KeepsTrace}
 use Rattle.image.specs.Keeps.{AllOrNone, Keeps}
 

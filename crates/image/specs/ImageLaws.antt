@@ -1,14 +1,10 @@
 -- The laws of the check, part by part: what a part has shown, and what the whole then is.
 -- Assumes nothing.
 use mathlib.Core.Path.{_≡_, refl, sym, ap, _∙_}
-use mathlib.Core.Bool.{false, _||_}
 use mathlib.Core.List.{List}
-use Prim.Native.Nat.{ℕ, _≤_, _<_}
+use Prim.Native.Nat.{ℕ, _<_}
 use native.Mathlib.Omega.{arith}
 use lib.ListN.{length, take}
-use lib.Dec.{ltb}
-use borrow.Author.Tests.{le-ltb, ltb-false}
-use Rattle.word.specs.Tests.{neither, join-neither}
 use Rattle.refusal.specs.Verdicts.{asked, andThen}
 use Rattle.refusal.specs.declared.Refusal.{Refusal}
 use Rattle.refusal.specs.declared.Verdict.{Verdict}
@@ -19,10 +15,12 @@ use Rattle.head_words.specs.declared.FileBlock.{FileBlock}
 use Rattle.head.specs.declared.FileAnswer.{FileAnswer}
 use Rattle.head.specs.declared.FileAnswer.the-variants as file
 use Rattle.head_words.specs.HeadWords.{highFirst, roomOf, countOf, fileBlockOf}
-use Rattle.head.specs.Head.{maximum, headOf, headAnswer, InWords}
+use Rattle.head.specs.Head.{headOf, headAnswer, InWords}
 use Rattle.terminators.specs.Terminators.{stringEnd, lineEnd}
 use Rattle.head.specs.HeadLaws.{Headed, headed, own-block, block-order, block-room, block-count}
-use Rattle.image.specs.Image.{restOf, imageOf, badLength}
+use Rattle.image.specs.Image.{restOf, imageOf}
+-- what row 1 has shown
+pub use Rattle.file_length.specs.FileLength.{long-enough}
 
 -- ---- rows 2 to 7, then the rest
 pub file-told : (v : Verdict) (y : FileBlock) (r : Refusal) → asked file.Refused v (file.Is y) ≡ file.Refused r → v ≡ Refused r
@@ -65,14 +63,3 @@ pub head-bad : (how : Manner) (purpose : Purpose) (f : List ℕ) (r : Refusal) �
     → Refused r ≡ imageOf how purpose f
 unfolding headAnswer imageOf andThen
 head-bad how purpose f r e = let h : headOf purpose (take 32 f) (length f) ≡ Refused r = file-told _ _ r e in sym (rw h)
-
--- ---- what row 1 has shown, and what passes it
-pub long-enough : (size n : ℕ) → badLength size n ≡ false → (32 ≤ n) × (n ≤ maximum) × (n ≤ size)
-long-enough size n h =
-    let a = neither (ltb n 32) (ltb maximum n || ltb size n) h in
-    let b = neither (ltb maximum n) (ltb size n) (a .1) in
-    (ltb-false _ _ (a .0), ltb-false _ _ (b .0), ltb-false _ _ (b .1))
-
-pub length-accepts : (size n : ℕ) → 32 ≤ n → n ≤ maximum → n ≤ size → badLength size n ≡ false
-length-accepts size n a b c =
-    join-neither (ltb n 32) (ltb maximum n || ltb size n) (le-ltb _ _ a) (join-neither (ltb maximum n) (ltb size n) (le-ltb _ _ b) (le-ltb _ _ c))

@@ -1,5 +1,5 @@
 pub mod Image
 pub mod Keeps
-pub mod Walk
+pub mod Rest
 pub mod ImageLaws
 pub mod Accepted

@@ -32,11 +32,12 @@ use Rattle.image.specs.Keeps.{traceAt, stringsEnd}
 use Rattle.image.specs.Accepted.{image-strings, image-traced, traced-strings}
 use Rattle.reader.specs.declared.Area.{Area}
 use Rattle.reader.specs.declared.Area.the-variants.{Outside, From}
-use Rattle.reader.specs.declared.Whose.{Whose}
-use Rattle.reader.specs.declared.Whose.the-variants.{Whole, One, Nobody}
+use Rattle.part_number.specs.declared.Whose.{Whose}
+use Rattle.part_number.specs.declared.Whose.the-variants.{Whole, One, Nobody}
 use Rattle.reader.specs.declared.CountAnswer.the-variants as count
 use Rattle.reader.specs.declared.StringAnswer.the-variants as string
-use Rattle.reader.specs.Questions.{noTrace, whoseOf, areaNamed, areaAsked, onArea, placesIn, there}
+use Rattle.part_number.specs.PartNumber.{whoseOf}
+use Rattle.reader.specs.Questions.{noTrace, areaNamed, areaAsked, onArea, placesIn, there}
 use Rattle.reader.specs.Questions.{fileAnswer, traceAnswer, countAnswer, nthAnswer, findAnswer, keywordAnswer, valueAnswer, spanAnswer}
 use Rattle.reader.specs.Questions.{stringsAnswer, numbersIn, stringsLeft, numberAnswer, doubleAnswer, locationAnswer}
 use Rattle.reader.specs.Questions.{integersAnswer, integersLeft, bitsAnswer, patternsLeft, classesLeft}

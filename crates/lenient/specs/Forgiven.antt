@@ -48,7 +48,9 @@ use Rattle.block.specs.BlockLaws.{headAt}
 use Rattle.trace.specs.Trace.{areaVerdict, channelAt, channelVerdict, blockChecks}
 use Rattle.channel.specs.Channel.{badChannel}
 use Rattle.strings.specs.Strings.{found, valueFound}
-use Rattle.image.specs.Image.{withChannel, traceChecks, traceOf, tracesFrom, filledChecks, restOf, imageOf, badLength, checkOf}
+use Rattle.traces.specs.Traces.{withChannel, traceChecks, traceOf, tracesFrom}
+use Rattle.file_length.specs.FileLength.{badLength}
+use Rattle.image.specs.Image.{filledChecks, restOf, imageOf, checkOf}
 use Rattle.image.specs.Keeps.{traceAt, stringsEnd}
 use Rattle.lenient.specs.Eased.{Eased, eased-same, forgiven, eased-then, eased-next, eased-pick, eased-more}
 

@@ -37,7 +37,9 @@ use Rattle.block.specs.Block.{pointerOf, blockSize, endAt, blockRows, blockOf, 
 use Rattle.limits.specs.Limits.{badPointer}
 use Rattle.block.specs.BlockLaws.{headAt}
 use Rattle.trace.specs.Trace.{areaVerdict}
-use Rattle.image.specs.Image.{traceOf, tracesFrom, filledChecks, restOf, imageOf, badLength, checkOf}
+use Rattle.traces.specs.Traces.{traceOf, tracesFrom}
+use Rattle.file_length.specs.FileLength.{badLength}
+use Rattle.image.specs.Image.{filledChecks, restOf, imageOf, checkOf}
 
 -- the rules that may be given: neither 17 nor 34
 abbrev pub givenHere : Rule → Bool

@@ -1,8 +1,7 @@
 // Locations of one or three doubles, each with the count of its decimals (document 01, "Numbers in values", row 23;
-// document 02 §4). Values and Location have the definitions, LocationMarks what never is a location. Stands on
-// `double`, `decimal`, `chars`, `refusal`.
+// document 02 §4). Values and Location have the definitions, LocationMarks what never is a location; `location_text`
+// finds the values in a text. Stands on `double`, `decimal`, `chars`, `refusal`.
 // The rules in words: docs/FORMAT.md, "Numbers in values".
-use chars::Kind;
 use decimal_parts::Decimal;
 use decimal_parts::NumberAnswer;
 use double::DoubleAnswer;
@@ -10,12 +9,8 @@ use refusal::Part;
 use refusal::Refusal;
 use refusal::Rule;
 ghost use mathlib.Core.Path.{_≡_};
-ghost use Prim.Native.Nat.{_≤_};
-ghost use lib.ListN.{length};
-ghost use Rattle.chars.specs.Chars.{isOf};
 ghost use Rattle.double.specs.Double.{doubleFrom};
-ghost use Rattle.location.specs.Location.{counted, coordinateOf, valueCount, passed, oneOf, threeOf, over};
-ghost use Rattle.location.specs.Location.{locationOf};
+ghost use Rattle.location.specs.Location.{counted, coordinateOf, valueCount, passed, oneOf, threeOf};
 
 // A value of a location: its double, and how many digits stood after its point (document 02 §4).
 pub struct Coordinate {
@@ -68,7 +63,7 @@ fn coordinate_in(text: &[u8]) -> CoordinateAnswer
 }
 
 // Refusal 23: neither one nor three values.
-fn value_count() -> LocationAnswer
+pub fn value_count() -> LocationAnswer
     ensures { λ r. ⌜ r ≡ valueCount ⌝ }
 {
     LocationAnswer::Refused(Refusal {
@@ -102,7 +97,7 @@ fn passed(at: usize, answer: CoordinateAnswer) -> LocationAnswer
 }
 
 // x alone, which starts at a.
-fn one(a: usize, x: &[u8]) -> LocationAnswer
+pub fn one(a: usize, x: &[u8]) -> LocationAnswer
     ensures { λ r. ⌜ r ≡ oneOf (a, now (x .entry)) ⌝ }
 {
     let first = coordinate_in(x);
@@ -121,7 +116,7 @@ fn one(a: usize, x: &[u8]) -> LocationAnswer
 }
 
 // x, y and z, which start at a, b and c.
-fn three(a: usize, x: &[u8], b: usize, y: &[u8], c: usize, z: &[u8]) -> LocationAnswer
+pub fn three(a: usize, x: &[u8], b: usize, y: &[u8], c: usize, z: &[u8]) -> LocationAnswer
     ensures { λ r. ⌜ r ≡ threeOf (a, now (x .entry)) (b, now (y .entry)) (c, now (z .entry)) ⌝ }
 {
     let first = coordinate_in(x);
@@ -145,40 +140,4 @@ fn three(a: usize, x: &[u8], b: usize, y: &[u8], c: usize, z: &[u8]) -> Location
         y_decimals: v.decimals,
         z_decimals: w.decimals,
     })
-}
-
-// From place i on, past the bytes of a kind.
-fn over(kind: Kind, text: &[u8], i: usize) -> usize
-    requires { ⌜ i ≤ length (now text) ⌝ }
-    ensures { λ r. ⌜ (r ≡ over (isOf kind) (now (text .entry)) i) × (i ≤ r) × (r ≤ length (now (text .entry))) ⌝ }
-{
-    i + chars::run(kind, front_bytes::behind(text, i))
-}
-
-// The location that a text is (document 01, "Numbers in values"): how many values there are is judged before any of
-// them.
-pub fn location(text: &[u8]) -> LocationAnswer
-    ensures { λ r. ⌜ r ≡ locationOf (now (text .entry)) ⌝ }
-{
-    let n = text.len();
-    let a = over(Kind::Blank, text, 0);
-    if n <= a {
-        return value_count();
-    }
-    let b = over(Kind::Solid, text, a);
-    let c = over(Kind::Blank, text, b);
-    if n <= c {
-        return one(a, &text[a..b]);
-    }
-    let d = over(Kind::Solid, text, c);
-    let e = over(Kind::Blank, text, d);
-    if n <= e {
-        return value_count();
-    }
-    let f = over(Kind::Solid, text, e);
-    let g = over(Kind::Blank, text, f);
-    if g < n {
-        return value_count();
-    }
-    three(a, &text[a..b], c, &text[c..d], e, &text[e..f])
 }

@@ -1,47 +1,15 @@
 // Questions on the list of strings that an area spells: how many, the i-th, the one with a keyword, each by its place
 // in the lent file (document 01, "Strings"), in any manner of reading. The definitions are those of `strings`; Lists
-// has what a walk along the list needs. Stands on `strings`, `text`.
+// has what a walk along the list needs. Stands on `string_entry`, `text`.
 // The rules in words: docs/FORMAT.md, "Strings".
-use chars::Kind;
 use strings::Entry;
 use strings::Found;
-use strings::Frame;
-use strings::Place;
 use text::Manner;
 ghost use mathlib.Core.Path.{_≡_};
-ghost use Prim.Native.Nat.{_+_, _≤_, _<_};
+ghost use Prim.Native.Nat.{_≤_};
 ghost use lib.ListN.{length};
 ghost use Rattle.word.specs.Part.{part};
-ghost use Rattle.strings.specs.Strings.{entryOf, placesOf, nthOf, findOf};
-
-// The string that l starts with, at place `at` of the file, for a question.
-pub fn entry_at(l: &[u8], high: bool, t: &[u8], at: usize, how: Manner) -> Entry
-    requires { ⌜ at + length (now l) < 18446744073709551616 ⌝ }
-    ensures { λ r. ⌜ r ≡ entryOf how high (now (t .entry)) (now (l .entry)) at ⌝ }
-{
-    let s = strings::framed(l, high, t, how);
-    match s {
-        Frame::End => Entry::Stop,
-        Frame::Broken(_) => Entry::Stop,
-        Frame::Text(o) => {
-            let end = o - t.len();
-            let b = &l[2..end];
-            let n = chars::run(Kind::Solid, b);
-            let m = chars::run(Kind::Blank, &b[n..]);
-            let key = at + 2;
-            let gap = key + n;
-            Entry::At(
-                Place {
-                    key,
-                    gap,
-                    value: gap + m,
-                    end: at + end,
-                },
-                o,
-            )
-        }
-    }
-}
+ghost use Rattle.strings.specs.Strings.{placesOf, nthOf, findOf};
 
 // How many strings the area from a to e of f has.
 pub fn count(f: &[u8], a: usize, e: usize, high: bool, t: &[u8], how: Manner) -> usize
@@ -51,7 +19,7 @@ pub fn count(f: &[u8], a: usize, e: usize, high: bool, t: &[u8], how: Manner) ->
     let mut at = a;
     let mut n: usize = 0;
     while at < e {
-        let s = entry_at(&f[at..e], high, t, at, how);
+        let s = string_entry::entry_at(&f[at..e], high, t, at, how);
         match s {
             Entry::Stop => {
                 return n;
@@ -73,7 +41,7 @@ pub fn nth(f: &[u8], a: usize, e: usize, high: bool, t: &[u8], i: usize, how: Ma
     let mut at = a;
     let mut k = i;
     while at < e {
-        let s = entry_at(&f[at..e], high, t, at, how);
+        let s = string_entry::entry_at(&f[at..e], high, t, at, how);
         match s {
             Entry::Stop => {
                 return Found::Nothing;
@@ -98,7 +66,7 @@ pub fn find(f: &[u8], a: usize, e: usize, high: bool, t: &[u8], key: &[u8], how:
 {
     let mut at = a;
     while at < e {
-        let s = entry_at(&f[at..e], high, t, at, how);
+        let s = string_entry::entry_at(&f[at..e], high, t, at, how);
         match s {
             Entry::Stop => {
                 return Found::Nothing;

@@ -1,5 +1,5 @@
 // One string of an area, for a search that ends before the area does (document 02, §5): rows 14 to 17, by the
-// definitions of `strings`, once more in code. A function with one caller becomes part of it; `strings::step_at` and
+// definitions of `strings`, once more in code. A function with one caller becomes part of it; `string_step::step_at` and
 // what it calls, called by the search too, would be calls of their own in the check of every area, which would be
 // slower and need more stack (docs/DECISIONS.md, "Document 02, §5"). Stands on `strings`, `note`, `text`. t is the
 // string terminator, u the line terminator, `high` the byte order.
@@ -34,7 +34,7 @@ fn judge(b: &[u8], u: &[u8], prev: &[u8]) -> Judged
     requires { ⌜ 0 < length (now u) ⌝ }
     ensures { λ r. ⌜ r ≡ judgedOf Manner.Strict (now (u .entry)) (now (prev .entry)) (now (b .entry)) ⌝ }
 {
-    let n = text::key_run(b, Manner::Strict);
+    let n = key_chars::key_run(b, Manner::Strict);
     if n == 0 {
         return Judged::Wrong(Rule::Character);
     }

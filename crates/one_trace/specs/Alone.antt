@@ -20,8 +20,9 @@ use Rattle.block.specs.declared.TraceAnswer.{TraceAnswer}
 use Rattle.block.specs.declared.TraceAnswer.the-variants as trace
 use Rattle.block.specs.Block.{pointerOf, pointerRow, blockOf, traceBlockOf}
 use Rattle.block.specs.BlockLaws.{headAt}
-use Rattle.image.specs.Image.{badLength}
-use Rattle.reader.specs.Questions.{noTrace, whoseOf, onTrace, isTrace, traceNumber, blockAt}
+use Rattle.file_length.specs.FileLength.{badLength}
+use Rattle.part_number.specs.PartNumber.{whoseOf}
+use Rattle.reader.specs.Questions.{noTrace, onTrace, isTrace, traceNumber, blockAt}
 
 -- ---- the checks in their order
 

@@ -30,10 +30,11 @@ use Rattle.block.specs.declared.TraceAnswer.the-variants as trace
 use Rattle.block.specs.Block.{pointerOf, pointerRow, blockOf, blockAnswer, traceBlockOf}
 use Rattle.block.specs.BlockLaws.{headAt, own-block, Pointed, Blocked}
 use Rattle.trace.specs.TraceLaws.{block-told, block-read}
-use Rattle.image.specs.Image.{badLength}
+use Rattle.file_length.specs.FileLength.{badLength}
 use Rattle.image.specs.Accepted.{unmet}
 use Rattle.image.specs.Keeps.{traceAt}
-use Rattle.image.specs.ImageLaws.{long-enough, file-told, head-passed, head-order, head-room, head-count}
+use Rattle.file_length.specs.FileLength.{long-enough}
+use Rattle.image.specs.ImageLaws.{file-told, head-passed, head-order, head-room, head-count}
 use Rattle.reader.specs.Questions.{noTrace, isTrace, traceNumber, blockAt}
 use Rattle.reader.specs.Leaves.{on-trace}
 use Rattle.one_trace.specs.Alone.{ownChecks, aloneChecks, aloneOf, blockAlone, ownOf, namedOf}

@@ -7,7 +7,7 @@ use block::TraceAnswer;
 use head::FileAnswer;
 use head_limits::Purpose;
 use head_words::FileBlock;
-use reader::Whose;
+use part_number::Whose;
 use refusal::Rule;
 use refusal::Verdict;
 ghost use mathlib.Core.Path.{_≡_};
@@ -46,7 +46,7 @@ fn named(f: &[u8], x: FileBlock, trace: i32) -> TraceAnswer
     requires { ⌜ (4 * x .n ≤ x .m) × (32 + x .m ≤ length (now f)) × (x .n < 65536) ⌝ }
     ensures { λ r. ⌜ r ≡ namedOf (now (f .entry)) x trace ⌝ }
 {
-    let w = reader::named(trace, x.n as u16);
+    let w = part_number::named(trace, x.n as u16);
     match w {
         Whose::One(k) => own(f, x.high, x.m, k),
         Whose::Whole => TraceAnswer::Refused(reader::no_trace()),
@@ -58,7 +58,7 @@ fn named(f: &[u8], x: FileBlock, trace: i32) -> TraceAnswer
 pub fn block(buffer: &[u8], n: usize, trace: i32) -> TraceAnswer
     ensures { λ r. ⌜ r ≡ blockAlone (now (buffer .entry)) n trace ⌝ }
 {
-    if image::is_bad_length(buffer.len(), n) {
+    if file_length::is_bad_length(buffer.len(), n) {
         return TraceAnswer::Refused(refusal::of_file(Rule::Length, 0));
     }
     let f = &buffer[..n];

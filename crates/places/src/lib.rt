@@ -37,7 +37,7 @@ pub fn fill(f: &[u8], a: usize, e: usize, high: bool, t: &[u8], how: Manner, row
     let mut at = a;
     let mut j: usize = 0;
     while at < e {
-        let s = lookup::entry_at(&f[at..e], high, t, at, how);
+        let s = string_entry::entry_at(&f[at..e], high, t, at, how);
         match s {
             Entry::Stop => {
                 return;

@@ -32,7 +32,7 @@ use Rattle.until.specs.declared.Turn.{Turn}
 use Rattle.until.specs.declared.Walked.{Walked}
 use Rattle.until.specs.declared.Walked.the-variants as walked
 use Rattle.until.specs.Until.{byKey, byIndex, toEnd, walkOf}
-use Rattle.reader.specs.declared.Whose.the-variants.{One}
+use Rattle.part_number.specs.declared.Whose.the-variants.{One}
 use Rattle.reader.specs.declared.CountAnswer.{CountAnswer}
 use Rattle.reader.specs.declared.CountAnswer.the-variants as count
 use Rattle.reader.specs.declared.StringAnswer.{StringAnswer}

@@ -35,7 +35,7 @@ use Rattle.until.specs.Until.{byKey, toEnd}
 use Rattle.until.specs.Counted.{counted, never-at}
 use Rattle.until.specs.Turns.{EndsIn, walk-in}
 use Rattle.reader.specs.declared.Area.the-variants.{From}
-use Rattle.reader.specs.declared.Whose.the-variants.{One}
+use Rattle.part_number.specs.declared.Whose.the-variants.{One}
 use Rattle.reader.specs.declared.StringAnswer.{StringAnswer}
 use Rattle.reader.specs.declared.StringAnswer.the-variants as string
 use Rattle.text.specs.declared.Manner.the-variants.{Strict}

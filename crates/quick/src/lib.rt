@@ -26,7 +26,7 @@ pub fn between(f: &[u8], a: usize, e: usize, k: u16, ask: Ask, key: &[u8]) -> Wa
         × (goodTerminator (now f) 11 ≡ true) ⌝ }
     ensures { λ r. ⌜ r ≡ walkBetween (lookOf ask (now (key .entry))) (now (f .entry)) k a e ⌝ }
 {
-    until::walk(
+    string_walk::walk(
         f,
         a,
         e,
@@ -88,5 +88,5 @@ pub fn value<'a>(buffer: &'a [u8], n: usize, trace: i32, key: &[u8]) -> &'a [u8]
     ensures { λ r. ⌜ now r ≡ quickValue (now (buffer .entry)) n trace (now (key .entry)) ⌝ }
     ensures own { λ r. ⌜ PartOf (buffer .entry) (quickSpan (now (buffer .entry)) n trace (now (key .entry))) r ⌝ }
 {
-    values::value_at(buffer, find(buffer, n, trace, key))
+    value_part::value_at(buffer, find(buffer, n, trace, key))
 }

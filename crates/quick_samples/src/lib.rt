@@ -32,6 +32,6 @@ pub fn bits(buffer: &[u8], n: usize, trace: i32, row: &mut [u64], classes: &mut 
     let x = one_trace::block(buffer, n, trace);
     match x {
         TraceAnswer::Refused(r) => Verdict::Refused(r),
-        TraceAnswer::Is(t) => sample_rows::bits(&buffer[..n], t, row, classes),
+        TraceAnswer::Is(t) => bit_rows::bits(&buffer[..n], t, row, classes),
     }
 }

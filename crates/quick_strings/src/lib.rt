@@ -1,17 +1,12 @@
-// The strings of one trace, quickly (document 02, §5): how many there are, the i-th, and all of them in one row. Each
-// string that is come to is judged; for the i-th none behind it is looked at. The definitions are quick/Quick; Told has a
-// law for each answer. Stands on `quick`, `string_rows`.
+// The strings of one trace, quickly (document 02, §5): how many there are, and the i-th. Each string that is come to is
+// judged; for the i-th none behind it is looked at. The definitions are quick/Quick. Stands on `quick`, `until`.
 // The rules in words: docs/FORMAT.md, "One trace, quickly".
-use block::TraceAnswer;
 use reader::CountAnswer;
 use reader::StringAnswer;
-use refusal::Verdict;
-use text::Manner;
 use until::Ask;
 use until::Walked;
 ghost use mathlib.Core.Path.{_≡_};
-ghost use lib.ListN.{length};
-ghost use Rattle.quick.specs.Quick.{countedBy, quickNth, quickCount, quickStrings, quickStringsLeft};
+ghost use Rattle.quick.specs.Quick.{countedBy, quickNth, quickCount};
 
 // How many were passed, as an answer.
 fn counted(w: Walked) -> CountAnswer
@@ -36,26 +31,4 @@ pub fn string(buffer: &[u8], n: usize, trace: i32, i: usize) -> StringAnswer
     ensures { λ r. ⌜ r ≡ quickNth (now (buffer .entry)) n trace i ⌝ }
 {
     quick::told(quick::walk(buffer, n, trace, Ask::Index(i), &buffer[..0]))
-}
-
-// All its strings, into a row of four numbers each.
-pub fn strings(buffer: &[u8], n: usize, trace: i32, row: &mut [usize]) -> Verdict
-    ensures answer { λ r. ⌜ r ≡ quickStrings (now (buffer .entry)) n trace (length (now (row .entry))) ⌝ }
-    ensures row { λ _. ⌜ now (row .exit) ≡ quickStringsLeft (now (buffer .entry)) n trace (now (row .entry)) ⌝ }
-{
-    let b = one_trace::block(buffer, n, trace);
-    match b {
-        TraceAnswer::Refused(r) => Verdict::Refused(r),
-        TraceAnswer::Is(x) => {
-            let f = &buffer[..n];
-            let a = x.p + 32;
-            let e = x.p + x.b;
-            let w = quick::between(f, a, e, (trace as u32) as u16, Ask::All, &f[..0]);
-            match w {
-                Walked::Over(c) => string_rows::fill(f, a, e, c, Manner::Strict, row),
-                Walked::Bad(r) => Verdict::Refused(r),
-                Walked::At(_) => Verdict::Accepted, // where all are counted, no walk ends so
-            }
-        }
-    }
 }

@@ -18,8 +18,8 @@ use Rattle.head_words.specs.HeadWords.{highFirst, countOf}
 use Rattle.head.specs.Head.{refused}
 use Rattle.block.specs.Block.{dataAt, endAt, traceBlockOf}
 use Rattle.image.specs.Image.{checkOf}
-use Rattle.reader.specs.declared.Whose.{Whose}
-use Rattle.reader.specs.declared.Whose.the-variants.{Whole, One, Nobody}
+use Rattle.part_number.specs.declared.Whose.{Whose}
+use Rattle.part_number.specs.declared.Whose.the-variants.{Whole, One, Nobody}
 use Rattle.head.specs.declared.FileAnswer.the-variants as file
 use Rattle.block.specs.declared.TraceAnswer.the-variants as trace
 use Rattle.text.specs.declared.Manner.{Manner}
@@ -28,7 +28,8 @@ use Rattle.sample.specs.Run.{valuesFrom}
 use Rattle.decode.specs.Sample.{sampleOf, patternOf, classOf}
 use Rattle.image.specs.Keeps.{traceAt}
 use Rattle.head_limits.specs.declared.Purpose.the-variants.{Read}
-use Rattle.reader.specs.Questions.{noTrace, onTrace, whoseOf, codeAt, countAt, ofIntegers, ofBits, blockAt}
+use Rattle.part_number.specs.PartNumber.{whoseOf}
+use Rattle.reader.specs.Questions.{noTrace, onTrace, codeAt, countAt, ofIntegers, ofBits, blockAt}
 use Rattle.reader.specs.Questions.{dataOf, samplesIn, patternsIn, classesIn, integersRows, bitsRows}
 use Rattle.reader.specs.Questions.{integersVerdict, bitsVerdict, integersAnswer, bitsAnswer, samplesOf}
 use Rattle.reader.specs.Questions.{patternsOf, classesOf, integersLeft, patternsLeft, classesLeft}

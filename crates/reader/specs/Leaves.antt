@@ -25,7 +25,7 @@ use Rattle.head.specs.Head.{maximum}
 use Rattle.terminators.specs.Terminators.{stringEnd}
 use Rattle.block.specs.Block.{pointerOf, blockSize}
 use Rattle.image.specs.Image.{checkOf}
-use Rattle.reader.specs.declared.Whose.the-variants.{Whole, One, Nobody}
+use Rattle.part_number.specs.declared.Whose.the-variants.{Whole, One, Nobody}
 use Rattle.reader.specs.declared.Area.{Area}
 use Rattle.reader.specs.declared.Area.the-variants.{Outside, From}
 use Rattle.reader.specs.declared.Opened.{Opened}
@@ -33,7 +33,8 @@ use Rattle.reader.specs.declared.Opened.the-variants as opened
 use Rattle.reader.specs.declared.StringAnswer.{StringAnswer}
 use Rattle.reader.specs.declared.StringAnswer.the-variants as string
 use Rattle.reader.specs.declared.CountAnswer.the-variants as count
-use Rattle.reader.specs.Questions.{noTrace, whoseOf, areaNamed, areaAsked, onArea, onTrace, isTrace, traceNumber}
+use Rattle.part_number.specs.PartNumber.{whoseOf}
+use Rattle.reader.specs.Questions.{noTrace, areaNamed, areaAsked, onArea, onTrace, isTrace, traceNumber}
 use Rattle.reader.specs.Questions.{placesIn, there, countAnswer, nthAnswer, findAnswer, ofIntegers, ofBits}
 
 -- ---- a question on a trace: none, or that of the trace

@@ -33,7 +33,7 @@ use Rattle.location.specs.declared.LocationAnswer.the-variants as location
 use Rattle.decimal.specs.Number.{numberIn}
 use Rattle.double.specs.Double.{doubleOf}
 use Rattle.location.specs.Location.{locationOf}
-use Rattle.reader.specs.declared.Whose.the-variants.{Whole, One}
+use Rattle.part_number.specs.declared.Whose.the-variants.{Whole, One}
 use Rattle.reader.specs.declared.Area.the-variants.{From}
 use Rattle.reader.specs.declared.Opened.the-variants as opened
 use Rattle.reader.specs.declared.CountAnswer.the-variants as count
@@ -43,7 +43,8 @@ use Rattle.reader.specs.declared.KeywordAnswer.the-variants as keyword
 use Rattle.text.specs.declared.Manner.{Manner}
 use Rattle.text.specs.Manner.{named}
 use Rattle.head_limits.specs.declared.Purpose.the-variants.{Read}
-use Rattle.reader.specs.Questions.{whoseOf, areaNamed, areaAsked, there, yesOrNo, valueThere, onString}
+use Rattle.part_number.specs.PartNumber.{whoseOf}
+use Rattle.reader.specs.Questions.{areaNamed, areaAsked, there, yesOrNo, valueThere, onString}
 use Rattle.reader.specs.Questions.{countAnswer, nthAnswer, findAnswer, keywordAnswer, valueAnswer, numberAnswer}
 use Rattle.reader.specs.Questions.{doubleAnswer, locationAnswer}
 use Rattle.reader.specs.Leaves.{openedOf, count-told, nth-told, find-told}

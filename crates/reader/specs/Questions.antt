@@ -46,8 +46,9 @@ use Rattle.block.specs.declared.TraceBlock.{TraceBlock}
 use Rattle.block.specs.Block.{sampleCount, formatCode, dataAt, traceBlockOf}
 use Rattle.image.specs.Image.{checkOf}
 use Rattle.image.specs.Keeps.{traceAt}
-use Rattle.reader.specs.declared.Whose.{Whose}
-use Rattle.reader.specs.declared.Whose.the-variants.{Whole, One, Nobody}
+use Rattle.part_number.specs.declared.Whose.{Whose}
+use Rattle.part_number.specs.declared.Whose.the-variants.{Whole, One, Nobody}
+use Rattle.part_number.specs.PartNumber.{whoseOf}
 use Rattle.reader.specs.declared.Area.{Area}
 use Rattle.reader.specs.declared.Area.the-variants.{Outside, From}
 use Rattle.head.specs.declared.FileAnswer.{FileAnswer}
@@ -69,12 +70,7 @@ use Rattle.reader.specs.declared.KeywordAnswer.the-variants as keyword
 abbrev pub noTrace : Refusal
 noTrace = refusal NoTrace File 0
 
--- ---- whom a part number names: -1 the file, 0 to N-1 a trace
-
-unfoldable pub whoseOf : ℤ → ℕ → Whose
-whoseOf (pos k) n = pick (ltb k n) (One k) Nobody
-whoseOf (negsuc zero) n = Whole
-whoseOf (negsuc (suc k)) n = Nobody
+-- ---- whom a part number names is part_number/PartNumber `whoseOf`
 
 -- the bytes that the strings of a part stand in: of the file "from 32+M to the first pointer", of a trace "from byte 32
 -- to B" behind its pointer

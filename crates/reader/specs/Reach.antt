@@ -29,13 +29,14 @@ use Rattle.head_words.specs.HeadWords.{highFirst, roomOf, countOf}
 use Rattle.head.specs.Head.{maximum, refused}
 use Rattle.terminators.specs.Terminators.{stringEnd, goodTerminator}
 use Rattle.block.specs.Block.{dataAt, traceBlockOf}
-use Rattle.image.specs.Image.{imageOf, badLength, checkOf}
+use Rattle.file_length.specs.FileLength.{badLength}
+use Rattle.image.specs.Image.{imageOf, checkOf}
 use Rattle.block.specs.BlockLaws.{Pointed, Blocked}
-use Rattle.image.specs.ImageLaws.{long-enough}
+use Rattle.file_length.specs.FileLength.{long-enough}
 use Rattle.image.specs.Keeps.{traceAt, endBefore}
 use Rattle.image.specs.Accepted.{image-headed, image-traced, traced-places}
-use Rattle.reader.specs.declared.Whose.{Whose}
-use Rattle.reader.specs.declared.Whose.the-variants.{Whole, One, Nobody}
+use Rattle.part_number.specs.declared.Whose.{Whose}
+use Rattle.part_number.specs.declared.Whose.the-variants.{Whole, One, Nobody}
 use Rattle.reader.specs.declared.Area.{Area}
 use Rattle.reader.specs.declared.Area.the-variants.{Outside, From}
 use Rattle.reader.specs.declared.Opened.{Opened}
@@ -45,7 +46,8 @@ use Rattle.reader.specs.declared.StringAnswer.{StringAnswer}
 use Rattle.reader.specs.declared.StringAnswer.the-variants as string
 use Rattle.text.specs.declared.Manner.{Manner}
 use Rattle.head_limits.specs.declared.Purpose.the-variants.{Read}
-use Rattle.reader.specs.Questions.{noTrace, whoseOf, areaNamed, areaAsked, onArea, onTrace, placesIn, there}
+use Rattle.part_number.specs.PartNumber.{whoseOf}
+use Rattle.reader.specs.Questions.{noTrace, areaNamed, areaAsked, onArea, onTrace, placesIn, there}
 use Rattle.reader.specs.Questions.{nthAnswer, findAnswer, traceAnswer, valueThere, valueAnswer, spanThere}
 use Rattle.reader.specs.Questions.{spanAnswer, onString}
 use Rattle.reader.specs.Leaves.{openedOf, onOpened, nth-opened, find-opened, Within, Fits}

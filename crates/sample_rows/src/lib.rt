@@ -1,7 +1,6 @@
-// The samples of a trace whose block is known, as integers or as bits and classes (document 01, "Samples", rows 32, 33).
-// The definitions are those of reader/Questions; Ended has a law for each answer. Who asks has shown that the block lies
-// in the image: the check (`samples`), or the trace's own rows (`quick_samples`). Stands on `reader`, `decode`,
-// `patterns`.
+// The samples of a trace whose block is known, as integers (document 01, "Samples", rows 32, 33). The definitions are
+// those of reader/Questions; Ended has a law for each answer, those of `bit_rows` too. Who asks has shown that the block
+// lies in the image: the check (`samples`), or the trace's own rows (`quick_samples`). Stands on `reader`, `decode`.
 // The rules in words: docs/FORMAT.md, "Samples".
 use block::TraceBlock;
 use refusal::Rule;
@@ -10,8 +9,8 @@ ghost use mathlib.Core.Path.{_≡_};
 ghost use Prim.Native.Nat.{_≤_};
 ghost use lib.ListN.{length};
 ghost use Rattle.head.specs.Head.{refused};
-ghost use Rattle.reader.specs.Questions.{ofIntegers, ofBits, integersVerdict, samplesIn, bitsVerdict, patternsIn};
-ghost use Rattle.reader.specs.Questions.{classesIn, kept};
+ghost use Rattle.reader.specs.Questions.{ofIntegers, integersVerdict, samplesIn};
+ghost use Rattle.reader.specs.Questions.{kept};
 ghost use Rattle.reader.specs.Leaves.{Fits};
 
 // Codes 1 to 3.
@@ -26,19 +25,8 @@ fn is_integers(code: u8) -> bool
     }
 }
 
-// Codes 4 and 5.
-fn is_bits(code: u8) -> bool
-    ensures { λ r. ⌜ r ≡ ofBits code ⌝ }
-{
-    match code {
-        4 => true,
-        5 => true,
-        _ => false,
-    }
-}
-
 // Rows 32 and 33: part -1, place 0.
-fn refusing(rule: Rule) -> Verdict
+pub fn refusing(rule: Rule) -> Verdict
     ensures { λ r. ⌜ r ≡ refused rule 0 ⌝ }
 {
     Verdict::Refused(refusal::of_file(rule, 0))
@@ -65,38 +53,4 @@ pub fn integers(f: &[u8], t: TraceBlock, row: &mut [i32]) -> Verdict
     let d = t.d;
     decode::read_integers(code, &f[p + b..p + b + d], head_words::is_high(f), row);
     Verdict::Accepted // the row holds all S samples
-}
-
-// The patterns of the trace whose block is t, and their classes.
-pub fn bits(f: &[u8], t: TraceBlock, row: &mut [u64], classes: &mut [u8]) -> Verdict
-    requires { ⌜ (2 ≤ length (now f)) × Fits (length (now f)) t ⌝ }
-    ensures answer { λ r. ⌜ r ≡ bitsVerdict t (length (now (row .entry))) (length (now (classes .entry))) ⌝ }
-    ensures row { λ _. ⌜ now (row .exit) ≡ kept (bitsVerdict t (length (now (row .entry)))
-        (length (now (classes .entry)))) (patternsIn (now (f .entry)) t) (now (row .entry)) ⌝ }
-    ensures classes { λ _. ⌜ now (classes .exit)
-        ≡ kept (bitsVerdict t (length (now (row .entry))) (length (now (classes .entry))))
-        (classesIn (now (f .entry)) t) (now (classes .entry)) ⌝ }
-{
-    let code = t.code;
-    let count = t.s;
-    if !is_bits(code) {
-        return refusing(Rule::CodeKind);
-    }
-    if row.len() != count {
-        return refusing(Rule::RowLength);
-    }
-    if classes.len() != count {
-        return refusing(Rule::RowLength);
-    }
-    let p = t.p;
-    let b = t.b;
-    let d = t.d;
-    patterns::read_bits(
-        code,
-        &f[p + b..p + b + d],
-        head_words::is_high(f),
-        row,
-        classes,
-    );
-    Verdict::Accepted
 }

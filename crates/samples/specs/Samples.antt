@@ -17,10 +17,11 @@ use Rattle.head_words.specs.HeadWords.{highFirst, countOf}
 use Rattle.head.specs.Head.{refused}
 use Rattle.block.specs.Block.{traceBlockOf}
 use Rattle.image.specs.Image.{checkOf}
-use Rattle.reader.specs.declared.Whose.{Whose}
-use Rattle.reader.specs.declared.Whose.the-variants.{Whole, One, Nobody}
+use Rattle.part_number.specs.declared.Whose.{Whose}
+use Rattle.part_number.specs.declared.Whose.the-variants.{Whole, One, Nobody}
 use Rattle.block.specs.declared.TraceAnswer.the-variants as trace
-use Rattle.reader.specs.Questions.{noTrace, onTrace, whoseOf, traceAnswer, blockAt}
+use Rattle.part_number.specs.PartNumber.{whoseOf}
+use Rattle.reader.specs.Questions.{noTrace, onTrace, traceAnswer, blockAt}
 use Rattle.reader.specs.Questions.{integersVerdict, bitsVerdict, integersAnswer, bitsAnswer, samplesIn, patternsIn}
 use Rattle.reader.specs.Questions.{classesIn, kept, integersLeft, patternsLeft, classesLeft}
 use Rattle.reader.specs.Reach.{Told}

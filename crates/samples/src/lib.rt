@@ -14,7 +14,7 @@ pub fn integers(buffer: &[u8], n: usize, trace: i32, row: &mut [i32], how: Manne
     ensures answer { λ r. ⌜ r ≡ integersAnswer how (now (buffer .entry)) n trace (length (now (row .entry))) ⌝ }
     ensures row { λ _. ⌜ now (row .exit) ≡ integersLeft how (now (buffer .entry)) n trace (now (row .entry)) ⌝ }
 {
-    let a = reader::trace_block(buffer, n, trace, how);
+    let a = block_answers::trace_block(buffer, n, trace, how);
     match a {
         TraceAnswer::Refused(r) => Verdict::Refused(r),
         TraceAnswer::Is(t) => sample_rows::integers(&buffer[..n], t, row),
@@ -37,9 +37,9 @@ pub fn bits(
     ensures classes { λ _. ⌜ now (classes .exit)
         ≡ classesLeft how (now (buffer .entry)) n trace (now (row .entry)) (now (classes .entry)) ⌝ }
 {
-    let b = reader::trace_block(buffer, n, trace, how);
+    let b = block_answers::trace_block(buffer, n, trace, how);
     match b {
         TraceAnswer::Refused(r) => Verdict::Refused(r),
-        TraceAnswer::Is(t) => sample_rows::bits(&buffer[..n], t, row, classes),
+        TraceAnswer::Is(t) => bit_rows::bits(&buffer[..n], t, row, classes),
     }
 }

@@ -1,3 +1,3 @@
 pub mod SheetChannel
-pub mod Finding
+pub mod Told
 pub mod Meant

@@ -19,7 +19,8 @@ use Rattle.sheet.specs.Area.{strOf, noteOf, joined, sheetStrings}
 use Rattle.sheet.specs.Paper.{GoodLine, GoodLines, accepted-lines}
 use Rattle.channel.specs.Count.{countIn}
 use Rattle.channel.specs.Channel.{channelNumber, keeps-channel, channel-kept}
-use Rattle.sheet_channel.specs.SheetChannel.{hasLine, valueOfLine, badSheet}
+use Rattle.channel_line.specs.ChannelLine.{hasLine, valueOfLine}
+use Rattle.sheet_channel.specs.SheetChannel.{badSheet}
 
 -- ---- the string
 

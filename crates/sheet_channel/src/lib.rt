@@ -1,57 +1,17 @@
-// The channel number of a sheet (document 02, §7): the line CHANNEL_NUMBER, and row 35 of an addition. SheetChannel has
-// the definitions, Finding the walk to the line, Meant that the line is the string that the sheet means. Stands on
-// `sheet`, `channel`.
+// The channel number of a sheet (document 02, §7): row 35 of an addition. SheetChannel has the definition, Told a law for
+// each answer, Meant that the line is the string that the sheet means. Stands on `channel_line`, `channel`.
 // The rules in words: docs/FORMAT.md, "Channel numbers".
-use text::Manner;
 ghost use mathlib.Core.Path.{_≡_};
-ghost use lib.ListN.{length};
-ghost use lib.Dec.{ltb};
-ghost use Rattle.chars.specs.Runs.{same};
-ghost use Rattle.sheet_line.specs.SheetLine.{lineKey, lineValue};
-ghost use Rattle.sheet.specs.Lines.{sheetLines};
-ghost use Rattle.channel.specs.Channel.{channelNumber};
-ghost use Rattle.sheet_channel.specs.SheetChannel.{hasLine, valueOfLine, badSheet};
-
-// Whether a line without its end has the keyword CHANNEL_NUMBER.
-fn is_channel(l: &[u8]) -> bool
-    ensures { λ r. ⌜ r ≡ same (lineKey (now (l .entry))) channelNumber ⌝ }
-{
-    let n = text::key_run(l, Manner::Strict);
-    chars::is_same(&l[..n], b"CHANNEL_NUMBER")
-}
-
-// The value of a line, behind its keyword and the byte that follows it.
-fn value_of(l: &[u8]) -> &[u8]
-    ensures { λ r. ⌜ now r ≡ lineValue (now (l .entry)) ⌝ }
-{
-    front_bytes::behind(l, text::key_run(l, Manner::Strict) + 1)
-}
-
-// The first line CHANNEL_NUMBER of a sheet, without its end, or no byte where there is none. Rows 25 and 26 are not
-// asked here: any bytes have lines, the last of them ended or not.
-fn find(sheet: &[u8]) -> &[u8]
-    ensures has { λ r. ⌜ ltb 0 (length (now r)) ≡ hasLine (sheetLines (now (sheet .entry))) channelNumber ⌝ }
-    ensures value { λ r. ⌜ lineValue (now r) ≡ valueOfLine (sheetLines (now (sheet .entry))) channelNumber ⌝ }
-{
-    let mut at: usize = 0;
-    while at < sheet.len() {
-        let e = at + sheet_line::line_len(&sheet[at..]);
-        if is_channel(&sheet[at..e]) {
-            return &sheet[at..e];
-        }
-        at = e + 1;
-    }
-    &sheet[..0]
-}
+ghost use Rattle.sheet_channel.specs.SheetChannel.{badSheet};
 
 // Row 35: whether a sheet breaks the rule. `free` tells whether it is the first to be added, `with` whether the file's
 // traces have the string.
 pub fn is_bad(sheet: &[u8], free: bool, with: bool) -> bool
     ensures { λ r. ⌜ r ≡ badSheet free with (now (sheet .entry)) ⌝ }
 {
-    let l = find(sheet);
+    let l = channel_line::find(sheet);
     if l.len() == 0 {
         return !free & with;
     }
-    channel::is_bad(free | with, true, value_of(l))
+    channel::is_bad(free | with, true, channel_line::value_of(l))
 }

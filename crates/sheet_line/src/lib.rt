@@ -45,7 +45,7 @@ pub fn is_continued(prev: &[u8], k: &[u8]) -> bool
 fn judge(l: &[u8], prev: &[u8]) -> Judged
     ensures { λ r. ⌜ r ≡ lineJudged (now (prev .entry)) (now (l .entry)) ⌝ }
 {
-    let n = text::key_run(l, Manner::Strict);
+    let n = key_chars::key_run(l, Manner::Strict);
     if n == 0 {
         return Judged::Wrong(Rule::SheetLine);
     }

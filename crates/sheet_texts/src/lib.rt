@@ -21,7 +21,7 @@ pub fn write_strings(part: &mut [u8], high: bool, t: &[u8], u: &[u8], sheet: &[u
     while at < sheet.len() {
         let n = sheet_line::line_len(&sheet[at..]);
         let e = at + n;
-        let w = text::key_run(&sheet[at..e], Manner::Strict);
+        let w = key_chars::key_run(&sheet[at..e], Manner::Strict);
         let k = at + w;
         if key_order::is_note(&sheet[at..k]) {
             return sheet_string::write_note(part, high, t, u, &sheet[at..], to);

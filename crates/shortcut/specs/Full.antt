@@ -47,16 +47,18 @@ use Rattle.terminators.specs.Terminators.{stringEnd, lineEnd}
 use Rattle.block.specs.Block.{dataAt, dataSize, endAt, pointerRow, blockOf}
 use Rattle.block.specs.BlockLaws.{headAt, pointer-accepts, block-accepts}
 use Rattle.trace.specs.Trace.{areaVerdict}
-use Rattle.image.specs.Image.{imageOf, badLength, checkOf}
-use Rattle.image.specs.ImageLaws.{length-accepts}
+use Rattle.file_length.specs.FileLength.{badLength}
+use Rattle.image.specs.Image.{imageOf, checkOf}
+use Rattle.file_length.specs.FileLength.{length-accepts}
 use Rattle.image.specs.Keeps.{traceAt, endBefore}
 use Rattle.image.specs.Accepted.{image-headed, image-traced, traced-strings}
 use Rattle.block.specs.declared.TraceAnswer.the-variants as trace
 use Rattle.reader.specs.declared.CountAnswer.the-variants as count
 use Rattle.reader.specs.declared.StringAnswer.{StringAnswer}
 use Rattle.reader.specs.declared.StringAnswer.the-variants as string
-use Rattle.reader.specs.declared.Whose.the-variants.{One, Nobody}
-use Rattle.reader.specs.Questions.{noTrace, whoseOf, areaNamed, onArea, onTrace, there, placesIn, blockAt, onString}
+use Rattle.part_number.specs.declared.Whose.the-variants.{One, Nobody}
+use Rattle.part_number.specs.PartNumber.{whoseOf}
+use Rattle.reader.specs.Questions.{noTrace, areaNamed, onArea, onTrace, there, placesIn, blockAt, onString}
 use Rattle.reader.specs.Questions.{traceAnswer, countAnswer, nthAnswer, stringsVerdict, stringsAnswer, stringsLeft, numbersIn, kept}
 use Rattle.reader.specs.Questions.{findAnswer, keywordAnswer, valueAnswer, spanAnswer, numberAnswer, doubleAnswer, locationAnswer}
 use Rattle.reader.specs.Questions.{integersVerdict, bitsVerdict, integersAnswer, integersLeft, bitsAnswer, patternsLeft, classesLeft}

@@ -26,7 +26,7 @@ use Rattle.head.specs.Head.{headOf}
 use Rattle.terminators.specs.Terminators.{stringEnd, lineEnd}
 use Rattle.block.specs.Block.{dataAt, endAt, pointerRow, blockOf}
 use Rattle.block.specs.BlockLaws.{headAt}
-use Rattle.image.specs.Image.{badLength}
+use Rattle.file_length.specs.FileLength.{badLength}
 use Rattle.image.specs.Keeps.{traceAt}
 use Rattle.until.specs.declared.Turn.{Turn}
 use Rattle.until.specs.Until.{onTurn, onStep}

@@ -31,7 +31,7 @@ use Rattle.image.specs.Keeps.{traceAt}
 use Rattle.until.specs.declared.Walked.{Walked}
 use Rattle.until.specs.declared.Walked.the-variants as walked
 use Rattle.until.specs.Until.{byIndex, toEnd, onStep, walkFrom, walkOf}
-use Rattle.reader.specs.declared.Whose.the-variants.{One}
+use Rattle.part_number.specs.declared.Whose.the-variants.{One}
 use Rattle.reader.specs.declared.StringAnswer.the-variants as string
 use Rattle.reader.specs.Questions.{traceNumber, areaNamed, there, placesIn, numbersIn, stringsVerdict, kept}
 use Rattle.one_trace.specs.Alone.{aloneOf}

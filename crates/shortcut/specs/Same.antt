@@ -31,7 +31,7 @@ use Rattle.block.specs.declared.TraceBlock.{TraceBlock}
 use Rattle.block.specs.declared.TraceAnswer.the-variants as trace
 use Rattle.block.specs.Block.{pointerOf, blockSize, dataAt, endAt, pointerRow, blockOf, blockIn, traceBlockOf}
 use Rattle.block.specs.BlockLaws.{Blocked, headAt, own-block, blocked}
-use Rattle.image.specs.Image.{badLength}
+use Rattle.file_length.specs.FileLength.{badLength}
 use Rattle.image.specs.Keeps.{traceAt}
 use Rattle.ignored.specs.Images.{part-long}
 use Rattle.text.specs.declared.Manner.the-variants.{Strict}
@@ -43,7 +43,7 @@ use Rattle.until.specs.Until.{byKey, byIndex, toEnd}
 use Rattle.reader.specs.declared.StringAnswer.{StringAnswer}
 use Rattle.reader.specs.declared.StringAnswer.the-variants as string
 use Rattle.reader.specs.declared.CountAnswer.{CountAnswer}
-use Rattle.reader.specs.declared.Whose.the-variants.{One}
+use Rattle.part_number.specs.declared.Whose.the-variants.{One}
 use Rattle.reader.specs.Questions.{isTrace, traceNumber, areaNamed, placesIn, numbersIn, stringsVerdict, valueThere, onString, kept}
 use Rattle.reader.specs.Questions.{blockAt, integersVerdict, bitsVerdict, dataIn, samplesIn, patternsIn, classesIn, samplesOf, patternsOf, classesOf}
 use Rattle.places.specs.Numbers.{numbersOf}

@@ -1,9 +1,7 @@
-// All strings of a part in one call: the places of its keywords and values, into a lent row of four numbers a string
+// All strings of an area in one call: the places of its keywords and values, into a lent row of four numbers a string
 // (document 01, "Strings"; row 32 where the row has another length). So a listing takes time by the bytes of the strings,
-// not by their square. The definitions are reader/Questions, Rows has a law for each answer. Stands on `reader`,
-// `places`, `lookup`.
+// not by their square. The definitions are reader/Questions, Rows has a law for each answer. Stands on `places`.
 // The rules in words: docs/FORMAT.md, "Strings".
-use reader::Opened;
 use refusal::Rule;
 use refusal::Verdict;
 use text::Manner;
@@ -14,7 +12,7 @@ ghost use lib.ListN.{length};
 ghost use Rattle.terminators.specs.Terminators.{goodTerminator};
 ghost use Rattle.head.specs.Head.{refused};
 ghost use Rattle.places.specs.Numbers.{numbersOf};
-ghost use Rattle.reader.specs.Questions.{placesIn, stringsAnswer, stringsLeft, kept};
+ghost use Rattle.reader.specs.Questions.{placesIn, kept};
 ghost use Rattle.string_rows.specs.Rows.{rowVerdict};
 
 // Row 32: part -1, place 0.
@@ -50,27 +48,4 @@ pub fn fill(f: &[u8], a: usize, e: usize, c: usize, how: Manner, row: &mut [usiz
         row,
     );
     Verdict::Accepted
-}
-
-// All strings of a part.
-pub fn strings(buffer: &[u8], n: usize, part: i32, row: &mut [usize], how: Manner) -> Verdict
-    ensures answer { λ r. ⌜ r ≡ stringsAnswer how (now (buffer .entry)) n part (length (now (row .entry))) ⌝ }
-    ensures row { λ _. ⌜ now (row .exit) ≡ stringsLeft how (now (buffer .entry)) n part (now (row .entry)) ⌝ }
-{
-    let o = reader::open_area(buffer, n, part, how);
-    match o {
-        Opened::Bad(r) => Verdict::Refused(r),
-        Opened::From(a, e) => {
-            let f = &buffer[..n];
-            let c = lookup::count(
-                f,
-                a,
-                e,
-                head_words::is_high(f),
-                terminators::string_end(f),
-                how,
-            );
-            fill(f, a, e, c, how, row)
-        }
-    }
 }

@@ -1,18 +1,15 @@
-// The strings of an area: one string and a step of the check (document 01, "Strings", rows 14 to 17); `seek` checks a
-// whole area, `lookup` asks. Strings has the definitions, Spelled and Paper the second view: an area is
-// accepted exactly where it spells a list of strings, and only one. Stands on `text`, `word`, `refusal`. An area is the
+// The strings of an area: the frame of one string (document 01, "Strings", rows 14 and 15); `string_step` judges it
+// whole, `strings_check` a whole area, `lookup` asks. Strings has the definitions of all, Spelled and Paper the second
+// view: an area is accepted exactly where it spells a list of strings, and only one. Stands on `text`, `word`,
+// `refusal`, and for the definitions on `note`. An area is the
 // bytes of a file from place a to place e; t is the string terminator, u the line terminator, `high` the byte order,
 // `how` the manner of reading (text/Manner), which is a parameter of every walk and question here.
 // The rules in words: docs/FORMAT.md, "Strings".
-use chars::Kind;
-use refusal::Part;
 use refusal::Refusal;
 use refusal::Rule;
 use text::Manner;
 ghost use mathlib.Core.Path.{_≡_};
-ghost use Prim.Native.Nat.{_<_};
-ghost use lib.ListN.{length};
-ghost use Rattle.strings.specs.Strings.{cut, frameOf, judgedOf, stepOf};
+ghost use Rattle.strings.specs.Strings.{cut, frameOf};
 
 // What an area has at a string's place: the end of the list, a string of so many bytes in all, or a frame that is
 // broken.
@@ -94,66 +91,4 @@ pub fn framed(l: &[u8], high: bool, t: &[u8], how: Manner) -> Frame
         return Frame::Broken(Rule::StringEnd);
     }
     Frame::Text(o)
-}
-
-// Rows 16 and 17 of what stands between the offset and the terminator; prev is the keyword before.
-fn judge(b: &[u8], u: &[u8], prev: &[u8], how: Manner) -> Judged
-    requires { ⌜ 0 < length (now u) ⌝ }
-    ensures { λ r. ⌜ r ≡ judgedOf how (now (u .entry)) (now (prev .entry)) (now (b .entry)) ⌝ }
-{
-    let n = text::key_run(b, how);
-    if n == 0 {
-        return Judged::Wrong(Rule::Character);
-    }
-    let r = &b[n..];
-    let g = chars::run(Kind::Blank, r);
-    if (g == 0) & (0 < r.len()) {
-        return Judged::Wrong(Rule::Character);
-    }
-    let k = &b[..n];
-    if !note::value_ok(u, k, &r[g..], how) {
-        return Judged::Wrong(Rule::Character);
-    }
-    if !text::following(prev, k, how) {
-        return Judged::Wrong(Rule::KeywordOrder);
-    }
-    Judged::Keyword(n)
-}
-
-// Rows 14 to 17 of the string that l starts with, which stands at place `at` of the file.
-pub fn step_at(
-    l: &[u8],
-    high: bool,
-    t: &[u8],
-    u: &[u8],
-    whose: Part,
-    prev: &[u8],
-    at: usize,
-    how: Manner,
-) -> Step
-    requires { ⌜ 0 < length (now u) ⌝ }
-    ensures { λ r. ⌜ r ≡ stepOf how high (now (t .entry)) (now (u .entry)) whose (now (prev .entry)) (now (l .entry))
-        at ⌝ }
-{
-    let s = framed(l, high, t, how);
-    match s {
-        Frame::End => Step::Done,
-        Frame::Broken(rule) => Step::Bad(Refusal {
-            rule,
-            part: whose,
-            place: at,
-        }),
-        Frame::Text(o) => {
-            let end = o - t.len();
-            let j = judge(&l[2..end], u, prev, how);
-            match j {
-                Judged::Keyword(n) => Step::Next(o, n),
-                Judged::Wrong(rule) => Step::Bad(Refusal {
-                    rule,
-                    part: whose,
-                    place: at,
-                }),
-            }
-        }
-    }
 }

@@ -1,51 +1,17 @@
-// Keywords (document 01, "Strings"; document 02, §11): the characters that they have, what they count as, what they may
-// follow, in the manner of reading. Definitions in Manner. Stands on `key_order`, `letters`, `chars`, and on `word` and
-// `refusal` for laws alone.
+// Keywords (document 01, "Strings"; document 02, §11): what they count as, what they may follow, in the manner of
+// reading. Manner has all definitions that the manner decides, that of their characters too, which `key_chars` runs
+// along. Stands on `key_order`, `letters`, `chars`.
 // The rules in words: docs/FORMAT.md, "Strings".
-use chars::Kind;
 ghost use mathlib.Core.Path.{_≡_};
-ghost use Prim.Native.Nat.{_≤_};
-ghost use lib.ListN.{length};
 ghost use Rattle.chars.specs.Chars.{note};
-ghost use Rattle.chars.specs.Runs.{run, same};
-ghost use Rattle.text.specs.Manner.{openEnd, letter, named, follows, asksChannels};
+ghost use Rattle.chars.specs.Runs.{same};
+ghost use Rattle.text.specs.Manner.{openEnd, named, follows, asksChannels};
 
 // The manner of reading strings: `specs/Manner.antt` has what it decides. Strict is document 01's, Lenient that of
 // document 02, §11.
 pub enum Manner {
     Strict,
     Lenient,
-}
-
-// Whether a byte is a keyword's character. Most keywords end at a blank, which is none in any manner.
-fn key_char(b: u8, how: Manner) -> bool
-    ensures { λ r. ⌜ r ≡ letter how b ⌝ }
-{
-    if b < 33 {
-        return false;
-    }
-    match how {
-        Manner::Strict => ((33 <= b) & (b <= 96)) | ((123 <= b) & (b <= 126)),
-        Manner::Lenient => letters::is_loose(b),
-    }
-}
-
-// How many keyword characters stand first.
-pub fn key_run(s: &[u8], how: Manner) -> usize
-    ensures { λ r. ⌜ (r ≡ run (letter how) (now (s .entry))) × (r ≤ length (now (s .entry))) ⌝ }
-{
-    let mut i: usize = 0;
-    while i < s.len() {
-        i += chars::run(Kind::Capital, &s[i..]);
-        if s.len() <= i {
-            return i;
-        }
-        if !key_char(s[i], how) {
-            return i;
-        }
-        i += 1;
-    }
-    i
 }
 
 // Whether the keyword k counts as the asked one, which has then as many bytes in any manner.

@@ -1,6 +1,6 @@
 // The values of keywords (document 01, "Strings", "Numbers in values"; rows 20 to 23): as the caller's own bytes, and as
 // the numbers that they are. Every question checks the whole file first. The definitions are reader/Questions. Stands on
-// `reader`, `location`, `double`, `decimal`.
+// `string_answers`, `value_part`, `location_text`, `double`, `decimal`.
 // The rules in words: docs/FORMAT.md, "Numbers in values".
 use decimal_parts::NumberAnswer;
 use double::DoubleAnswer;
@@ -10,42 +10,19 @@ use text::Manner;
 ghost use mathlib.Core.Path.{_≡_};
 ghost use lib.ListN.{length};
 ghost use Rattle.word.specs.Part.{PartOf};
-ghost use Rattle.reader.specs.Questions.{valueThere, valueAnswer, spanThere, spanAnswer, numberAnswer, doubleAnswer};
+ghost use Rattle.reader.specs.Questions.{valueThere, valueAnswer, spanAnswer, numberAnswer, doubleAnswer};
 ghost use Rattle.reader.specs.Questions.{locationAnswer, onString};
 ghost use Rattle.decimal.specs.Number.{numberIn};
 ghost use Rattle.double.specs.Double.{doubleOf};
 ghost use Rattle.location.specs.Location.{locationOf};
 ghost use Rattle.reader.specs.Leaves.{Within};
 
-// The value of a string that was found, as the caller's own bytes; else the empty part at the start.
-pub fn value_at<'a>(buffer: &'a [u8], s: StringAnswer) -> &'a [u8]
-    requires { ⌜ Within (length (now buffer)) s ⌝ }
-    ensures { λ r. ⌜ now r ≡ valueThere (now (buffer .entry)) s ⌝ }
-    ensures own { λ r. ⌜ PartOf (buffer .entry) (spanThere s) r ⌝ }
-{
-    match s {
-        StringAnswer::There(p) => {
-            let from = p.value;
-            let to = p.end;
-            &buffer[from..to]
-        }
-        StringAnswer::Absent => {
-            let start = 0; // for a no
-            &buffer[start..start]
-        }
-        StringAnswer::Refused(_) => {
-            let start = 0; // for a refusal
-            &buffer[start..start]
-        }
-    }
-}
-
 // "the other answers the value as the caller's own bytes, not a copy, and for a no or a refusal the empty part".
 pub fn value<'a>(buffer: &'a [u8], n: usize, part: i32, key: &[u8], how: Manner) -> &'a [u8]
     ensures { λ r. ⌜ now r ≡ valueAnswer how (now (buffer .entry)) n part (now (key .entry)) ⌝ }
     ensures own { λ r. ⌜ PartOf (buffer .entry) (spanAnswer how (now (buffer .entry)) n part (now (key .entry))) r ⌝ }
 {
-    value_at(buffer, reader::find(buffer, n, part, key, how))
+    value_part::value_at(buffer, string_answers::find(buffer, n, part, key, how))
 }
 
 // ---- numbers in values; an absent keyword has the empty value, which is no number and no location
@@ -58,7 +35,7 @@ pub fn number_of(buffer: &[u8], s: StringAnswer) -> NumberAnswer
     if let StringAnswer::Refused(r) = s {
         return NumberAnswer::Refused(r);
     }
-    decimal::number(value_at(buffer, s))
+    decimal::number(value_part::value_at(buffer, s))
 }
 
 pub fn double_of(buffer: &[u8], s: StringAnswer) -> DoubleAnswer
@@ -68,7 +45,7 @@ pub fn double_of(buffer: &[u8], s: StringAnswer) -> DoubleAnswer
     if let StringAnswer::Refused(r) = s {
         return DoubleAnswer::Refused(r);
     }
-    double::double(value_at(buffer, s))
+    double::double(value_part::value_at(buffer, s))
 }
 
 pub fn location_of(buffer: &[u8], s: StringAnswer) -> LocationAnswer
@@ -78,24 +55,24 @@ pub fn location_of(buffer: &[u8], s: StringAnswer) -> LocationAnswer
     if let StringAnswer::Refused(r) = s {
         return LocationAnswer::Refused(r);
     }
-    location::location(value_at(buffer, s))
+    location_text::location(value_part::value_at(buffer, s))
 }
 
 // Of a part's keyword.
 pub fn number(buffer: &[u8], n: usize, part: i32, key: &[u8], how: Manner) -> NumberAnswer
     ensures { λ r. ⌜ r ≡ numberAnswer how (now (buffer .entry)) n part (now (key .entry)) ⌝ }
 {
-    number_of(buffer, reader::find(buffer, n, part, key, how))
+    number_of(buffer, string_answers::find(buffer, n, part, key, how))
 }
 
 pub fn double(buffer: &[u8], n: usize, part: i32, key: &[u8], how: Manner) -> DoubleAnswer
     ensures { λ r. ⌜ r ≡ doubleAnswer how (now (buffer .entry)) n part (now (key .entry)) ⌝ }
 {
-    double_of(buffer, reader::find(buffer, n, part, key, how))
+    double_of(buffer, string_answers::find(buffer, n, part, key, how))
 }
 
 pub fn location(buffer: &[u8], n: usize, part: i32, key: &[u8], how: Manner) -> LocationAnswer
     ensures { λ r. ⌜ r ≡ locationAnswer how (now (buffer .entry)) n part (now (key .entry)) ⌝ }
 {
-    location_of(buffer, reader::find(buffer, n, part, key, how))
+    location_of(buffer, string_answers::find(buffer, n, part, key, how))
 }

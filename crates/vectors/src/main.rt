@@ -58,7 +58,7 @@ fn double_refused(text: &[u8], number: u32) -> bool {
 }
 
 fn location_is(text: &[u8], count: u32, x: f64, y: f64, z: f64) -> bool {
-    let answer = location::location(text);
+    let answer = location_text::location(text);
     match answer {
         LocationAnswer::Is(c) => (c.count == count) & ((c.x == x) & ((c.y == y) & (c.z == z))),
         LocationAnswer::Refused(_) => false,
@@ -66,7 +66,7 @@ fn location_is(text: &[u8], count: u32, x: f64, y: f64, z: f64) -> bool {
 }
 
 fn location_refused(text: &[u8], number: u32) -> bool {
-    let answer = location::location(text);
+    let answer = location_text::location(text);
     match answer {
         LocationAnswer::Is(_) => false,
         LocationAnswer::Refused(r) => {
@@ -110,7 +110,7 @@ fn unfit(value: i32) -> bool {
 
 // Strings with the string terminator 00 and the line terminator 0A 0D, low byte first.
 fn accepted(area: &[u8]) -> bool {
-    let v = seek::check(
+    let v = strings_check::check(
         area,
         0,
         area.len(),

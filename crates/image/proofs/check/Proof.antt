@@ -3,7 +3,7 @@ use mathlib.Core.Path.{sym, _∙_}
 use lib.ListN.{length}
 use lib.Seq.{length-take-le}
 use Rattle.image.specs.Image.{checkOf}
-use Rattle.image.specs.ImageLaws.{long-enough}
+use Rattle.file_length.specs.FileLength.{long-enough}
 use borrow.Author.Needs.{needs}
 use Rattle.image.proofs.check.Statement.{statement}
 use Rattle.image.proofs.check.Tie as tie

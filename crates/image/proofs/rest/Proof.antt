@@ -1,6 +1,7 @@
 -- `image::rest` meets its contract. Each part is asked only where the ones before it were accepted. Assumes nothing.
 use mathlib.Core.Path.{sym, _∙_}
-use Rattle.image.specs.Walk.{next-stands, next-within, rest-pointer, rest-strings, rest-traces}
+use Rattle.traces.specs.Walk.{next-stands, next-within}
+use Rattle.image.specs.Rest.{rest-pointer, rest-strings, rest-traces}
 use borrow.Author.Needs.{needs}
 use native.Mathlib.Omega.{arith}
 use Rattle.image.proofs.rest.Statement.{statement}

@@ -7,7 +7,8 @@ use lib.Seq.{length-take-le}
 use mir.Syntax.{w32}
 use Rattle.word.specs.Signed.{handed}
 use Rattle.block.specs.declared.TraceAnswer.the-variants as trace
-use Rattle.image.specs.ImageLaws.{long-enough, in-words, head-shown, head-room, head-count}
+use Rattle.file_length.specs.FileLength.{long-enough}
+use Rattle.image.specs.ImageLaws.{in-words, head-shown, head-room, head-count}
 use Rattle.one_trace.specs.Alone.{namedOf}
 use Rattle.one_trace.specs.AloneLaws.{alone-length, alone-head, alone-named}
 use borrow.Author.Needs.{needs}

@@ -4,7 +4,7 @@ use native.Mathlib.Omega.{arith}
 use lib.IntN.{ℤ}
 use mir.Syntax.{w32}
 use Rattle.word.specs.Signed.{handed}
-use Rattle.reader.specs.Questions.{whoseOf}
+use Rattle.part_number.specs.PartNumber.{whoseOf}
 use Rattle.reader.specs.Reach.{whose-trace}
 use Rattle.one_trace.specs.Alone.{namedOf}
 use borrow.Author.Needs.{needs}

@@ -7,8 +7,9 @@ use mir.Syntax.{w32}
 use Rattle.head_words.specs.HeadWords.{countOf}
 use Rattle.reader.specs.Reach.{whose-trace, some-trace, pointer-slot, trace-pointed}
 use Rattle.reader.specs.Leaves.{area-whole, area-one}
-use Rattle.reader.specs.Questions.{whoseOf, areaNamed}
-use Rattle.reader.specs.declared.Whose.{Whose}
+use Rattle.part_number.specs.PartNumber.{whoseOf}
+use Rattle.reader.specs.Questions.{areaNamed}
+use Rattle.part_number.specs.declared.Whose.{Whose}
 use Rattle.word.specs.Signed.{handed}
 use Rattle.reader.proofs.area_of.Statement.{statement}
 use Rattle.reader.proofs.area_of.Tie as tie

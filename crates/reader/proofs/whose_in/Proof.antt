@@ -5,7 +5,7 @@ use borrow.Author.Needs.{needs}
 use mir.Syntax.{w32}
 use Rattle.head_words.specs.HeadWords.{count-read}
 use Rattle.head_words.specs.HeadWords.{countOf}
-use Rattle.reader.specs.Questions.{whoseOf}
+use Rattle.part_number.specs.PartNumber.{whoseOf}
 use Rattle.word.specs.Signed.{handed}
 use Rattle.reader.proofs.whose_in.Statement.{statement}
 use Rattle.reader.proofs.whose_in.Tie as tie

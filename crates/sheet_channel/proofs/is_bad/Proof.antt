@@ -1,7 +1,7 @@
 -- `sheet_channel::is_bad` meets its contract. Each answer has its law. Assumes nothing.
 use mathlib.Core.Path.{_∙_}
 use borrow.Author.Needs.{needs}
-use Rattle.sheet_channel.specs.Finding.{sheet-without, sheet-with}
+use Rattle.sheet_channel.specs.Told.{sheet-without, sheet-with}
 use Rattle.sheet_channel.proofs.is_bad.Statement.{statement}
 use Rattle.sheet_channel.proofs.is_bad.Tie as tie
 

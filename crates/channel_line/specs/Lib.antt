@@ -1,0 +1,2 @@
+pub mod ChannelLine
+pub mod Finding
