@@ -226,6 +226,11 @@ compile_module() {
     grep -qFx "target datalayout = \"$(layout_of "$3")\"" "$2/$3.head" || die "the layout of $3 is another: $(cat "$2/$3.head")"
     cat "$2/$3.head" "$module/plain.ll" >"$2/$3.ll"
     mkdir -p "$2/$3"
+    # Android's object files are of the same kind as Linux's: in an archive the name tells them apart
+    case $3 in
+    *-android) object=$2/$3/$1-android.o ;;
+    *) object=$2/$3/$1.o ;;
+    esac
     if keeps_18 "$3"; then
         # what is looked at as text is what is then assembled
         compiled "$3" "$2/$3.s" -S -x ir "$2/$3.ll"
@@ -235,11 +240,11 @@ compile_module() {
         *-simulator) quiet=-Wa,--no-warn ;;
         *) quiet= ;;
         esac
-        "$clang" "--target=$3" -Werror $quiet -c "$2/$3.s" -o "$2/$3/$1.o"
+        "$clang" "--target=$3" -Werror $quiet -c "$2/$3.s" -o "$object"
     else
-        compiled "$3" "$2/$3/$1.o" -c -x ir "$2/$3.ll"
+        compiled "$3" "$object" -c -x ir "$2/$3.ll"
     fi
-    archived "$3" "$2/$3.a" "$2/$3/$1.o"
+    archived "$3" "$2/$3.a" "$object"
     mv "$2/$3.a" "$4"
 }
 

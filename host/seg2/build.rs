@@ -8,10 +8,12 @@ use std::path::{Path, PathBuf};
 /// Where the archive stands, if not in the repository's `archives/`.
 const FOLDER: &str = "SEG2_ARCHIVE_DIR";
 
-/// What an archive was made for, as its object files tell it. Android is not told from Linux.
+/// What an archive was made for, as its object files tell it. Android's are told from Linux's by
+/// their name in the archive (tools/lib-archive.sh).
 #[derive(Clone, Copy, PartialEq)]
 enum System {
     Linux,
+    Android,
     MacOs,
     Ios,
     Simulator,
@@ -20,7 +22,8 @@ enum System {
 impl System {
     fn name(self) -> &'static str {
         match self {
-            System::Linux => "Linux or Android",
+            System::Linux => "Linux",
+            System::Android => "Android",
             System::MacOs => "macOS",
             System::Ios => "iOS",
             System::Simulator => "the iOS simulator",
@@ -45,7 +48,12 @@ fn platform(target: &str) -> Option<&'static str> {
 /// What an archive for a target is for, whether the table has the target or not.
 fn system(target: &str) -> Option<System> {
     if target.contains("-linux-") {
-        return Some(System::Linux);
+        let android = target.contains("-linux-android");
+        return Some(if android {
+            System::Android
+        } else {
+            System::Linux
+        });
     }
     match target.split_once("-apple-")? {
         (_, "darwin") => Some(System::MacOs),
@@ -148,11 +156,13 @@ fn made_for(data: &[u8], arch: &str) -> Option<(&'static str, System)> {
             .or(parts.first())
             .copied();
     }
-    object(first(data)?)
+    let (name, file) = first(data)?;
+    object(name, file)
 }
 
-/// An archive's first file that is none of its own tables. Apple's archives keep a name in front of the file itself.
-fn first(data: &[u8]) -> Option<&[u8]> {
+/// The name of an archive's first file that is none of its own tables, and the file. Apple's
+/// archives keep a name in front of the file itself.
+fn first(data: &[u8]) -> Option<(&[u8], &[u8])> {
     let mut rest = data.strip_prefix(b"!<arch>\n")?;
     loop {
         let text = |from: usize, to: usize| {
@@ -165,20 +175,24 @@ fn first(data: &[u8]) -> Option<&[u8]> {
             None => (name.as_bytes(), body),
         };
         if !(name == b"/" || name == b"//" || name.starts_with(b"__.SYMDEF")) {
-            return Some(file);
+            return Some((name, file));
         }
         rest = rest.get(60 + size + size % 2..)?;
     }
 }
 
 /// ELF's e_machine, or Mach-O's processor and the system of its LC_BUILD_VERSION.
-fn object(file: &[u8]) -> Option<(&'static str, System)> {
+fn object(name: &[u8], file: &[u8]) -> Option<(&'static str, System)> {
     const MACHO: u32 = 0xFEED_FACF;
     const BUILD_VERSION: u32 = 0x32;
     if file.starts_with(b"\x7FELF\x02\x01") {
+        let system = match name.ends_with(b"-android.o/") {
+            true => System::Android,
+            false => System::Linux,
+        };
         return match little(file, 18)? & 0xFFFF {
-            62 => Some(("x86_64", System::Linux)),
-            183 => Some(("aarch64", System::Linux)),
+            62 => Some(("x86_64", system)),
+            183 => Some(("aarch64", system)),
             _ => None,
         };
     }

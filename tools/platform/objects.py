@@ -54,7 +54,8 @@ def elf(name, data):
     kind, machine = struct.unpack_from("<HH", data, 16)
     if kind != 1:
         raise Wrong(f"{name} is no object file")
-    o.machine, o.system = ELF_MACHINES.get(machine, f"machine {machine}"), "linux"
+    # Android's are of the same kind; lib-archive.sh tells them by their name
+    o.machine, o.system = ELF_MACHINES.get(machine, f"machine {machine}"), "android" if name.endswith("-android.o") else "linux"
     table, = struct.unpack_from("<Q", data, 40)
     width, count, names = struct.unpack_from("<HHH", data, 58)
     sections = [struct.unpack_from("<IIQQQQIIQQ", data, table + i * width) for i in range(count)]
@@ -174,8 +175,8 @@ def wanted(triple):
     """Machine and system that an object for a triple has."""
     cpu, _, system = triple.split("-", 2)
     machine = {"arm64": "aarch64"}.get(cpu, cpu)
-    if system in ("linux-gnu", "linux-android"):
-        return machine, "linux"
+    if system.startswith("linux-"):
+        return machine, {"linux-gnu": "linux", "linux-android": "android"}[system]
     name, least, simulator = re.fullmatch(r"(ios|macosx)([\d.]+)(-simulator)?", system).groups()
     return machine, f"{name.removesuffix('x')}{simulator or ''} {least}"
 
@@ -191,7 +192,7 @@ def look(name, declared, triples):
         more, less = sorted(set(o.defined) - set(functions)), sorted(set(functions) - set(o.defined))
         if more or less or len(o.defined) != len(functions):
             raise Wrong(f"{name} has not exactly the functions of include/seg2.h; more: {more}, less: {less}")
-        left = sorted(set(o.undefined) - (FROM_C if o.system == "linux" else FROM_APPLE))
+        left = sorted(set(o.undefined) - (FROM_C if o.system in ("linux", "android") else FROM_APPLE))
         if left:
             raise Wrong(f"{name} needs more of C than to copy and to fill memory: {left}")
         if o.writable:
