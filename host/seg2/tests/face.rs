@@ -59,7 +59,7 @@ fn functions_of_the_face() -> Vec<String> {
 #[test]
 fn the_same_functions_are_declared_everywhere() {
     let exported = functions_of_the_face();
-    assert!(exported.len() >= 42, "{exported:?}");
+    assert!(exported.len() >= 44, "{exported:?}");
     let raw = read(here().join("src/raw.rs"));
     let in_rust = raw.lines().filter_map(|l| name_after(l, "pub fn seg2_"));
     let in_rust = sorted(in_rust.map(|name| format!("seg2_{name}")).collect());

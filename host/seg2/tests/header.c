@@ -466,10 +466,11 @@ static void channels(void) {
 /* the room of a start and of an addition, asked beforehand: exactly that much is enough */
 static void rooms(void) {
     const int32_t samples[3] = {1, -1, 256};
-    size_t room = told_length("a start needs", seg2_start_size_of(SEG2_LOW_FIRST, 1, SEG2_LITERAL("UNITS\tMETERS\n")));
-    size_t length;
+    size_t room, length;
     seg2_length answer;
 
+    seg2_start_size(&answer, SEG2_LOW_FIRST, 1, SEG2_LITERAL("UNITS\tMETERS\n"));
+    room = told_length("a start needs", answer);
     told_length("no slots", seg2_start_size_of(SEG2_LOW_FIRST, 0, SEG2_LITERAL("")));
     told_length("a bad second line", seg2_start_size_of(SEG2_LOW_FIRST, 1, SEG2_LITERAL("A\t1\nB 2\n")));
     told_length("a byte less", seg2_start_of(buffer, room - 1, SEG2_LOW_FIRST, 1, SEG2_LITERAL("UNITS\tMETERS\n")));
