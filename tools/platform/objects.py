@@ -121,7 +121,7 @@ def macho(name, data):
 
 
 def members(name, data):
-    """The files of an archive, by their names, but for its own tables."""
+    """The files of an archive, by their names and places in it, but for its own tables."""
     if data[:8] != b"!<arch>\n":
         raise Wrong(f"{name} is no archive")
     at, found = 8, []
@@ -130,14 +130,15 @@ def members(name, data):
         if len(head) < 60 or head[58:] != b"`\n":
             raise Wrong(f"{name} is broken at byte {at}")
         size = int(head[48:58])
-        body, label = data[at + 60:at + 60 + size], head[:16].decode("ascii").rstrip()
+        start, label = at + 60, head[:16].decode("ascii").rstrip()
+        body = data[start:start + size]
         if head[16:40].split() != [b"0", b"0", b"0"] and label not in ("/", "//"):
             raise Wrong(f"{name} has a time or an owner at byte {at}")
         if label.startswith("#1/"):
             long = int(label[3:])
-            label, body = fixed(body[:long]), body[long:]
+            label, body, start = fixed(body[:long]), body[long:], start + long
         if label not in ("/", "//", "__.SYMDEF", "__.SYMDEF SORTED"):
-            found.append((label.rstrip("/"), body))
+            found.append((label.rstrip("/"), start, body))
         at += 60 + size + (size & 1)
     return found
 
@@ -145,11 +146,11 @@ def members(name, data):
 def slices(name, data):
     """The archives in a file: itself, or those of a fat one."""
     if struct.unpack_from(">I", data)[0] != FAT:
-        return [(None, data)]
+        return [(None, 0, data)]
     found = []
     for i in range(struct.unpack_from(">I", data, 4)[0]):
         cpu, _, start, size, _ = struct.unpack_from(">IIIII", data, 8 + 20 * i)
-        found.append((CPUS.get(cpu), data[start:start + size]))
+        found.append((CPUS.get(cpu), start, data[start:start + size]))
     return found
 
 
@@ -157,12 +158,14 @@ def objects(name):
     with open(name, "rb") as file:
         data = file.read()
     found = []
-    for cpu, archive in slices(name, data):
-        for label, body in members(name, archive):
+    for cpu, place, archive in slices(name, data):
+        for label, start, body in members(name, archive):
             if body[:4] == b"\x7fELF":
                 o = elf(label, body)
             elif struct.unpack_from("<I", body)[0] == MACHO:
                 o = macho(label, body)
+                if (place + start) % 8:
+                    raise Wrong(f"{name} has {label} at byte {place + start}, which is no multiple of 8, as Apple's linker wants")
             else:
                 raise Wrong(f"{name} has {label}, which is no object file")
             if cpu not in (None, o.machine):
@@ -205,7 +208,7 @@ def fat(out, archives):
     for name in archives:
         with open(name, "rb") as file:
             data = file.read()
-        (_, body), = members(name, data)
+        (_, _, body), = members(name, data)
         cpu, kind = struct.unpack_from("<II", body, 4)
         at += -at % 8
         head += struct.pack(">IIIII", cpu, kind, at, len(data), 3)
