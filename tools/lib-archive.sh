@@ -218,8 +218,8 @@ archived() {
     "$tools/bin/llvm-ar" --format=$format rcsD "$2" "$3"
 }
 
-# compile_module NAME WORK TRIPLE ARCHIVE: compiles the module that prove_module left for TRIPLE into ARCHIVE, by way of WORK. Where the system keeps register 18 for itself, the script
-# ends if the code uses it.
+# compile_module NAME WORK TRIPLE ARCHIVE: compiles the module that prove_module left for TRIPLE into ARCHIVE, by way of WORK. Where the system keeps
+# register 18 for itself, the script ends if the code uses it.
 compile_module() {
     # layout and full triple are asked of the clang that compiles, and the layout has to be the one that is known
     printf 'int x;\n' | "$clang" "--target=$3" -x c -S -emit-llvm -o - - | grep '^target ' >"$2/$3.head"
@@ -259,8 +259,9 @@ uses_18() { grep -nwE '[wx]18' "$1" >&2; }
 
 # stale_archive PLATFORM: its archive is missing, or older than what it is made of.
 stale_archive() {
-    [ ! -f "archives/$1/libseg2.a" ] ||
-        [ -n "$(find crates crates.txt include/seg2.h tools/lib-archive.sh tools/platform-archives tools/platform/objects.py -newer "archives/$1/libseg2.a" -print -quit)" ]
+    made_of='crates crates.txt include/seg2.h tools/lib-archive.sh tools/platform-archives tools/platform/objects.py'
+    # shellcheck disable=SC2086
+    [ ! -f "archives/$1/libseg2.a" ] || [ -n "$(find $made_of -newer "archives/$1/libseg2.a" -print -quit)" ]
 }
 
 # The functions that the header declares: each stands at the start of a line, behind what it returns.

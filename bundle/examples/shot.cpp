@@ -29,7 +29,8 @@ int main() {
     const seg2_verdict check = seg2_check(file.data(), file.size(), file.size());
     std::printf("%s, %zu bytes\n", seg2_text(check.number), file.size());
     const struct seg2_value value = seg2_value_of(file.data(), file.size(), file.size(), -1, bytes(units), units.size());
-    std::printf("UNITS %s\n", std::string(file.begin() + static_cast<long>(value.value_start), file.begin() + static_cast<long>(value.value_start + value.value_length)).c_str());
+    const std::string text(reinterpret_cast<const char *>(file.data()) + value.value_start, value.value_length);
+    std::printf("UNITS %s\n", text.c_str());
     const struct seg2_location at = seg2_quick_location_of(file.data(), file.size(), file.size(), 0, bytes(receiver), receiver.size());
     const seg2_trace trace = seg2_quick_trace_block_of(file.data(), file.size(), file.size(), 0);
     std::vector<int32_t> row(trace.sample_count);
