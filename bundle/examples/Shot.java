@@ -1,7 +1,7 @@
 import java.nio.ByteBuffer;
 import wasinthao.seg2.Seg2;
 
-/** A shot file with one trace, written into memory, checked and read again. */
+/** A shot file with one trace, written into memory, checked and read again. README.md has the line that builds and runs it. */
 public final class Shot {
     private Shot() {}
 

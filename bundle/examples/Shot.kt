@@ -1,7 +1,7 @@
 import java.nio.ByteBuffer
 import wasinthao.seg2.Seg2
 
-/** A shot file with one trace, written into memory, checked and read again. */
+/** A shot file with one trace, written into memory, checked and read again. README.md has the line that builds and runs it. */
 fun main() {
     val file = ByteBuffer.allocateDirect(1000)
     val started = Seg2.start(file, Seg2.LOW_FIRST, 24, "UNITS\tMETERS\n")
