@@ -1,17 +1,14 @@
-import java.nio.ByteBuffer
-import wasinthao.seg2.Seg2
+import wasinthao.seg2.*
 
 /** A shot file with one trace, written into memory, checked and read again. README.md has the line that builds and runs it. */
 fun main() {
-    val file = ByteBuffer.allocateDirect(1000)
-    val started = Seg2.start(file, Seg2.LOW_FIRST, 24, "UNITS\tMETERS\n")
-    started.refusal()?.let { println(it); return }
-    val added = Seg2.addIntegers(file, started.length.toLong(), "RECEIVER_LOCATION\t12.5\n", Seg2.FIXED_32, intArrayOf(1, -1, 256))
-    added.refusal()?.let { println(it); return }
-    val n = added.length.toLong()
-    println("${Seg2.check(file, n).refusal()?.text() ?: "accepted"}, $n bytes")
-    println("UNITS ${Seg2.value(file, n, Seg2.FILE, "UNITS").text()}")
-    val row = IntArray(Seg2.quickTraceBlock(file, n, 0).sampleCount)
-    Seg2.quickIntegers(file, n, 0, row)
-    println("trace 0 at ${Seg2.quickLocation(file, n, 0, "RECEIVER_LOCATION").x}: ${row.joinToString(" ")}")
+    val growing = Seg2Growing.start(Seg2.LOW_FIRST, 24, sheet { "UNITS" to "METERS" }).getOrElse { println(it.words); return }
+    growing.add(sheet { location("RECEIVER_LOCATION", "12.5") }, Seg2.FIXED_32, intArrayOf(1, -1, 256)).onRefusal { println(it.words); return }
+    val shot = growing.file().getOrElse { println(it.words); return }
+    println("accepted, ${growing.length()} bytes")
+    println("UNITS ${shot["UNITS"]}")
+    for (trace in shot.traces) {
+        val at = trace.location("RECEIVER_LOCATION").getOrThrow()
+        println("trace ${trace.index()} at ${at.x}: ${trace.integers().getOrThrow().joinToString(" ")}")
+    }
 }
