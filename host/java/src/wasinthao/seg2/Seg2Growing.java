@@ -94,8 +94,8 @@ public final class Seg2Growing {
     }
 
     private static Seg2Result<Seg2Growing> opened(ByteBuffer own, int length) {
-        // An addition that cannot be: no samples have code 0. Where the file is sound the refusal is one behind its check: 24, 35 or 28
-        Seg2.Refusal judged = Seg2.addIntegers(own, length, "", 0, new int[0]).refusal();
+        // The room of an addition that cannot be: no samples have code 0. Where the file is sound the refusal is one behind its check: 24, 35 or 28
+        Seg2.Refusal judged = Seg2.addSize(own, length, "", 0, 0).refusal();
         if (judged.isOfCheck()) {
             return Seg2Result.refused(judged);
         }
