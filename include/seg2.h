@@ -76,8 +76,9 @@ extern "C" {
 #define SEG2_MAXIMUM_NUMBER_TEXT 24
 
 /* A keyword, a sheet or a number's text that stands in the program, with its size beside it, for the two arguments that they
- * are: seg2_value_of(buffer, size, length, 0, SEG2_LITERAL("DELAY")). */
-#define SEG2_LITERAL(text) (text), (sizeof(text) - 1)
+ * are: seg2_value_of(buffer, size, length, 0, SEG2_LITERAL("DELAY")). Of anything but a literal it is an error of the compiler:
+ * a pointer has another size than its text. */
+#define SEG2_LITERAL(text) ("" text), (sizeof("" text) - 1)
 
 /* The refusal table, in its order of checking. Beside each row: what `place` is. seg2_text has the words. */
 enum seg2_refusal {

@@ -330,6 +330,43 @@ fn a_size_t_of_32_bits_is_refused() {
     }
 }
 
+/// What the compiler says of some lines behind the header; none where there is no such compiler.
+fn judged(compiler: &str, standard: &str, language: &str, lines: &str) -> Option<bool> {
+    let source = Temporary::new("lines.h");
+    std::fs::write(source.path(), format!("#include \"seg2.h\"\n{lines}\n")).expect("a file");
+    let out = Command::new(compiler)
+        .args([standard, "-fsyntax-only", "-Wall", "-Wextra", "-Wpedantic"])
+        .args(["-Werror", "-x", language, "-I"])
+        .arg(root().join("include"))
+        .arg(source.path())
+        .output();
+    out.ok().map(|out| out.status.success())
+}
+
+/// A keyword, a sheet and a text need no cast, be they `char` or `uint8_t`; and a size that is
+/// not the text's is none: `SEG2_LITERAL` of a pointer is an error.
+#[test]
+fn texts_need_no_cast_and_a_pointer_is_no_literal() {
+    let asked = |key: &str| {
+        format!("struct seg2_value v(const uint8_t *b, const char *c, const uint8_t *u);
+            struct seg2_value v(const uint8_t *b, const char *c, const uint8_t *u) {{ (void)c; (void)u; return seg2_value_of(b, 9, 9, -1, {key}); }}")
+    };
+    for (compiler, standard, language) in [("cc", "-std=c99", "c"), ("c++", "-std=c++11", "c++")] {
+        for (key, taken) in [
+            ("c, 5", true),
+            ("u, 5", true),
+            ("SEG2_LITERAL(\"UNITS\")", true),
+            ("SEG2_LITERAL(c)", false),
+            ("SEG2_LITERAL(u)", false),
+        ] {
+            match judged(compiler, standard, language, &asked(key)) {
+                Some(said) => assert_eq!(said, taken, "{standard} {key}"),
+                None => assert_ne!(compiler, "cc", "a C compiler"),
+            }
+        }
+    }
+}
+
 #[test]
 fn a_cpp_program_gets_them_too() {
     let options = [&["-x", "c++", "-std=c++11"], &SANITIZED[..]].concat();
