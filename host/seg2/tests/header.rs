@@ -300,47 +300,42 @@ fn a_c_program_gets_the_answers_of_document_01() {
     assert_eq!(printed(&program), expected());
 }
 
-/// A system of 32 bits, as far as the header sees one: `size_t` is renamed before it is read.
-#[test]
-fn a_size_t_of_32_bits_is_refused() {
-    for (compiler, standard, language) in [
-        ("cc", "-std=c99", "c"),
-        ("cc", "-std=c11", "c"),
-        ("c++", "-std=c++11", "c++"),
-    ] {
-        for (kind, taken) in [("uint64_t", true), ("uint32_t", false)] {
-            let source = Temporary::new("sizes.h");
-            let lines =
-                format!("#include <stddef.h>\n#include <stdint.h>\n#define size_t {kind}\n#include \"seg2.h\"\n");
-            std::fs::write(source.path(), lines).expect("a file");
-            let out = Command::new(compiler)
-                .args([standard, "-fsyntax-only", "-Wall", "-Wextra", "-Wpedantic"])
-                .args(["-Werror", "-x", language, "-I"])
-                .arg(root().join("include"))
-                .arg(source.path())
-                .output();
-            let Ok(out) = out else {
-                assert_ne!(compiler, "cc", "a C compiler");
-                continue;
-            };
-            let said = String::from_utf8_lossy(&out.stderr);
-            assert_eq!(out.status.success(), taken, "{standard} {kind}: {said}");
-            assert!(taken || said.contains("64"), "{standard}: {said}");
-        }
-    }
-}
-
-/// What the compiler says of some lines behind the header; none where there is no such compiler.
-fn judged(compiler: &str, standard: &str, language: &str, lines: &str) -> Option<bool> {
-    let source = Temporary::new("lines.h");
-    std::fs::write(source.path(), format!("#include \"seg2.h\"\n{lines}\n")).expect("a file");
+/// What a compiler says of some lines with all warnings on: whether it takes them, and its
+/// words; none where there is no such compiler, which may not be C's.
+fn judged(name: &str, compiler: &str, standard: &str, lines: &str) -> Option<(bool, String)> {
+    let source = Temporary::new(name);
+    std::fs::write(source.path(), lines).expect("a file");
+    let language = if compiler == "cc" { "c" } else { "c++" };
     let out = Command::new(compiler)
         .args([standard, "-fsyntax-only", "-Wall", "-Wextra", "-Wpedantic"])
         .args(["-Werror", "-x", language, "-I"])
         .arg(root().join("include"))
         .arg(source.path())
         .output();
-    out.ok().map(|out| out.status.success())
+    let Ok(out) = out else {
+        assert_ne!(compiler, "cc", "a C compiler");
+        return None;
+    };
+    let said = String::from_utf8_lossy(&out.stderr).into_owned();
+    Some((out.status.success(), said))
+}
+
+/// A system of 32 bits, as far as the header sees one: `size_t` is renamed before it is read.
+#[test]
+fn a_size_t_of_32_bits_is_refused() {
+    for (compiler, standard) in [
+        ("cc", "-std=c99"),
+        ("cc", "-std=c11"),
+        ("c++", "-std=c++11"),
+    ] {
+        for (kind, taken) in [("uint64_t", true), ("uint32_t", false)] {
+            let lines = format!("#include <stddef.h>\n#include <stdint.h>\n#define size_t {kind}\n#include \"seg2.h\"\n");
+            if let Some((is, said)) = judged("sizes.h", compiler, standard, &lines) {
+                assert_eq!(is, taken, "{standard} {kind}: {said}");
+                assert!(taken || said.contains("64"), "{standard}: {said}");
+            }
+        }
+    }
 }
 
 /// A keyword, a sheet and a text need no cast, be they `char` or `uint8_t`; and a size that is
@@ -348,10 +343,11 @@ fn judged(compiler: &str, standard: &str, language: &str, lines: &str) -> Option
 #[test]
 fn texts_need_no_cast_and_a_pointer_is_no_literal() {
     let asked = |key: &str| {
-        format!("struct seg2_value v(const uint8_t *b, const char *c, const uint8_t *u);
+        format!("#include \"seg2.h\"
+            struct seg2_value v(const uint8_t *b, const char *c, const uint8_t *u);
             struct seg2_value v(const uint8_t *b, const char *c, const uint8_t *u) {{ (void)c; (void)u; return seg2_value_of(b, 9, 9, -1, {key}); }}")
     };
-    for (compiler, standard, language) in [("cc", "-std=c99", "c"), ("c++", "-std=c++11", "c++")] {
+    for (compiler, standard) in [("cc", "-std=c99"), ("c++", "-std=c++11")] {
         for (key, taken) in [
             ("c, 5", true),
             ("u, 5", true),
@@ -359,9 +355,8 @@ fn texts_need_no_cast_and_a_pointer_is_no_literal() {
             ("SEG2_LITERAL(c)", false),
             ("SEG2_LITERAL(u)", false),
         ] {
-            match judged(compiler, standard, language, &asked(key)) {
-                Some(said) => assert_eq!(said, taken, "{standard} {key}"),
-                None => assert_ne!(compiler, "cc", "a C compiler"),
+            if let Some((is, said)) = judged("keys.h", compiler, standard, &asked(key)) {
+                assert_eq!(is, taken, "{standard} {key}: {said}");
             }
         }
     }
