@@ -111,3 +111,6 @@ need_kit() (
     }
     [ "$have" = "$proved_with" ] || echo "note: the kit at hand is $have; this project was last proved with $proved_with" >&2
 )
+
+# repo_git WORD..: git in the repository, also where it belongs to another user than the one who runs the script, as a build machine's may.
+repo_git() { git -c safe.directory='*' "$@"; }
