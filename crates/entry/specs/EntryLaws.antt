@@ -106,19 +106,13 @@ code-of-samples code (patterns row) e = let b = samples-fit code (patterns row) 
     go false = rw (samples-fit code (patterns row) e .0)
 
 -- and a code that is refused is refused with every row of samples of that count
+neither-kind : (a b : Bool) (r : Refusal) → pick (not (a || b)) (verdict.Refused (refusal EntryCode File 0)) verdict.Accepted ≡ verdict.Refused r
+    → (a ≡ false) × (b ≡ false) × (verdict.Refused (refusal EntryCode File 0) ≡ verdict.Refused r)
+neither-kind true b r e = absurd (refused-not r (sym e))
+neither-kind false true r e = absurd (refused-not r (sym e))
+neither-kind false false r e = (refl, refl, e)
+
 pub code-refused : (code : ℕ) (x : Samples) (r : Refusal) → codeVerdict code (count x) ≡ verdict.Refused r → samplesVerdict code x ≡ verdict.Refused r
 unfolding codeVerdict samplesVerdict fitting count
-code-refused code (integers row) r e = go (integersAsked code (length row)) (bitsAsked code) e
-  where
-    go : (a b : Bool) → pick (not (a || b)) (verdict.Refused (refusal EntryCode File 0)) verdict.Accepted ≡ verdict.Refused r
-        → pick (not a) (verdict.Refused (refusal EntryCode File 0)) (onFit (unfit code (integers row))) ≡ verdict.Refused r
-    go true b e = absurd (refused-not r (sym e))
-    go false true e = absurd (refused-not r (sym e))
-    go false false e = e
-code-refused code (patterns row) r e = go (integersAsked code (length row)) (bitsAsked code) e
-  where
-    go : (a b : Bool) → pick (not (a || b)) (verdict.Refused (refusal EntryCode File 0)) verdict.Accepted ≡ verdict.Refused r
-        → pick (not b) (verdict.Refused (refusal EntryCode File 0)) (onFit (unfit code (patterns row))) ≡ verdict.Refused r
-    go true b e = absurd (refused-not r (sym e))
-    go false true e = absurd (refused-not r (sym e))
-    go false false e = e
+code-refused code (integers row) r e = let n = neither-kind (integersAsked code (length row)) (bitsAsked code) r e in rw (n .0) (n .2)
+code-refused code (patterns row) r e = let n = neither-kind (integersAsked code (length row)) (bitsAsked code) r e in rw (n .1) (n .2)

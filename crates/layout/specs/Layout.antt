@@ -89,13 +89,16 @@ samplesData code high (patterns row) = bitsData code high row
 unfoldable pub traceBlock : Bool → ℕ → ℕ → ℕ → ℕ → List ℕ
 traceBlock high b d s code = bytesOf 2 high traceMark ++ (bytesOf 2 high b ++ (bytesOf 4 high d ++ (bytesOf 4 high s ++ (code ∷ replicate 19 0))))
 
--- what a trace of this sheet, this code and so many samples takes. B: the block with its strings. D: "the needed bytes
--- rounded up to 4"
+-- B: the block with its strings. D: "the needed bytes rounded up to 4". What a trace of this sheet, this code and so many
+-- samples takes is both
+abbrev pub blockFor : List ℕ → List ℕ → List ℕ → ℕ
+blockFor t u sheet = 32 + areaSize t u sheet
+
 abbrev pub sizeFor : List ℕ → List ℕ → List ℕ → ℕ → ℕ → ℕ
-sizeFor t u sheet code s = 32 + areaSize t u sheet + room code s
+sizeFor t u sheet code s = blockFor t u sheet + room code s
 
 abbrev pub blockBytes : List ℕ → List ℕ → Trace → ℕ
-blockBytes t u x = 32 + areaSize t u (x .sheet)
+blockBytes t u x = blockFor t u (x .sheet)
 
 abbrev pub dataBytes : Trace → ℕ
 dataBytes x = room (x .code) (count (x .samples))

@@ -1,5 +1,6 @@
 -- What adding a trace answers, and what is left in the lent buffer (document 01, "What we write" and rows 24 to 30;
--- document 02, row 35); and what it answers of the room that it needs, without that room and without the samples. xs is the buffer, n the length given beside it, f the image: the first n bytes.
+-- document 02, row 35); and what it answers of the room that it needs, without that room and without the samples. xs is
+-- the buffer, n the length given beside it, f the image: the first n bytes.
 -- Assumes nothing.
 use mathlib.Core.List.{List}
 use Prim.Native.Nat.{ℕ}
