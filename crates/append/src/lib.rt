@@ -2,6 +2,8 @@
 // pointer and N, in this order. Grown has the definition. What differs by the kind of the samples is their encoding
 // alone. Stands on `layout`, `head`.
 // The rules in words: docs/FORMAT.md, "What we write".
+#![tactic(auto)]
+
 ghost use Rattle.std.specs.Prelude.{◌≡◌, ◌-◌, length, take};
 ghost use Rattle.word.specs.Put.{put};
 ghost use Rattle.sample.specs.Needed.{room};
@@ -12,7 +14,7 @@ ghost use Rattle.append.specs.GrownLaws.{new_front, registered, Slotted, Begins}
 ghost use Rattle.append.specs.Grown.{grown};
 
 // Where the samples of a trace that is begun go, and in which byte order.
-#[derive(Drop)]
+#[derive(Clone, Copy)]
 pub struct Begun {
     pub at: usize,
     pub high: bool,

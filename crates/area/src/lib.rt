@@ -3,6 +3,8 @@
 // the sheet's list. Stands on `sheet_texts`, `sheet_string`, `sheet`, `strings`, `text`, `store`, `store_bytes`, `word`.
 // part is the lent memory, to the next free place in it; t, u and `high` are the file's terminators and byte order.
 // The rules in words: docs/FORMAT.md, "What we write".
+#![tactic(auto)]
+
 ghost use Rattle.std.specs.Prelude.{◌≡◌, length};
 ghost use Rattle.word.specs.Put.{put};
 ghost use Rattle.sheet.specs.Area.{area_of};

@@ -2,6 +2,8 @@
 // are those of reader/Questions; sample_rows/Ended has a law for each answer. Who asks has shown that the block lies in
 // the image: the check (`samples`), or the trace's own rows (`quick_samples`). Stands on `sample_rows`, `patterns`.
 // The rules in words: docs/FORMAT.md, "Samples".
+#![tactic(auto)]
+
 ghost use Rattle.std.specs.Prelude.{◌≡◌, ◌≤◌, length};
 ghost use Rattle.reader.specs.Questions.{of_bits, bits_verdict, patterns_in};
 ghost use Rattle.reader.specs.Questions.{classes_in, kept};

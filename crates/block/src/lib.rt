@@ -2,6 +2,8 @@
 // Block has the definitions, BlockLaws what a trace that passes the rows has. Stands on `limits`, `word`, `refusal`.
 // f is the image, b the first 32 bytes of a block; `high` is the byte order, k the trace, p its pointer.
 // The rules in words: docs/FORMAT.md, "The trace block".
+#![tactic(auto)]
+
 ghost use Rattle.std.specs.Prelude.{◌≡◌, ◌+◌, ◌*◌, ◌≤◌, ◌<◌, length};
 ghost use Rattle.block.specs.Block.{bad_trace, pointer_of, pointer_row, block_in, block_answer, trace_block_of};
 
@@ -9,7 +11,7 @@ use refusal::{Part, Refusal, Rule, Verdict};
 
 // Where the block stands, its size B, the data's size D, the sample count S and the format code. The strings stand from
 // p+32 to p+B, the data from p+B on.
-#[derive(Drop)]
+#[derive(Clone, Copy)]
 pub struct TraceBlock {
     pub p: usize,
     pub b: usize,
@@ -18,7 +20,7 @@ pub struct TraceBlock {
     pub code: u8,
 }
 
-#[derive(Drop)]
+#[derive(Clone, Copy)]
 pub enum TraceAnswer {
     Is(TraceBlock),
     Refused(Refusal),

@@ -1,6 +1,8 @@
 // The questions for a block: that of the file, and that of a trace (document 01, "File block", "Trace block", row 18). The definitions are
 // reader/Questions. Every question checks the whole file first. Stands on `reader`, `image`, `block`.
 // The rules in words: docs/FORMAT.md, "The file block", "The trace block".
+#![tactic(auto)]
+
 ghost use Rattle.std.specs.Prelude.{◌≡◌};
 ghost use Rattle.reader.specs.Questions.{file_answer, trace_answer};
 

@@ -1,6 +1,8 @@
 // What `seg2` exports on blocks, under Rattle's own name: the check, the file block, a trace's block, how many strings a part
 // has. Each answer crosses as `face` hands it over. Stands on `image`, `reader`.
 // The rules in words: docs/FORMAT.md, "Refusal numbers, in order of checking".
+#![tactic(auto)]
+
 ghost use Rattle.std.specs.Prelude.{◌≡◌};
 ghost use Rattle.text.specs.declared.Manner.TheVariants.{Strict};
 ghost use Rattle.head_limits.specs.declared.Purpose.TheVariants.{Read};

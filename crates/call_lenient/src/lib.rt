@@ -2,6 +2,8 @@
 // block, a trace's block, how many strings a part has. Each is the question in the lenient manner, and beside it the
 // strict check. Each answer crosses as `face_lenient` hands it over. Stands on `strict_check`, `image`, `reader`.
 // The rules in words: docs/FORMAT.md, "Older recorders: a lenient reading".
+#![tactic(auto)]
+
 ghost use Rattle.std.specs.Prelude.{◌≡◌};
 ghost use Rattle.text.specs.declared.Manner.TheVariants.{Strict, Lenient};
 ghost use Rattle.head_limits.specs.declared.Purpose.TheVariants.{Read};

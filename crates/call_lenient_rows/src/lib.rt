@@ -3,6 +3,8 @@
 // Each answer crosses as `face_lenient` hands it over. Stands on `strict_check`,
 // `string_rows`, `samples`.
 // The rules in words: docs/FORMAT.md, "Older recorders: a lenient reading".
+#![tactic(auto)]
+
 ghost use Rattle.std.specs.Prelude.{◌≡◌, length};
 ghost use Rattle.text.specs.declared.Manner.TheVariants.{Strict, Lenient};
 ghost use Rattle.head_limits.specs.declared.Purpose.TheVariants.{Read};

@@ -1,6 +1,8 @@
 // What `seg2` exports on a number by itself, read and written, under Rattle's own name. Each answer crosses as `face` and
 // `face_values` hand it over. Stands on `decimal`, `numeral`.
 // The rules in words: docs/FORMAT.md, "Refusal numbers, in order of checking".
+#![tactic(auto)]
+
 ghost use Rattle.std.specs.Prelude.{◌≡◌, length};
 ghost use Rattle.decimal.specs.Number.{number_in};
 ghost use Rattle.numeral.specs.Numeral.{numeral_answer, numeral_left};

@@ -2,6 +2,8 @@
 // whether a keyword is there, its value. Each answer crosses as `face` and `face_values` hand it over. Stands on `quick`,
 // `quick_strings`, `one_trace`.
 // The rules in words: docs/FORMAT.md, "One trace, quickly".
+#![tactic(auto)]
+
 ghost use Rattle.std.specs.Prelude.{◌≡◌};
 ghost use Rattle.one_trace.specs.Alone.{block_alone};
 ghost use Rattle.quick.specs.Quick.{quick_count, quick_nth, quick_find, quick_keyword};

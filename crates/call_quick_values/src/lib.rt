@@ -1,6 +1,8 @@
 // What `seg2` exports on the numbers in a trace's values, quickly, under Rattle's own name. Each answer crosses as
 // `face_values` hands it over. Stands on `quick_values`.
 // The rules in words: docs/FORMAT.md, "One trace, quickly".
+#![tactic(auto)]
+
 ghost use Rattle.std.specs.Prelude.{◌≡◌};
 ghost use Rattle.quick.specs.Quick.{quick_number, quick_double, quick_location};
 ghost use Rattle.face_values.specs.FaceValues.{as_number, as_double, as_location};

@@ -2,6 +2,8 @@
 // its strings and its samples. Each answer crosses as `face` hands it over. Stands on `string_rows`, `quick_strings`,
 // `quick_samples`.
 // The rules in words: docs/FORMAT.md, "Strings" and "One trace, quickly".
+#![tactic(auto)]
+
 ghost use Rattle.std.specs.Prelude.{◌≡◌, length};
 ghost use Rattle.text.specs.declared.Manner.TheVariants.{Strict};
 ghost use Rattle.reader.specs.Questions.{strings_answer, strings_left};

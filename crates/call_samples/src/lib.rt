@@ -1,5 +1,7 @@
 // What `seg2` exports on samples, under Rattle's own name. Each answer crosses as `face` hands it over. Stands on `samples`.
 // The rules in words: docs/FORMAT.md, "Refusal numbers, in order of checking".
+#![tactic(auto)]
+
 ghost use Rattle.std.specs.Prelude.{◌≡◌, length};
 ghost use Rattle.text.specs.declared.Manner.TheVariants.{Strict};
 ghost use Rattle.reader.specs.Questions.{integers_answer, integers_left};

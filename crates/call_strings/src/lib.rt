@@ -1,6 +1,8 @@
 // What `seg2` exports on strings, under Rattle's own name: the i-th, whether a keyword is there, its value. Each answer
 // crosses as `face_values` hands it over. Stands on `reader`.
 // The rules in words: docs/FORMAT.md, "Refusal numbers, in order of checking".
+#![tactic(auto)]
+
 ghost use Rattle.std.specs.Prelude.{◌≡◌};
 ghost use Rattle.text.specs.declared.Manner.TheVariants.{Strict};
 ghost use Rattle.reader.specs.Questions.{nth_answer, find_answer, keyword_answer};

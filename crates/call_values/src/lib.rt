@@ -1,6 +1,8 @@
 // What `seg2` exports on the numbers in values, under Rattle's own name. Each answer crosses as `face_values` hands it over.
 // Stands on `values`.
 // The rules in words: docs/FORMAT.md, "Refusal numbers, in order of checking".
+#![tactic(auto)]
+
 ghost use Rattle.std.specs.Prelude.{◌≡◌};
 ghost use Rattle.text.specs.declared.Manner.TheVariants.{Strict};
 ghost use Rattle.reader.specs.Questions.{number_answer, double_answer, location_answer};

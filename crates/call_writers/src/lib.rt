@@ -1,6 +1,8 @@
 // What `seg2` exports of the writers, under Rattle's own name. Each answer crosses as `face` hands it over. Stands on `start`,
 // `writer`.
 // The rules in words: docs/FORMAT.md, "Refusal numbers, in order of checking".
+#![tactic(auto)]
+
 ghost use Rattle.std.specs.Prelude.{◌≡◌};
 ghost use Rattle.layout.specs.Layout.{integers_trace, patterns_trace};
 ghost use Rattle.start.specs.Start.{start_answer, start_needs, start_left};

@@ -2,6 +2,8 @@
 // the rule that all traces of a file have one or none. Count has the count in two views, Channel the rule. Stands on
 // `decimal`, `digits`, `chars`.
 // The rules in words: docs/FORMAT.md, "Channel numbers".
+#![tactic(auto)]
+
 ghost use Rattle.std.specs.Prelude.{◌≡◌};
 ghost use Rattle.channel.specs.Count.{count_in};
 ghost use Rattle.channel.specs.Channel.{bad_channel};

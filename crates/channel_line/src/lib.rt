@@ -1,6 +1,8 @@
 // The line CHANNEL_NUMBER of a sheet (document 02, §7). ChannelLine has the definitions, Finding the walk to the line.
 // Stands on `sheet`, `sheet_line`, `key_chars`, and on `channel` for the keyword.
 // The rules in words: docs/FORMAT.md, "Channel numbers".
+#![tactic(auto)]
+
 ghost use Rattle.std.specs.Prelude.{◌≡◌, length, ltb};
 ghost use Rattle.chars.specs.Runs.{same};
 ghost use Rattle.sheet_line.specs.SheetLine.{line_key, line_value};

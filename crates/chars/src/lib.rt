@@ -2,13 +2,15 @@
 // number and a line of a sheet have. Chars and Runs have the definitions. Stands on `word` and `refusal`, for laws
 // alone.
 // The rules in words: docs/FORMAT.md, "Strings".
+#![tactic(auto)]
+
 ghost use Rattle.std.specs.Prelude.{◌≡◌, ◌≤◌, length};
 ghost use Rattle.chars.specs.Chars.{value_char, is_of};
 ghost use Rattle.chars.specs.Runs.{run, all, same};
 
 // What a run is made of: blanks (spaces and tabs), what is no blank, digits, the characters that nearly all keywords
 // have (33 to 96), what stands before the end of a sheet's line, the codes from 32 to 126, a value's characters.
-#[derive(Drop)]
+#[derive(Clone, Copy)]
 pub enum Kind {
     Blank,
     Solid,

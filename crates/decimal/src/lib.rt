@@ -3,6 +3,8 @@
 // Marks what is never a number. Stands on `decimal_parts`, `front_bytes`, `digits`, `chars`,
 // `word`, `refusal`.
 // The rules in words: docs/FORMAT.md, "Numbers in values".
+#![tactic(auto)]
+
 ghost use Rattle.std.specs.Prelude.{◌≡◌};
 ghost use Rattle.decimal.specs.Number.{no_number, tail_of, number_in};
 

@@ -2,6 +2,8 @@
 // (document 01, "Numbers in values", row 21). Grammar has the parts and the text that they write, Answer the answer.
 // Stands on `decimal_power`, `front_bytes`, `digits`, `chars`, `word`, `refusal`.
 // The rules in words: docs/FORMAT.md, "Numbers in values".
+#![tactic(auto)]
+
 ghost use Rattle.std.specs.Prelude.{◌≡◌, ◌+◌, ◌≤◌, length};
 ghost use Rattle.decimal_parts.specs.Answer.{parts_are, decimal_of, too_long, judged};
 
@@ -10,7 +12,7 @@ use refusal::{Refusal, Rule};
 // The answer to the number question: sign, coefficient as written and power of ten; zero has sign plus; and how many
 // digits stood after the point (document 02 §4). (It is no `Number`: a struct and a function of one module may not
 // differ only in the case of their letters.)
-#[derive(Drop)]
+#[derive(Clone, Copy)]
 pub struct Decimal {
     pub minus: bool,
     pub coefficient: u64,
@@ -18,7 +20,7 @@ pub struct Decimal {
     pub decimals: u32,
 }
 
-#[derive(Drop)]
+#[derive(Clone, Copy)]
 pub enum NumberAnswer {
     Is(Decimal),
     Refused(Refusal),

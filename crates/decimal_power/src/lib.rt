@@ -1,6 +1,8 @@
 // The power of ten of a number (document 01, "Numbers in values"): that behind E, lowered by the digits behind the point.
 // Power has the definitions. Stands on `word`.
 // The rules in words: docs/FORMAT.md, "Numbers in values".
+#![tactic(auto)]
+
 ghost use Rattle.std.specs.Prelude.{◌≡◌, ◌<◌};
 ghost use Rattle.decimal_power.specs.Power.{signed, power_of};
 

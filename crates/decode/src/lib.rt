@@ -1,6 +1,8 @@
 // Codes 1 to 3 read, on a data block alone (document 01, "Samples"): integers. Sample has the definitions, of codes 4
 // and 5 too. `high` says that the high byte comes first. Stands on `sample_bits`, `sample`, `word`.
 // The rules in words: docs/FORMAT.md, "Samples".
+#![tactic(auto)]
+
 ghost use Rattle.std.specs.Prelude.{◌≡◌, true, false, ◌+◌, ◌*◌, ◌/◌, ◌%◌, ◌≤◌, ◌<◌, length};
 ghost use Rattle.word.specs.Put.{put};
 ghost use Rattle.word.specs.Word.{word_at};

@@ -2,6 +2,8 @@
 // LastDigits have the definitions, and the laws that say that a number that was written means itself. Stands on
 // `chars`, `word`.
 // The rules in words: docs/FORMAT.md, "Numbers in values".
+#![tactic(auto)]
+
 ghost use Rattle.std.specs.Prelude.{◌≡◌, ◌≤◌, ◌<◌, length};
 ghost use Rattle.word.specs.Wrote as piece;
 ghost use Rattle.digits.specs.Value.{worth, value, Room};

@@ -1,6 +1,8 @@
 // A number as a double, rounded once (document 01, "As a double", row 22). Double has the definitions, Rounded the
 // proof that a double is the decimal value rounded once. Stands on `decimal`, `word`, `refusal`.
 // The rules in words: docs/FORMAT.md, "Numbers in values".
+#![tactic(auto)]
+
 ghost use Rattle.std.specs.Prelude.{◌≡◌, ◌^◌, ◌<◌, pos};
 ghost use Rattle.std.specs.Int.Signed.{lt_z};
 ghost use Rattle.double.specs.Double.{exact, scaled_of, with_sign, no_double, double_from, refusal_of, double_of};
@@ -9,7 +11,7 @@ use decimal_parts::{Decimal, NumberAnswer};
 use refusal::{Part, Refusal, Rule};
 
 // The double nearest to a number within the double case.
-#[derive(Drop)]
+#[derive(Clone, Copy)]
 pub enum DoubleAnswer {
     Is(f64),
     Refused(Refusal),

@@ -2,6 +2,8 @@
 // Cut say what is read back: the samples, or code 3's nearest towards 0. Stands on `row20`, `group20`, `float20`,
 // `fit`, `decode`, `sample`, `store`, `word`.
 // The rules in words: docs/FORMAT.md, "Samples".
+#![tactic(auto)]
+
 ghost use Rattle.std.specs.Prelude.{◌≡◌, ◌+◌, ◌%◌, ◌≤◌, length};
 ghost use Rattle.word.specs.Put.{put};
 ghost use Rattle.word.specs.Word.{bytes_of};

@@ -1,6 +1,8 @@
 // The samples of an addition (document 01, rows 28 and 29), by their kind: integers for codes 1 to 3, bit patterns for 4
 // and 5. Entry has the definitions. Stands on `fit`, and on `layout` for what samples are.
 // The rules in words: docs/FORMAT.md, "What we write".
+#![tactic(auto)]
+
 ghost use Rattle.std.specs.Prelude.{◌≡◌};
 ghost use Rattle.decode.specs.Sample.{integers_asked, bits_asked};
 ghost use Rattle.layout.specs.Layout.{integers, patterns};

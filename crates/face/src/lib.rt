@@ -4,6 +4,8 @@
 // structs, with the same fields in the same order, to which a host test holds both.
 // Stands on `reader` and what it stands on.
 // The rules in words: docs/FORMAT.md, "Refusal numbers, in order of checking".
+#![tactic(auto)]
+
 ghost use Rattle.std.specs.Prelude.{◌≡◌};
 ghost use Rattle.face.specs.Face.{flag, as_verdict, as_file, as_trace, as_count, as_length};
 
@@ -13,7 +15,7 @@ use reader::CountAnswer;
 use refusal::{Verdict, Written};
 
 #[repr(C)]
-#[derive(Drop)]
+#[derive(Clone, Copy)]
 pub struct Seg2Verdict {
     pub number: u32,
     pub part: i32,
@@ -23,7 +25,7 @@ pub struct Seg2Verdict {
 // The byte order (0 low first, 1 high first), M, N, and the lengths of the string and the line terminator, whose
 // characters stand in bytes 9 and 12 on.
 #[repr(C)]
-#[derive(Drop)]
+#[derive(Clone, Copy)]
 pub struct Seg2File {
     pub number: u32,
     pub part: i32,
@@ -37,7 +39,7 @@ pub struct Seg2File {
 
 // Where the block starts, B, D, S and the format code.
 #[repr(C)]
-#[derive(Drop)]
+#[derive(Clone, Copy)]
 pub struct Seg2Trace {
     pub number: u32,
     pub part: i32,
@@ -50,7 +52,7 @@ pub struct Seg2Trace {
 }
 
 #[repr(C)]
-#[derive(Drop)]
+#[derive(Clone, Copy)]
 pub struct Seg2Count {
     pub number: u32,
     pub part: i32,
@@ -60,7 +62,7 @@ pub struct Seg2Count {
 
 // The image's new length, or the length of the text that a number was written as.
 #[repr(C)]
-#[derive(Drop)]
+#[derive(Clone, Copy)]
 pub struct Seg2Length {
     pub number: u32,
     pub part: i32,

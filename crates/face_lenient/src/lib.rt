@@ -3,6 +3,8 @@
 // strict refusal beside its own answer". FaceLenient has the definitions; include/seg2.h declares the structs.
 // Stands on `face` and `face_values`.
 // The rules in words: docs/FORMAT.md, "Older recorders: a lenient reading".
+#![tactic(auto)]
+
 ghost use Rattle.std.specs.Prelude.{◌≡◌};
 ghost use Rattle.face_lenient.specs.FaceLenient.{lenient_verdict, lenient_file, lenient_trace, lenient_count};
 ghost use Rattle.face_lenient.specs.FaceLenient.{lenient_string, lenient_keyword, lenient_value, lenient_number};
@@ -19,70 +21,70 @@ use reader::{CountAnswer, KeywordAnswer, StringAnswer};
 use refusal::Verdict;
 
 #[repr(C)]
-#[derive(Drop)]
+#[derive(Clone, Copy)]
 pub struct Seg2LenientVerdict {
     pub answer: Seg2Verdict,
     pub strict: Seg2Verdict,
 }
 
 #[repr(C)]
-#[derive(Drop)]
+#[derive(Clone, Copy)]
 pub struct Seg2LenientFile {
     pub answer: Seg2File,
     pub strict: Seg2Verdict,
 }
 
 #[repr(C)]
-#[derive(Drop)]
+#[derive(Clone, Copy)]
 pub struct Seg2LenientTrace {
     pub answer: Seg2Trace,
     pub strict: Seg2Verdict,
 }
 
 #[repr(C)]
-#[derive(Drop)]
+#[derive(Clone, Copy)]
 pub struct Seg2LenientCount {
     pub answer: Seg2Count,
     pub strict: Seg2Verdict,
 }
 
 #[repr(C)]
-#[derive(Drop)]
+#[derive(Clone, Copy)]
 pub struct Seg2LenientString {
     pub answer: Seg2String,
     pub strict: Seg2Verdict,
 }
 
 #[repr(C)]
-#[derive(Drop)]
+#[derive(Clone, Copy)]
 pub struct Seg2LenientKeyword {
     pub answer: Seg2Keyword,
     pub strict: Seg2Verdict,
 }
 
 #[repr(C)]
-#[derive(Drop)]
+#[derive(Clone, Copy)]
 pub struct Seg2LenientValue {
     pub answer: Seg2Value,
     pub strict: Seg2Verdict,
 }
 
 #[repr(C)]
-#[derive(Drop)]
+#[derive(Clone, Copy)]
 pub struct Seg2LenientNumber {
     pub answer: Seg2Number,
     pub strict: Seg2Verdict,
 }
 
 #[repr(C)]
-#[derive(Drop)]
+#[derive(Clone, Copy)]
 pub struct Seg2LenientDouble {
     pub answer: Seg2Double,
     pub strict: Seg2Verdict,
 }
 
 #[repr(C)]
-#[derive(Drop)]
+#[derive(Clone, Copy)]
 pub struct Seg2LenientLocation {
     pub answer: Seg2Location,
     pub strict: Seg2Verdict,

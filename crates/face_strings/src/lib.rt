@@ -2,6 +2,8 @@
 // `face_values`, the definitions face_values/FaceValues, beside those of numbers. Stands on `face_values`, `face`,
 // `reader`.
 // The rules in words: docs/FORMAT.md, "Refusal numbers, in order of checking".
+#![tactic(auto)]
+
 ghost use Rattle.std.specs.Prelude.{◌≡◌, ◌-◌};
 ghost use Rattle.face_values.specs.FaceValues.{as_string, as_keyword, as_value};
 

@@ -3,6 +3,8 @@
 // too; include/seg2.h declares the structs, with the same fields in the same order, to which a host test holds both.
 // Stands on `face`, `reader`, `location`, `double` and what they stand on.
 // The rules in words: docs/FORMAT.md, "Refusal numbers, in order of checking".
+#![tactic(auto)]
+
 ghost use Rattle.std.specs.Prelude.{◌≡◌};
 ghost use Rattle.face_values.specs.FaceValues.{as_number, as_double, as_location};
 ghost use Rattle.face_values.specs.FaceValues.{as_given};
@@ -14,7 +16,7 @@ use refusal::Verdict;
 
 // Whether there is such a string; start and length of its keyword and of its value in the caller's own buffer.
 #[repr(C)]
-#[derive(Drop)]
+#[derive(Clone, Copy)]
 pub struct Seg2String {
     pub number: u32,
     pub part: i32,
@@ -27,7 +29,7 @@ pub struct Seg2String {
 }
 
 #[repr(C)]
-#[derive(Drop)]
+#[derive(Clone, Copy)]
 pub struct Seg2Keyword {
     pub number: u32,
     pub part: i32,
@@ -37,7 +39,7 @@ pub struct Seg2Keyword {
 
 // Start and length of the value in the caller's own buffer; both 0 for a no or a refusal.
 #[repr(C)]
-#[derive(Drop)]
+#[derive(Clone, Copy)]
 pub struct Seg2Value {
     pub number: u32,
     pub part: i32,
@@ -48,7 +50,7 @@ pub struct Seg2Value {
 
 // Sign (1: minus), coefficient as written, power of ten, and how many digits stood after the point.
 #[repr(C)]
-#[derive(Drop)]
+#[derive(Clone, Copy)]
 pub struct Seg2Number {
     pub number: u32,
     pub part: i32,
@@ -60,7 +62,7 @@ pub struct Seg2Number {
 }
 
 #[repr(C)]
-#[derive(Drop)]
+#[derive(Clone, Copy)]
 pub struct Seg2Double {
     pub number: u32,
     pub part: i32,
@@ -70,7 +72,7 @@ pub struct Seg2Double {
 
 // How many values there were, the values, and of each how many digits stood after its point; absent ones are 0.
 #[repr(C)]
-#[derive(Drop)]
+#[derive(Clone, Copy)]
 pub struct Seg2Location {
     pub number: u32,
     pub part: i32,

@@ -1,6 +1,8 @@
 // Row 1 (document 01): the length that is given beside a buffer. FileLength has the definition and its laws. Stands on
 // `head` for the maximum, and on `word` for laws alone.
 // The rules in words: docs/FORMAT.md, "Refusal numbers, in order of checking".
+#![tactic(auto)]
+
 ghost use Rattle.std.specs.Prelude.{◌≡◌};
 ghost use Rattle.file_length.specs.FileLength.{bad_length};
 

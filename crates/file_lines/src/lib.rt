@@ -2,6 +2,8 @@
 // "Worked values"): the file's own, then each trace's. FileLines has the definitions. Stands on `string_lines`, `image`
 // and what they stand on.
 // The rules in words: docs/FORMAT.md, "Worked values".
+#![tactic(auto)]
+
 ghost use Rattle.std.specs.Prelude.{◌≡◌, ◌≤◌, ◌<◌, length};
 ghost use Rattle.word.specs.Wrote.{Room, Wrote};
 ghost use Rattle.refusal.specs.declared.Verdict.TheVariants.{Accepted};

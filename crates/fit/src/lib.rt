@@ -1,11 +1,13 @@
 // Which samples a code can hold (document 01, refusal 29): the first of a row that it cannot. Unfit has the definitions.
 // Stands on `sample`, `word`.
 // The rules in words: docs/FORMAT.md, "Samples".
+#![tactic(auto)]
+
 ghost use Rattle.std.specs.Prelude.{◌≡◌};
 ghost use Rattle.fit.specs.Unfit.{first_from, any, outside, unfit_integers, unfit_pattern, unfit_patterns};
 
 // Whether a row can be written: all of it, or the place of the first sample that the code cannot hold (refusal 29).
-#[derive(Drop)]
+#[derive(Clone, Copy)]
 pub enum Fit {
     All,
     At(usize),

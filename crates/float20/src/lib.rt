@@ -1,6 +1,8 @@
 // A sample of code 3, on numbers alone: its exponent and its mantissa, and the exponents of four in one word (document
 // 01, "Samples"). Float20 has the definitions. Stands on `word`.
 // The rules in words: docs/FORMAT.md, "Samples".
+#![tactic(auto)]
+
 ghost use Rattle.std.specs.Prelude.{◌≡◌, ◌+◌, ◌*◌, ◌<◌, nat_abs};
 ghost use Rattle.float20.specs.Float20Laws.{Told, Coded};
 
@@ -14,7 +16,7 @@ fn exponent(n: u32) -> u32
 }
 
 // A sample of code 3, as it is written.
-#[derive(Drop)]
+#[derive(Clone, Copy)]
 pub struct Float20 {
     pub exponent: u32,
     pub mantissa: u16,

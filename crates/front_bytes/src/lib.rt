@@ -1,5 +1,7 @@
 // What stands at the front of a text: its first bytes, and what is behind them; one byte, and what is behind it. Run has
 // the runs of a kind, with what is behind them, OneByte the one byte. Stands on `chars`, `word`, `refusal`.
+#![tactic(auto)]
+
 ghost use Rattle.std.specs.Prelude.{◌≡◌, take, drop};
 ghost use Rattle.word.specs.Part.{PartOf, RestOf};
 ghost use Rattle.front_bytes.specs.OneByte.{has, past};

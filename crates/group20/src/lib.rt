@@ -2,6 +2,8 @@
 // the definitions, GroupLaws the laws. `put_word4` stores the samples of 4 bytes as well. Stands on `float20`, `fit`,
 // `sample`, `store`, `word`.
 // The rules in words: docs/FORMAT.md, "Samples".
+#![tactic(auto)]
+
 ghost use Rattle.std.specs.Prelude.{◌≡◌, ◌++◌, ◌+◌, ◌*◌, ◌≤◌, ◌<◌, length};
 ghost use Rattle.word.specs.Put.{put};
 ghost use Rattle.word.specs.Word.{joined, bytes_of};
@@ -46,7 +48,7 @@ fn put_pair(part: &mut [u8], high: bool, at: usize, a: u32, b: u32)
 }
 
 // The words of a group: its exponents, and the mantissas of its four samples.
-#[derive(Drop)]
+#[derive(Clone, Copy)]
 pub struct Group {
     pub w: u32,
     pub a: u32,

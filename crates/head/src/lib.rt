@@ -3,6 +3,8 @@
 // `head_words`, `terminators`, `chars`, `word`, `refusal`. f is the image, the first `n` bytes of the lent buffer, or no
 // more than its first 32.
 // The rules in words: docs/FORMAT.md, "The file block".
+#![tactic(auto)]
+
 ghost use Rattle.std.specs.Prelude.{◌≡◌, ◌≤◌, length};
 ghost use Rattle.head.specs.Head.{refused, bad_file, head_answer, InWords};
 
@@ -13,7 +15,7 @@ use refusal::{Refusal, Rule, Verdict};
 // "A file is at most 67,108,864 bytes": `maximum` of the definitions.
 pub const MAXIMUM: usize = 67108864;
 
-#[derive(Drop)]
+#[derive(Clone, Copy)]
 pub enum FileAnswer {
     Is(FileBlock),
     Refused(Refusal),

@@ -1,11 +1,13 @@
 // The tests of rows 2, 4 and 5 of the file block: its first bytes, pointer room and count, each by itself (document 01,
 // "The file block"); and what a file is opened for, which row 5 asks. HeadLimits has the definitions. Stands on nothing.
 // The rules in words: docs/FORMAT.md, "The file block".
+#![tactic(auto)]
+
 ghost use Rattle.std.specs.Prelude.{◌≡◌, ◌≤◌, length};
 ghost use Rattle.head_limits.specs.HeadLimits.{known, may_be_empty, bad_room, bad_count};
 
 // What a file is opened for: to be read, or to be given a trace. An addition also takes an image with N=0.
-#[derive(Drop)]
+#[derive(Clone, Copy)]
 pub enum Purpose {
     Read,
     Grow,

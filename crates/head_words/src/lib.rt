@@ -1,12 +1,14 @@
 // The file block as its first 32 bytes say it: byte order, pointer room, count and the lengths of the two terminators
 // (document 01, "The file block"). HeadWords has the definitions. Stands on `word`.
 // The rules in words: docs/FORMAT.md, "The file block".
+#![tactic(auto)]
+
 ghost use Rattle.std.specs.Prelude.{◌≡◌, ◌≤◌, ◌<◌, length};
 ghost use Rattle.head_words.specs.HeadWords.{high_first, file_block_of};
 
 // The byte order, M, N, and the lengths of the string terminator (its characters stand from byte 9 on) and of the line
 // terminator (from 12 on).
-#[derive(Drop)]
+#[derive(Clone, Copy)]
 pub struct FileBlock {
     pub high: bool,
     pub m: usize,

@@ -4,6 +4,8 @@
 // image, the first `n` bytes of the lent buffer; t and u are its terminators, `how` is the manner of reading. Each part
 // of the check hands on what it read, and each string is read once.
 // The rules in words: docs/FORMAT.md, "Refusal numbers, in order of checking".
+#![tactic(auto)]
+
 ghost use Rattle.std.specs.Prelude.{◌≡◌, ◌+◌, ◌*◌, ◌≤◌, ◌<◌, length, take};
 ghost use Rattle.head.specs.Head.{head_answer, InWords};
 ghost use Rattle.trace.specs.Trace.{area_verdict};

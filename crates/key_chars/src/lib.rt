@@ -2,6 +2,8 @@
 // text/Manner `letter`, as all that a manner decides stands there. Stands on `text`, `letters`, `chars`, and on `word`
 // for laws alone.
 // The rules in words: docs/FORMAT.md, "Strings".
+#![tactic(auto)]
+
 ghost use Rattle.std.specs.Prelude.{◌≡◌, ◌≤◌, length};
 ghost use Rattle.chars.specs.Runs.{run};
 ghost use Rattle.text.specs.Manner.{letter};

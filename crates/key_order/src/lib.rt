@@ -1,6 +1,8 @@
 // The order of keywords (document 01, "Strings"; document 02, §1): byte order, NOTE behind all others, and the two that may
 // stand several times running. Definitions in Order. Stands on `chars`, and on `word` and `refusal` for laws alone.
 // The rules in words: docs/FORMAT.md, "Strings".
+#![tactic(auto)]
+
 ghost use Rattle.std.specs.Prelude.{◌≡◌};
 ghost use Rattle.chars.specs.Chars.{note};
 ghost use Rattle.chars.specs.Runs.{same};

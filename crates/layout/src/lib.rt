@@ -2,6 +2,8 @@
 // its strings and data, each stored where the caller lends it. Layout has the definitions, LayoutLaws what stands
 // where, Stores that the stores make them. Stands on `area`, `encode`, `block`, `head` and what they stand on.
 // The rules in words: docs/FORMAT.md, "What we write".
+#![tactic(auto)]
+
 ghost use Rattle.std.specs.Prelude.{◌≡◌, ◌+◌, ◌-◌, ◌*◌, ◌≤◌, ◌<◌, length};
 ghost use Rattle.word.specs.Put.{put};
 ghost use Rattle.sample.specs.Needed.{room};

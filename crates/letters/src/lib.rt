@@ -1,6 +1,8 @@
 // Keyword letters in upper case (document 02, §11: the lenient reading "takes lower-case keyword letters as upper
 // case"). Upper has the definitions. Stands on `chars`, and on `word` and `refusal` for laws alone.
 // The rules in words: docs/FORMAT.md, "Strings".
+#![tactic(auto)]
+
 ghost use Rattle.std.specs.Prelude.{◌≡◌};
 ghost use Rattle.chars.specs.Runs.{same};
 ghost use Rattle.letters.specs.Upper.{loose_char, upper, uppered};

@@ -1,6 +1,8 @@
 // What the numbers of a trace block may be (document 01, rows 8 and 10 to 13): the test of each row, on numbers alone.
 // Limits has the definitions. Stands on `sample`, as row 13 asks for the needed bytes of a code.
 // The rules in words: docs/FORMAT.md, "The trace block".
+#![tactic(auto)]
+
 ghost use Rattle.std.specs.Prelude.{◌≡◌, ◌<◌};
 ghost use Rattle.limits.specs.Limits.{bad_pointer, bad_block, bad_data, bad_code, bad_samples};
 

@@ -2,6 +2,8 @@
 // values"). Lines and Digits have the definitions, Wrote what a stored piece leaves. Stands on `text`, `word`,
 // `refusal`. A piece is stored from the place `at` on; its function answers the place behind it.
 // The rules in words: docs/FORMAT.md, "Worked values".
+#![tactic(auto)]
+
 ghost use Rattle.std.specs.Prelude.{◌≡◌, [], ◌∷◌, ◌+◌, ◌≤◌, length};
 ghost use Rattle.refusal.specs.Table.{number_of};
 ghost use Rattle.digits.specs.Digits.{digits};

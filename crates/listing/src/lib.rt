@@ -4,6 +4,8 @@
 // the strings are those that the file spells.
 // Stands on `file_lines`, `lines`, `image` and what they stand on.
 // The rules in words: docs/FORMAT.md, "Worked values".
+#![tactic(auto)]
+
 ghost use Rattle.std.specs.Prelude.{◌≡◌, ltb, length};
 ghost use Rattle.listing.specs.Listing.{room_for, list_answer, Within, list_left, program_answer, program_left};
 
@@ -12,7 +14,7 @@ use refusal::{Rule, Verdict};
 use text::Manner;
 
 // How many bytes the listing has; or that the row lent may be too short for it.
-#[derive(Drop)]
+#[derive(Clone, Copy)]
 pub enum Listed {
     To(usize),
     Full,

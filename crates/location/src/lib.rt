@@ -2,6 +2,8 @@
 // document 02 §4). Values and Location have the definitions, LocationMarks what never is a location; `location_text`
 // finds the values in a text. Stands on `double`, `decimal`, `chars`, `refusal`.
 // The rules in words: docs/FORMAT.md, "Numbers in values".
+#![tactic(auto)]
+
 ghost use Rattle.std.specs.Prelude.{◌≡◌};
 ghost use Rattle.double.specs.Double.{double_from};
 ghost use Rattle.location.specs.Location.{counted, coordinate_of, value_count, passed, one_of, three_of};
@@ -11,13 +13,13 @@ use double::DoubleAnswer;
 use refusal::{Part, Refusal, Rule};
 
 // A value of a location: its double, and how many digits stood after its point (document 02 §4).
-#[derive(Drop)]
+#[derive(Clone, Copy)]
 pub struct Coordinate {
     pub value: f64,
     pub decimals: u32,
 }
 
-#[derive(Drop)]
+#[derive(Clone, Copy)]
 pub enum CoordinateAnswer {
     Is(Coordinate),
     Refused(Refusal),
@@ -25,7 +27,7 @@ pub enum CoordinateAnswer {
 
 // A location: x alone or x, y and z, how many there were, and of each how many digits stood after its point; absent
 // ones are 0, and so are their counts.
-#[derive(Drop)]
+#[derive(Clone, Copy)]
 pub struct Coordinates {
     pub x: f64,
     pub y: f64,
@@ -36,7 +38,7 @@ pub struct Coordinates {
     pub z_decimals: u32,
 }
 
-#[derive(Drop)]
+#[derive(Clone, Copy)]
 pub enum LocationAnswer {
     Is(Coordinates),
     Refused(Refusal),

@@ -1,6 +1,8 @@
 // A location in its text (document 01, "Numbers in values", row 23; document 02, §4): the values that stand there, one
 // or three, and what they are. The definitions are location/Location. Stands on `location`, `chars`.
 // The rules in words: docs/FORMAT.md, "Numbers in values".
+#![tactic(auto)]
+
 ghost use Rattle.std.specs.Prelude.{◌≡◌, ◌≤◌, length};
 ghost use Rattle.chars.specs.Chars.{is_of};
 ghost use Rattle.location.specs.Location.{over};

@@ -2,6 +2,8 @@
 // in the lent file (document 01, "Strings"), in any manner of reading. The definitions are those of `strings`; Lists
 // has what a walk along the list needs. Stands on `string_entry`, `text`.
 // The rules in words: docs/FORMAT.md, "Strings".
+#![tactic(auto)]
+
 ghost use Rattle.std.specs.Prelude.{◌≡◌, ◌≤◌, length};
 ghost use Rattle.word.specs.Part.{part};
 ghost use Rattle.strings.specs.Strings.{places_of, nth_of, find_of};

@@ -2,6 +2,8 @@
 // the definitions, and the lines of a NOTE. u is the file's line terminator. Stands on `note_line`, `note_bytes`,
 // `text`, `chars`.
 // The rules in words: docs/FORMAT.md, "Strings".
+#![tactic(auto)]
+
 ghost use Rattle.std.specs.Prelude.{◌≡◌, ◌<◌, length};
 ghost use Rattle.text.specs.Manner.{named};
 ghost use Rattle.note.specs.Note.{lines, value_ok};

@@ -1,6 +1,8 @@
 // What a NOTE may hold where its line terminator is one byte, or two that differ (document 01, "Strings"): a byte, and
 // for two the byte before it, tells. NoteBytes has the definitions. Stands on `chars`.
 // The rules in words: docs/FORMAT.md, "Strings".
+#![tactic(auto)]
+
 ghost use Rattle.std.specs.Prelude.{◌≡◌, false};
 ghost use Rattle.chars.specs.Runs.{all};
 ghost use Rattle.note_bytes.specs.NoteBytes.{value_or, paired};

@@ -1,6 +1,8 @@
 // The first line of a NOTE's value (document 01, "Strings"): up to a whole line terminator. NoteLine has the
 // definitions. u is the file's line terminator. Stands on `chars`.
 // The rules in words: docs/FORMAT.md, "Strings".
+#![tactic(auto)]
+
 ghost use Rattle.std.specs.Prelude.{◌≡◌, ◌+◌, drop};
 ghost use Rattle.note_line.specs.NoteLine.{starts, line_len};
 

@@ -3,6 +3,8 @@
 // what the reader gave is written and reads back; Leading and Answers have the laws. Stands on `numeral_room`,
 // `numeral_text`, `decimal`, `digits`, `word`.
 // The rules in words: docs/FORMAT.md, "Numbers in values".
+#![tactic(auto)]
+
 ghost use Rattle.std.specs.Prelude.{◌≡◌, pos, nat_abs, length};
 ghost use Rattle.std.specs.Int.Signed.{lt_z};
 ghost use Rattle.numeral.specs.Numeral.{raised, numeral_answer, numeral_left};

@@ -1,6 +1,8 @@
 // The text of a number against the room that is lent (document 02 §4, row 30): measured, and stored where it fits.
 // Fitted has the definition, Sizes the laws. Stands on `numeral_text`, `digits`, `refusal`.
 // The rules in words: docs/FORMAT.md, "Numbers in values".
+#![tactic(auto)]
+
 ghost use Rattle.std.specs.Prelude.{◌≡◌, ◌+◌, ◌≤◌, length};
 ghost use Rattle.word.specs.Put.{put};
 ghost use Rattle.refusal.specs.Writing.{refuse, on_written};

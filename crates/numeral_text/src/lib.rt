@@ -1,13 +1,15 @@
 // The text of a number stored, with its own decimals (document 02 §4): sign, digits, point, power. NumeralText has the
 // definitions, Stored the laws. Stands on `digits`, `word`.
 // The rules in words: docs/FORMAT.md, "Numbers in values".
+#![tactic(auto)]
+
 ghost use Rattle.std.specs.Prelude.{◌≡◌, ◌^◌, ◌/◌};
 ghost use Rattle.word.specs.Wrote.{Room, Wrote};
 ghost use Rattle.digits.specs.LastDigits.{last_digits};
 ghost use Rattle.numeral_text.specs.NumeralText.{unless_zero, parts_with, sign_text, point_text, power_text, spelling};
 
 // The power behind E: whether it is below 0, and how far from 0.
-#[derive(Drop)]
+#[derive(Clone, Copy)]
 pub struct Raised {
     pub down: bool,
     pub far: u64,

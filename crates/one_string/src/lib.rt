@@ -4,6 +4,8 @@
 // slower and need more stack (docs/DECISIONS.md, "Document 02, §5"). Stands on `strings`, `note`, `text`. t is the
 // string terminator, u the line terminator, `high` the byte order.
 // The rules in words: docs/FORMAT.md, "Strings".
+#![tactic(auto)]
+
 ghost use Rattle.std.specs.Prelude.{◌≡◌, ◌<◌, length};
 ghost use Rattle.note.specs.Note.{value_ok};
 ghost use Rattle.strings.specs.Strings.{judged_of, step_of};

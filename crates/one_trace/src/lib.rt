@@ -3,6 +3,8 @@
 // document 01 for them: 1 to 7, 18, then 8 to 13, where 8 asks no more than that the pointer is not below the pointer
 // room's end. Alone has the definitions, AloneLaws a law for each answer. Stands on `reader`, `image`, `head`, `block`.
 // The rules in words: docs/FORMAT.md, "One trace, quickly".
+#![tactic(auto)]
+
 ghost use Rattle.std.specs.Prelude.{◌≡◌, ◌+◌, ◌*◌, ◌≤◌, ◌<◌, length};
 ghost use Rattle.one_trace.specs.Alone.{own_of, named_of, block_alone};
 

@@ -2,6 +2,8 @@
 // 34 and 35). Opening has the definitions, OpeningLaws what each row has shown. Stands on `image`, `lookup`, `sheet`,
 // `sheet_channel`.
 // The rules in words: docs/FORMAT.md, "What we write".
+#![tactic(auto)]
+
 ghost use Rattle.std.specs.Prelude.{◌≡◌, ◌<◌, eqb};
 ghost use Rattle.head_words.specs.HeadWords.{high_first, count_of};
 ghost use Rattle.sheet.specs.Area.{measured_of};

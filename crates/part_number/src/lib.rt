@@ -1,11 +1,13 @@
 // Whom a part number names among the traces of a file (document 01, "Strings", row 18). PartNumber has the definition.
 // Stands on `refusal` and `word` for laws alone.
 // The rules in words: docs/FORMAT.md, "Strings".
+#![tactic(auto)]
+
 ghost use Rattle.std.specs.Prelude.{◌≡◌};
 ghost use Rattle.part_number.specs.PartNumber.{whose_of};
 
 // Whom a part number names.
-#[derive(Drop)]
+#[derive(Clone, Copy)]
 pub enum Whose {
     Whole,
     One(u16),

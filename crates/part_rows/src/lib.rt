@@ -1,6 +1,8 @@
 // All strings of a part of a file in one row (document 01, "Strings"; document 02, §5). The definitions are
 // reader/Questions. The whole file is checked first. Stands on `string_rows`, `reader`, `lookup`.
 // The rules in words: docs/FORMAT.md, "Strings".
+#![tactic(auto)]
+
 ghost use Rattle.std.specs.Prelude.{◌≡◌, length};
 ghost use Rattle.reader.specs.Questions.{strings_answer, strings_left};
 

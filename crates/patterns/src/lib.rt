@@ -2,6 +2,8 @@
 // those of decode/Sample; Classes holds the classes against IEEE 754. `high` says that the high byte comes first.
 // Stands on `decode` for its definitions, `sample`, `word`.
 // The rules in words: docs/FORMAT.md, "Samples".
+#![tactic(auto)]
+
 ghost use Rattle.std.specs.Prelude.{◌≡◌, map, ◌≤◌, length};
 ghost use Rattle.sample.specs.Needed.{needed};
 ghost use Rattle.sample.specs.Run.{values_from};

@@ -3,6 +3,8 @@
 // `strings`. An area is the bytes of a file from place a to place e; t is the string terminator, `high` the byte order,
 // `how` the manner of reading.
 // The rules in words: docs/FORMAT.md, "Strings".
+#![tactic(auto)]
+
 ghost use Rattle.std.specs.Prelude.{◌≡◌, ◌+◌, ◌*◌, ◌≤◌, ◌<◌, length};
 ghost use Rattle.word.specs.Part.{part};
 ghost use Rattle.word.specs.Put.{put};

@@ -1,5 +1,7 @@
 // The listing, exported for a host's tests: the face does not show it. Nothing is asked of a caller, as nothing checks
 // a host's.
+#![tactic(auto)]
+
 ghost use Rattle.std.specs.Prelude.{◌≡◌, length};
 ghost use Rattle.listing.specs.Listing.{list_answer, list_left, program_answer, program_left};
 ghost use Rattle.probe.specs.Listed.{length_told};

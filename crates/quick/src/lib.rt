@@ -4,6 +4,8 @@
 // check accepts they answer as the full questions (`shortcut`). Quick has the definitions of all of them; here are the
 // walk along the strings, and the keyword's question. Stands on `one_trace`, `until`, `values`.
 // The rules in words: docs/FORMAT.md, "One trace, quickly".
+#![tactic(auto)]
+
 ghost use Rattle.std.specs.Prelude.{◌≡◌, true, ◌≤◌, length};
 ghost use Rattle.word.specs.Part.{part, PartOf};
 ghost use Rattle.terminators.specs.Terminators.{good_terminator};

@@ -1,6 +1,8 @@
 // All strings of one trace in one row, quickly (document 02, §5). Each string is judged before the row is filled. The
 // definitions are quick/Quick; Told has a law for each answer. Stands on `quick`, `one_trace`, `string_rows`.
 // The rules in words: docs/FORMAT.md, "One trace, quickly".
+#![tactic(auto)]
+
 ghost use Rattle.std.specs.Prelude.{◌≡◌, length};
 ghost use Rattle.quick.specs.Quick.{quick_strings, quick_strings_left};
 

@@ -2,6 +2,8 @@
 // block. No string is read. The definitions are quick/Quick; Told has a law for each answer. Stands on `one_trace`,
 // `sample_rows`.
 // The rules in words: docs/FORMAT.md, "One trace, quickly".
+#![tactic(auto)]
+
 ghost use Rattle.std.specs.Prelude.{◌≡◌, length};
 ghost use Rattle.quick.specs.Quick.{quick_integers, quick_integers_left, quick_bits, quick_patterns_left, quick_classes_left};
 

@@ -1,6 +1,8 @@
 // The strings of one trace, quickly (document 02, §5): how many there are, and the i-th. Each string that is come to is
 // judged; for the i-th none behind it is looked at. The definitions are quick/Quick. Stands on `quick`, `until`.
 // The rules in words: docs/FORMAT.md, "One trace, quickly".
+#![tactic(auto)]
+
 ghost use Rattle.std.specs.Prelude.{◌≡◌};
 ghost use Rattle.quick.specs.Quick.{counted_by, quick_nth, quick_count};
 

@@ -2,6 +2,8 @@
 // rows 20 to 23 of the value as of the full questions; an absent keyword has the empty value. Stands on `quick`,
 // `values`.
 // The rules in words: docs/FORMAT.md, "One trace, quickly".
+#![tactic(auto)]
+
 ghost use Rattle.std.specs.Prelude.{◌≡◌};
 ghost use Rattle.quick.specs.Quick.{quick_number, quick_double, quick_location};
 

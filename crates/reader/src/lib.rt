@@ -4,6 +4,8 @@
 // lent buffer. A part is -1 for the file, else the trace; `how` is the manner of reading. Stands on `part_number`,
 // `image`, and for the definitions on `places`, `location`, `double` and `decimal`.
 // The rules in words: docs/FORMAT.md, "Strings".
+#![tactic(auto)]
+
 ghost use Rattle.std.specs.Prelude.{◌≡◌, ◌≤◌, length};
 ghost use Rattle.refusal.specs.declared.Verdict.TheVariants.{Accepted};
 ghost use Rattle.head_limits.specs.declared.Purpose.TheVariants.{Read};
@@ -20,27 +22,27 @@ use strings::Place;
 use text::Manner;
 
 // The bytes that the strings of a part stand in.
-#[derive(Drop)]
+#[derive(Clone, Copy)]
 pub enum Area {
     Outside,
     From(usize, usize),
 }
 
-#[derive(Drop)]
+#[derive(Clone, Copy)]
 pub enum CountAnswer {
     Is(usize),
     Refused(Refusal),
 }
 
 // Where a string stands in the file; or that there is none; or the refusal.
-#[derive(Drop)]
+#[derive(Clone, Copy)]
 pub enum StringAnswer {
     There(Place),
     Absent,
     Refused(Refusal),
 }
 
-#[derive(Drop)]
+#[derive(Clone, Copy)]
 pub enum KeywordAnswer {
     Yes,
     No,
@@ -81,7 +83,7 @@ fn area_of(f: &[u8], part: i32, how: Manner) -> Area
 }
 
 // The check, then where the strings of a part stand; or the refusal of either.
-#[derive(Drop)]
+#[derive(Clone, Copy)]
 pub enum Opened {
     From(usize, usize),
     Bad(Refusal),

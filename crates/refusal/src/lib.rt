@@ -2,12 +2,14 @@
 // answers. Document 01, "Refusal numbers, in order of checking": Table has the numbers, Rows how the first row met
 // answers, Writing what is left of lent memory. Stands on nothing.
 // The rules in words: docs/FORMAT.md, "Refusal numbers, in order of checking".
+#![tactic(auto)]
+
 ghost use Rattle.std.specs.Prelude.{◌≡◌};
 ghost use Rattle.refusal.specs.Table.{number_of, Numbered, part_of, refusal};
 
 // The rules that an input can break, in the order of their numbers, which are those of `specs/Table.antt`: `number`
 // promises it. The words stand there.
-#[derive(Drop)]
+#[derive(Clone, Copy)]
 pub enum Rule {
     Length = 1,
     FirstBytes = 2,
@@ -47,21 +49,21 @@ pub enum Rule {
 }
 
 // Where a rule was broken: in the file's own block, or in a trace.
-#[derive(Drop)]
+#[derive(Clone, Copy)]
 pub enum Part {
     File,
     Trace(u16),
 }
 
 // The place is a byte position, or an index, in what the caller lent: as wide as any slice's length.
-#[derive(Drop)]
+#[derive(Clone, Copy)]
 pub struct Refusal {
     pub rule: Rule,
     pub part: Part,
     pub place: usize,
 }
 
-#[derive(Drop)]
+#[derive(Clone, Copy)]
 pub enum Verdict {
     Accepted,
     Refused(Refusal),
@@ -69,7 +71,7 @@ pub enum Verdict {
 
 // The length that a writing made (of the image after a start or an addition, of a number's text), or the refusal, which
 // has changed nothing.
-#[derive(Drop)]
+#[derive(Clone, Copy)]
 pub enum Written {
     To(usize),
     Refused(Refusal),

@@ -1,6 +1,8 @@
 // A row of samples in groups of code 3, on a data block alone (document 01, "Samples"). Row20 has the definition,
 // RowLaws the laws. Stands on `group20`, `fit`, `sample`, `word`.
 // The rules in words: docs/FORMAT.md, "Samples".
+#![tactic(auto)]
+
 ghost use Rattle.std.specs.Prelude.{◌≡◌, true, false, ◌+◌, ◌*◌, ◌/◌, ◌%◌, ◌≤◌, ◌<◌, length};
 ghost use Rattle.word.specs.Put.{put};
 ghost use Rattle.sample.specs.Needed.{room};

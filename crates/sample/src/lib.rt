@@ -1,6 +1,8 @@
 // What reading and writing samples share (document 01, "Samples"): how many bytes a count of samples takes, and a word
 // of 2, 4 or 8 bytes in either byte order, turned as a whole. Definitions in Needed, Run and Turned. Stands on `word`.
 // The rules in words: docs/FORMAT.md, "Samples".
+#![tactic(auto)]
+
 ghost use Rattle.std.specs.Prelude.{◌≡◌, ◌+◌, ◌≤◌, ◌<◌, length};
 ghost use Rattle.sample.specs.Needed.{needed, room};
 ghost use Rattle.sample.specs.Turned.{turned};

@@ -1,6 +1,8 @@
 // What the bits of an integer sample mean (document 01, "Samples"): two's complement of codes 1 and 2, exponent and
 // mantissa of code 3. SampleBits has the definitions, BitLaws the laws. Stands on `word`.
 // The rules in words: docs/FORMAT.md, "Samples".
+#![tactic(auto)]
+
 ghost use Rattle.std.specs.Prelude.{◌≡◌, ◌<◌};
 ghost use Rattle.sample_bits.specs.SampleBits.{twos, exponent_in, ones, scaled};
 

@@ -2,6 +2,8 @@
 // those of reader/Questions; Ended has a law for each answer, those of `bit_rows` too. Who asks has shown that the block
 // lies in the image: the check (`samples`), or the trace's own rows (`quick_samples`). Stands on `reader`, `decode`.
 // The rules in words: docs/FORMAT.md, "Samples".
+#![tactic(auto)]
+
 ghost use Rattle.std.specs.Prelude.{◌≡◌, ◌≤◌, length};
 ghost use Rattle.head.specs.Head.{refused};
 ghost use Rattle.reader.specs.Questions.{of_integers, integers_verdict, samples_in};

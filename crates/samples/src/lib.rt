@@ -2,6 +2,8 @@
 // whole file, row 18, then what `sample_rows` answers of the trace's block. The definitions are those of
 // reader/Questions; Samples has a law for each answer. Stands on `reader`, `sample_rows`.
 // The rules in words: docs/FORMAT.md, "Samples".
+#![tactic(auto)]
+
 ghost use Rattle.std.specs.Prelude.{◌≡◌, length};
 ghost use Rattle.reader.specs.Questions.{integers_answer, integers_left, bits_answer, patterns_left, classes_left};
 

@@ -2,6 +2,8 @@
 // (document 02, §7). Sought has the definitions, that of the check too, which is `strings_check`, and the laws of the
 // walk, for any keyword. Stands on `strings`, `text`, and on `channel` for the keyword.
 // The rules in words: docs/FORMAT.md, "Strings".
+#![tactic(auto)]
+
 ghost use Rattle.std.specs.Prelude.{◌≡◌, ◌≤◌, ◌<◌, length};
 ghost use Rattle.refusal.specs.Rows.{pick};
 ghost use Rattle.chars.specs.Runs.{same};
@@ -16,7 +18,7 @@ use text::Manner;
 
 // What the check of an area answers: the refusal, or whether it has a channel number, and where the value of the first
 // begins and ends in the file (0 and 0 where there is none).
-#[derive(Drop)]
+#[derive(Clone, Copy)]
 pub enum Checked {
     Refused(Refusal),
     Has(bool, usize, usize),

@@ -3,6 +3,8 @@
 // crates `call_*`, so that a wrong program is tried in a small crate. Strings are read in the strict manner, but for the
 // functions with `lenient` in their name.
 // The rules in words: docs/FORMAT.md, "Refusal numbers, in order of checking".
+#![tactic(auto)]
+
 ghost use Rattle.std.specs.Prelude.{◌≡◌, length};
 ghost use Rattle.text.specs.declared.Manner.TheVariants.{Strict, Lenient};
 ghost use Rattle.head_limits.specs.declared.Purpose.TheVariants.{Read};

@@ -1,6 +1,8 @@
 // The listing program: one file from standard input, its listing to standard output (document 01, the end of
 // "Worked values"). It reads one byte more than 65,536, so that row 19 is seen. The work is in `listing::program`.
 // The rules in words: docs/FORMAT.md, "Worked values".
+#![tactic(auto)]
+
 ghost use Rattle.std.specs.Prelude.{◌≡◌, length};
 
 use listing::Listed;

@@ -3,6 +3,8 @@
 // Stands on `sheet_line`, `strings`, `text`, `word`, `refusal`. A sheet is the bytes of its lines, each ended by 0Ah; t
 // is the file's string terminator, u its line terminator.
 // The rules in words: docs/FORMAT.md, "What we write".
+#![tactic(auto)]
+
 ghost use Rattle.std.specs.Prelude.{◌≡◌, ◌+◌, ◌≤◌};
 ghost use Rattle.sheet.specs.Area.{area_most, measured_of};
 ghost use Rattle.sheet.specs.Sizes.{line_cost, capped};
@@ -16,7 +18,7 @@ pub const AREA: usize = 65500;
 const OVER: usize = 65501;
 
 // What a sheet answers: the size of its area, or the refusal.
-#[derive(Drop)]
+#[derive(Clone, Copy)]
 pub enum Measured {
     Size(usize),
     Refused(Refusal),

@@ -1,6 +1,8 @@
 // The channel number of a sheet (document 02, §7): row 35 of an addition. SheetChannel has the definition, Told a law for
 // each answer, Meant that the line is the string that the sheet means. Stands on `channel_line`, `channel`.
 // The rules in words: docs/FORMAT.md, "Channel numbers".
+#![tactic(auto)]
+
 ghost use Rattle.std.specs.Prelude.{◌≡◌};
 ghost use Rattle.sheet_channel.specs.SheetChannel.{bad_sheet};
 

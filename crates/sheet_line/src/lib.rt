@@ -1,6 +1,8 @@
 // One line of a sheet, checked (document 01, "What we write", rows 25 and 26). SheetLine has the definitions, Judging
 // the laws. Stands on `strings`, `text`, `chars`, `refusal`. A sheet is the bytes of its lines, each ended by 0Ah.
 // The rules in words: docs/FORMAT.md, "What we write".
+#![tactic(auto)]
+
 ghost use Rattle.std.specs.Prelude.{◌≡◌, ◌≤◌, length};
 ghost use Rattle.sheet_line.specs.SheetLine.{line_len, spaced, continues, line_judged, line_step};
 
@@ -10,7 +12,7 @@ use strings::Judged;
 use text::Manner;
 
 // A step over one line: past it, with its length and its keyword's; or the refusal.
-#[derive(Drop)]
+#[derive(Clone, Copy)]
 pub enum Step {
     Next(usize, usize),
     Bad(Refusal),

@@ -2,6 +2,8 @@
 // joined. StringBytes has what each store leaves. Stands on `sheet`, `sheet_line`, `strings`, `store`, `store_bytes`,
 // `word`. part is the lent memory; t, u and `high` are the file's terminators and byte order.
 // The rules in words: docs/FORMAT.md, "What we write".
+#![tactic(auto)]
+
 ghost use Rattle.std.specs.Prelude.{◌≡◌, ◌++◌, ◌+◌, ◌≤◌, ◌<◌, length};
 ghost use Rattle.word.specs.Put.{put};
 ghost use Rattle.strings.specs.Spelled.{size_of};

@@ -2,3 +2,5 @@
 // answers as the full question. Read has which bytes are read; Strings and Same: two inputs of one length that are
 // alike on them get the same answer, refusals and places included. Stands on `quick`, and on `ignored` for laws.
 // The rules in words: docs/FORMAT.md, "One trace, quickly".
+#![tactic(auto)]
+

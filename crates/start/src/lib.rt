@@ -2,6 +2,8 @@
 // byte is written: a start is the question for its room, and then row 30. Start has the definitions, StartShown the second
 // view: a file is started exactly where no row is met. Stands on `layout`, `head`, `sheet`.
 // The rules in words: docs/FORMAT.md, "What we write".
+#![tactic(auto)]
+
 ghost use Rattle.std.specs.Prelude.{◌≡◌};
 ghost use Rattle.refusal.specs.Writing.{refuse};
 ghost use Rattle.start.specs.Start.{bad_start, start_answer, start_needs, start_left};

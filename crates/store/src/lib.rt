@@ -1,6 +1,8 @@
 // A whole number of 2 bytes in either order, stored in a lent slice at a place. `high` says that the high byte comes
 // first. The definitions are those of `word`: Put and Word. Stands on `word`.
 // The rules in words: docs/FORMAT.md, "The file block".
+#![tactic(auto)]
+
 ghost use Rattle.std.specs.Prelude.{◌≡◌, ◌+◌, ◌≤◌, length};
 ghost use Rattle.word.specs.Put.{put};
 ghost use Rattle.word.specs.Word.{bytes_of};

@@ -1,5 +1,7 @@
 // Bytes stored in a lent slice, from a place on: those of another slice, zeros. The definitions are those of `word`: Put
 // and Wrote. Stands on `word`.
+#![tactic(auto)]
+
 ghost use Rattle.std.specs.Prelude.{◌≡◌, ◌+◌, ◌-◌, ◌≤◌, length, replicate};
 ghost use Rattle.word.specs.Put.{put};
 ghost use Rattle.word.specs.Wrote.{Room, Wrote};

@@ -1,6 +1,8 @@
 // Whole numbers of 4 and 8 bytes in either order, stored in a lent slice at a place, by halves. `high` says that the high
 // byte comes first. The definitions are those of `word`: Put and Word. Stands on `store`, `word`.
 // The rules in words: docs/FORMAT.md, "The trace block".
+#![tactic(auto)]
+
 ghost use Rattle.std.specs.Prelude.{◌≡◌, ◌+◌, ◌≤◌, length};
 ghost use Rattle.word.specs.Put.{put};
 ghost use Rattle.word.specs.Word.{bytes_of};

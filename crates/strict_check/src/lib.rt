@@ -1,6 +1,8 @@
 // The strict check's own verdict, which the lenient reading tells beside every answer (document 02, §11). Stands on
 // `image`.
 // The rules in words: docs/FORMAT.md, "Older recorders: a lenient reading".
+#![tactic(auto)]
+
 ghost use Rattle.std.specs.Prelude.{◌≡◌};
 ghost use Rattle.text.specs.declared.Manner.TheVariants.{Strict};
 ghost use Rattle.head_limits.specs.declared.Purpose.TheVariants.{Read};

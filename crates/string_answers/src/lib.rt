@@ -2,6 +2,8 @@
 // question checks the whole file first; its answer is one of the image, the first `n` bytes of the lent buffer. A part is
 // -1 for the file, else the trace; `how` is the manner of reading. Stands on `reader`, `lookup`.
 // The rules in words: docs/FORMAT.md, "Strings".
+#![tactic(auto)]
+
 ghost use Rattle.std.specs.Prelude.{◌≡◌};
 ghost use Rattle.reader.specs.Questions.{count_answer, nth_answer};
 ghost use Rattle.reader.specs.Questions.{find_answer, keyword_answer};

@@ -1,6 +1,8 @@
 // One string for a question: where its keyword, its separators and its value stand (document 01, "Strings"), in any
 // manner of reading. The definition is strings/Strings `entry_of`. Stands on `strings`, `chars`.
 // The rules in words: docs/FORMAT.md, "Strings".
+#![tactic(auto)]
+
 ghost use Rattle.std.specs.Prelude.{◌≡◌, ◌+◌, ◌<◌, length};
 ghost use Rattle.strings.specs.Strings.{entry_of};
 

@@ -2,6 +2,8 @@
 // "Worked values"): each line of a NOTE is one by itself. StringLines has the definitions. Stands on `lines`, `lookup`
 // and what they stand on.
 // The rules in words: docs/FORMAT.md, "Worked values".
+#![tactic(auto)]
+
 ghost use Rattle.std.specs.Prelude.{◌≤◌, ◌<◌, length};
 ghost use Rattle.word.specs.Part as parts;
 ghost use Rattle.word.specs.Wrote.{Room, Wrote};

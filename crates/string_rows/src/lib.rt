@@ -2,6 +2,8 @@
 // (document 01, "Strings"; row 32 where the row has another length). So a listing takes time by the bytes of the strings,
 // not by their square. The definitions are reader/Questions, Rows has a law for each answer. Stands on `places`.
 // The rules in words: docs/FORMAT.md, "Strings".
+#![tactic(auto)]
+
 ghost use Rattle.std.specs.Prelude.{◌≡◌, true, ◌≤◌, length};
 ghost use Rattle.terminators.specs.Terminators.{good_terminator};
 ghost use Rattle.head.specs.Head.{refused};

@@ -2,6 +2,8 @@
 // strings/Strings, as the second view speaks of all four rows. Stands on `strings` for rows 14 and 15, on `key_chars`,
 // `note` and `text` for 16 and 17.
 // The rules in words: docs/FORMAT.md, "Strings".
+#![tactic(auto)]
+
 ghost use Rattle.std.specs.Prelude.{◌≡◌, ◌<◌, length};
 ghost use Rattle.strings.specs.Strings.{judged_of, step_of};
 

@@ -4,6 +4,8 @@
 // turn of the loop. Stands on `until`, `one_string`. An area is the bytes of a file from place a to place e; t is the
 // string terminator, u the line terminator, `high` the byte order.
 // The rules in words: docs/FORMAT.md, "One trace, quickly".
+#![tactic(auto)]
+
 ghost use Rattle.std.specs.Prelude.{◌≡◌, ◌≤◌, ◌<◌, length};
 ghost use Rattle.word.specs.Part.{part};
 ghost use Rattle.until.specs.Until.{look_of, walk_of};

@@ -5,6 +5,8 @@
 // bytes of a file from place a to place e; t is the string terminator, u the line terminator, `high` the byte order,
 // `how` the manner of reading (text/Manner), which is a parameter of every walk and question here.
 // The rules in words: docs/FORMAT.md, "Strings".
+#![tactic(auto)]
+
 ghost use Rattle.std.specs.Prelude.{◌≡◌};
 ghost use Rattle.strings.specs.Strings.{cut, frame_of};
 
@@ -13,7 +15,7 @@ use text::Manner;
 
 // What an area has at a string's place: the end of the list, a string of so many bytes in all, or a frame that is
 // broken.
-#[derive(Drop)]
+#[derive(Clone, Copy)]
 pub enum Frame {
     End,
     Text(usize),
@@ -21,14 +23,14 @@ pub enum Frame {
 }
 
 // What stands between a string's offset and its terminator: a keyword of so many bytes and its value, or not.
-#[derive(Drop)]
+#[derive(Clone, Copy)]
 pub enum Judged {
     Keyword(usize),
     Wrong(Rule),
 }
 
 // A step of the check: past a string, with its size and its keyword's length; the end; or the refusal.
-#[derive(Drop)]
+#[derive(Clone, Copy)]
 pub enum Step {
     Next(usize, usize),
     Done,
@@ -37,7 +39,7 @@ pub enum Step {
 
 // Where a string stands in the file: the keyword from key to gap, the separators from gap to value, the value from
 // value to end.
-#[derive(Drop)]
+#[derive(Clone, Copy)]
 pub struct Place {
     pub key: usize,
     pub gap: usize,
@@ -46,13 +48,13 @@ pub struct Place {
 }
 
 // A step of a question: a string's place, with its size; or no string.
-#[derive(Drop)]
+#[derive(Clone, Copy)]
 pub enum Entry {
     Stop,
     At(Place, usize),
 }
 
-#[derive(Drop)]
+#[derive(Clone, Copy)]
 pub enum Found {
     Nothing,
     Is(Place),

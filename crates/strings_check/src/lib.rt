@@ -2,6 +2,8 @@
 // string is read twice for the rule that asks for it (document 02, §7). The definitions are seek/Sought, with the laws
 // of the walk. Stands on `seek`, `string_step`, and on `channel` for the keyword.
 // The rules in words: docs/FORMAT.md, "Strings".
+#![tactic(auto)]
+
 ghost use Rattle.std.specs.Prelude.{◌≡◌, ◌≤◌, ◌<◌, length};
 ghost use Rattle.channel.specs.Channel.{channel_number};
 ghost use Rattle.seek.specs.Sought.{checked_of};

@@ -2,6 +2,8 @@
 // Terminators has the definitions, TerminatorLaws what a good one is. Stands on `note`, `chars`, `word`. f is the
 // image, the first `n` bytes of the lent buffer, or no more than its first 32.
 // The rules in words: docs/FORMAT.md, "The file block".
+#![tactic(auto)]
+
 ghost use Rattle.std.specs.Prelude.{◌≡◌, true, ◌+◌, ◌≤◌, length};
 ghost use Rattle.word.specs.Part.{PartOf};
 ghost use Rattle.chars.specs.Chars.{control};

@@ -2,6 +2,8 @@
 // reading. Manner has all definitions that the manner decides, that of their characters too, which `key_chars` runs
 // along. Stands on `key_order`, `letters`, `chars`.
 // The rules in words: docs/FORMAT.md, "Strings".
+#![tactic(auto)]
+
 ghost use Rattle.std.specs.Prelude.{◌≡◌};
 ghost use Rattle.chars.specs.Chars.{note};
 ghost use Rattle.chars.specs.Runs.{same};
@@ -9,7 +11,7 @@ ghost use Rattle.text.specs.Manner.{open_end, named, follows, asks_channels};
 
 // The manner of reading strings: `specs/Manner.antt` has what it decides. Strict is document 01's, Lenient that of
 // document 02, §11.
-#[derive(Drop)]
+#[derive(Clone, Copy)]
 pub enum Manner {
     Strict,
     Lenient,

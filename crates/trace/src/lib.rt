@@ -2,6 +2,8 @@
 // 9 to 17, and 34), TraceLaws what each part has shown; `trace_check` goes through them, each string read once. Stands on
 // `block`, `seek`, `channel`. f is the image; t and u are its terminators, `how` is the manner of reading.
 // The rules in words: docs/FORMAT.md, "Refusal numbers, in order of checking".
+#![tactic(auto)]
+
 ghost use Rattle.std.specs.Prelude.{◌≡◌, ◌+◌, ◌≤◌, length};
 ghost use Rattle.refusal.specs.Verdicts.{asked};
 ghost use Rattle.word.specs.Part.{part};
@@ -11,7 +13,7 @@ use refusal::{Part, Refusal, Rule};
 use text::Manner;
 
 // A trace that was checked: where it ends, and whether the file's traces have a channel number; or the refusal.
-#[derive(Drop)]
+#[derive(Clone, Copy)]
 pub enum Traced {
     Through(usize, bool),
     Not(Refusal),

@@ -1,6 +1,8 @@
 // The check of one trace (document 01, rows 9 to 17; document 02, row 34), where its pointer was judged. The definitions
 // are trace/Trace, with the law for each answer. Stands on `trace`, `block`, `strings_check`.
 // The rules in words: docs/FORMAT.md, "Refusal numbers, in order of checking".
+#![tactic(auto)]
+
 ghost use Rattle.std.specs.Prelude.{◌≡◌, ◌+◌, ◌≤◌, ◌<◌, length};
 ghost use Rattle.seek.specs.Sought.{checked_of};
 ghost use Rattle.channel.specs.Channel.{channel_number};

@@ -2,6 +2,8 @@
 // their order, Walk how the code goes through them. Stands on `trace_check`, `block`. f is the image; t and u are its
 // terminators, `how` is the manner of reading.
 // The rules in words: docs/FORMAT.md, "Refusal numbers, in order of checking".
+#![tactic(auto)]
+
 ghost use Rattle.std.specs.Prelude.{◌≡◌, ◌+◌, ◌*◌, ◌≤◌, ◌<◌, length};
 ghost use Rattle.traces.specs.Walk.{next_of, pointed_from, InWord, Stands};
 
@@ -10,7 +12,7 @@ use text::Manner;
 use trace::Traced;
 
 // A step of the walk over the file: where it goes on, or the refusal.
-#[derive(Drop)]
+#[derive(Clone, Copy)]
 pub enum Walked {
     Past(usize),
     Bad(Refusal),

@@ -3,6 +3,8 @@
 // Stands on `strings`, `key_order`, `chars`. An area is the bytes of a file from place a to place e; t is the string
 // terminator.
 // The rules in words: docs/FORMAT.md, "One trace, quickly".
+#![tactic(auto)]
+
 ghost use Rattle.std.specs.Prelude.{◌≡◌, ◌≤◌, length};
 ghost use Rattle.strings.specs.Passed.{seen_place, Lies};
 ghost use Rattle.until.specs.Until.{look_of};
@@ -12,7 +14,7 @@ use refusal::Refusal;
 use strings::Place;
 
 // What is asked: the string with a keyword, the i-th counted from 0, or how many there are.
-#[derive(Drop)]
+#[derive(Clone, Copy)]
 pub enum Ask {
     Keyword,
     Index(usize),
@@ -20,7 +22,7 @@ pub enum Ask {
 }
 
 // Behind a string: it is the asked one, there is none, or the walk goes on.
-#[derive(Drop)]
+#[derive(Clone, Copy)]
 pub enum Turn {
     Here,
     Gone,
@@ -29,7 +31,7 @@ pub enum Turn {
 
 // What a walk answers: where the asked string stands; how many were passed, where there is none; or the refusal of a
 // string that was come to.
-#[derive(Drop)]
+#[derive(Clone, Copy)]
 pub enum Walked {
     At(Place),
     Over(usize),

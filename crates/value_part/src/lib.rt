@@ -1,6 +1,8 @@
 // The value of a string that was found, as the caller's own bytes (document 01, "Strings"). The definitions are
 // reader/Questions. Stands on `reader` for them, and on `word` for what a part of a buffer is.
 // The rules in words: docs/FORMAT.md, "Strings".
+#![tactic(auto)]
+
 ghost use Rattle.std.specs.Prelude.{◌≡◌, length};
 ghost use Rattle.word.specs.Part.{PartOf};
 ghost use Rattle.reader.specs.Questions.{value_there, span_there};

@@ -2,6 +2,8 @@
 // the numbers that they are. Every question checks the whole file first. The definitions are reader/Questions. Stands on
 // `string_answers`, `value_part`, `location_text`, `double`, `decimal`.
 // The rules in words: docs/FORMAT.md, "Numbers in values".
+#![tactic(auto)]
+
 ghost use Rattle.std.specs.Prelude.{◌≡◌, length};
 ghost use Rattle.word.specs.Part.{PartOf};
 ghost use Rattle.reader.specs.Questions.{value_there, value_answer, span_answer, number_answer, double_answer};

@@ -3,6 +3,8 @@
 // `lookup`, `decode`, `encode`, `decimal`, `double`, `location`) and, for what is written and read back, on `start`,
 // `writer` and `samples`.
 // The rules in words: docs/FORMAT.md, "Worked values".
+#![tactic(auto)]
+
 use chars::Kind;
 use decimal_parts::NumberAnswer;
 use double::DoubleAnswer;

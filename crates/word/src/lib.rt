@@ -3,6 +3,8 @@
 // that all crates use. Stands on nothing.
 // `high` says that the high byte comes first (document 01, "The file block").
 // The rules in words: docs/FORMAT.md, "The file block".
+#![tactic(auto)]
+
 ghost use Rattle.std.specs.Prelude.{◌≡◌, ◌+◌, ◌-◌, ◌≤◌, ◌<◌, nat_abs, length};
 ghost use Rattle.word.specs.Round.{round4};
 ghost use Rattle.word.specs.Word.{word_at};

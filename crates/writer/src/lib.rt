@@ -2,6 +2,8 @@
 // first byte is written. Answers has the definitions, Shown the second view: a trace is added exactly where no row is
 // met. Stands on `opening` (the file and the sheet), `entry` (the samples), `append`, `start`.
 // The rules in words: docs/FORMAT.md, "What we write".
+#![tactic(auto)]
+
 ghost use Rattle.std.specs.Prelude.{◌≡◌, ◌+◌, ◌≤◌, ◌<◌};
 ghost use Rattle.word.specs.Round.{round4};
 ghost use Rattle.refusal.specs.Verdicts.{asked};

@@ -1,0 +1,14 @@
+use mathlib.Core.Path.{◌≡◌, refl, ◌∙◌}
+use Prim.Native.Nat.{◌≤◌, ◌-◌}
+use lib.ListN.{length, drop}
+use Rattle.key_order.specs.Order.{less, less_short, less_below, less_above, less_next, less_longer, less_ended}
+use borrow.Author.Rules.{rules}
+use Rattle.key_order.proofs.is_less.Given as goal
+
+abbrev pub invariant-loop-i : goal.invariant-loop-i
+invariant-loop-i l =
+    (l.i ≤ length l.p) × (less (drop l.i l.p) (drop l.i l.k) ≡ less l.p l.k)
+
+abbrev pub decreases-loop-i : goal.decreases-loop-i
+decreases-loop-i l =
+    length l.p - l.i

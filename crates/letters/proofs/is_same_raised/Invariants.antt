@@ -1,0 +1,16 @@
+use mathlib.Core.Path.{◌≡◌, refl, sym, ap, ◌∙◌}
+use Prim.Native.Nat.{◌≤◌, ◌-◌}
+use lib.ListN.{length, drop}
+use borrow.Author.Tests.{eq-eqb, ne_eqb}
+use Rattle.chars.specs.Runs.{same}
+use Rattle.letters.specs.Upper.{uppered, raised_short, raised_apart, raised_next, raised_longer, raised_ended}
+use borrow.Author.Rules.{rules}
+use Rattle.letters.proofs.is_same_raised.Given as goal
+
+abbrev pub invariant-loop-i : goal.invariant-loop-i
+invariant-loop-i l =
+    (l.i ≤ length l.p) × (same (drop l.i (uppered l.p)) (drop l.i l.k) ≡ same (uppered l.p) l.k)
+
+abbrev pub decreases-loop-i : goal.decreases-loop-i
+decreases-loop-i l =
+    length l.p - l.i

@@ -1,0 +1,36 @@
+-- `sample::needed` meets its contract. Each arm is the row of the table that its code names. Assumes nothing.
+use mathlib.Core.Path.{sym}
+use native.Mathlib.Omega.{arith}
+use borrow.Author.Rules.{rules}
+use Rattle.sample.specs.Needed.{needed, by_code_none}
+use Rattle.sample.proofs.needed.Goals as goal
+
+pub returns-in-1 : goal.returns-in-1
+unfolding needed
+returns-in-1 c =
+    (simp c.in-1.is, omega arith)
+
+pub returns-in-2 : goal.returns-in-2
+unfolding needed
+returns-in-2 c =
+    (simp c.in-2.is, omega arith)
+
+pub returns-in-3 : goal.returns-in-3
+unfolding needed
+returns-in-3 c =
+    (simp c.in-3.is, omega arith)
+
+pub returns-in-4 : goal.returns-in-4
+unfolding needed
+returns-in-4 c =
+    (simp c.in-4.is, omega arith)
+
+pub returns-in-5 : goal.returns-in-5
+unfolding needed
+returns-in-5 c =
+    (simp c.in-5.is, omega arith)
+
+pub returns-in_default : goal.returns-in_default
+unfolding needed
+returns-in_default c =
+    let r = c.in_default.in_default-own.rest in (sym (by_code_none _ _ _ _ _ _ _ r.0.0.0.0.1 r.0.0.0.1 r.0.0.1 r.0.1 r.1), omega arith)

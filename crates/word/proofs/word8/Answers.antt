@@ -1,0 +1,13 @@
+-- `word::word8` meets its contract. It is two words of half the width. Assumes nothing.
+use native.Mathlib.Omega.{arith}
+use borrow.Author.Rules.{rules}
+use Rattle.word.specs.WordLaws.{word_joined}
+use Rattle.word.proofs.word8.Goals as goal
+
+pub returns-then-high : goal.returns-then-high
+returns-then-high c =
+    (rw (word_joined 4 _ _ _ c.requires, ← c.word4-a.ensures.0, ← c.word4-b.ensures.0, c.if-high.true), omega arith)
+
+pub returns-else-high : goal.returns-else-high
+returns-else-high c =
+    (rw (word_joined 4 _ _ _ c.requires, ← c.word4-a.ensures.0, ← c.word4-b.ensures.0, c.if-high.false), omega arith)
