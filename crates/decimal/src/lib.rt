@@ -13,7 +13,7 @@ use decimal_parts::NumberAnswer;
 use refusal::Rule;
 
 // Refusal 20: no number. The place of a lone number is 0.
-fn no_number_lem() -> NumberAnswer
+fn no_number() -> NumberAnswer
     ensures { result ≡ no_number }
 {
     NumberAnswer::Refused(refusal::of_file(Rule::NoNumber, 0))
@@ -25,17 +25,17 @@ fn tail(minus: bool, whole: &[u8], decimals: &[u8], x: &[u8]) -> NumberAnswer
 {
     let e = front_bytes::has(x, b'E');
     if (0 < x.len()) & !e {
-        return no_number_lem();
+        return no_number();
     }
     let z = front_bytes::past(x, b'E');
     let y = front_bytes::past(z, b'-');
     let n = chars::run(Kind::Digit, y);
     if e & (n == 0) {
-        return no_number_lem();
+        return no_number();
     }
     let rest = front_bytes::behind(y, n);
     if 0 < rest.len() {
-        return no_number_lem();
+        return no_number();
     }
     decimal_parts::judged(
         minus,
@@ -54,14 +54,14 @@ pub fn number(text: &[u8]) -> NumberAnswer
     let s = front_bytes::past(text, b'-');
     let n = chars::run(Kind::Digit, s);
     if n == 0 {
-        return no_number_lem();
+        return no_number();
     }
     let u = front_bytes::behind(s, n);
     let point = front_bytes::has(u, b'.');
     let v = front_bytes::past(u, b'.');
     let m = chars::run(Kind::Digit, v);
     if point & (m == 0) {
-        return no_number_lem();
+        return no_number();
     }
     tail(
         front_bytes::has(text, b'-'),

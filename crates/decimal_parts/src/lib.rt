@@ -45,7 +45,7 @@ fn made(minus: bool, whole: &[u8], decimals: &[u8], down: bool, exponent: &[u8])
 }
 
 // Refusal 21: too many digits.
-fn too_long_lem() -> NumberAnswer
+fn too_long() -> NumberAnswer
     ensures { result ≡ too_long }
 {
     NumberAnswer::Refused(refusal::of_file(Rule::Digits, 0))
@@ -64,13 +64,13 @@ pub fn judged(
         exponent.now) }
 {
     if 18 < whole.len() {
-        return too_long_lem();
+        return too_long();
     }
     if 18 - whole.len() < decimals.len() {
-        return too_long_lem();
+        return too_long();
     }
     if 2 < exponent.len() {
-        return too_long_lem();
+        return too_long();
     }
     NumberAnswer::Is(made(minus, whole, decimals, down, exponent))
 }

@@ -1,0 +1,9 @@
+-- `block::trace_block` meets its contract. Assumes nothing.
+use mathlib.Core.Path.{◌∙◌}
+use Rattle.block.specs.BlockLaws.{own_block}
+use borrow.Author.Rules.{rules}
+use Rattle.block.proofs.trace_block.Goals as goal
+
+pub returns : goal.returns
+returns c =
+    c.block_in.ensures.0 ∙ own_block _ _ _ _ c.pointer-p.ensures.0

@@ -1,0 +1,15 @@
+use mathlib.Core.Path.{◌≡◌, refl}
+use Prim.Native.Nat.{◌-◌}
+use lib.ListN.{length, drop}
+use borrow.Author.Tests.{le-leb, lt-leb}
+use borrow.Author.Rules.{rules}
+use Rattle.fit.specs.Unfit.{first_from, unfit_pattern, unfit_patterns, first_found, first_next, first_over}
+use Rattle.fit.proofs.first_wide.Given as goal
+
+abbrev pub invariant-loop-i : goal.invariant-loop-i
+invariant-loop-i l =
+    first_from (unfit_pattern 4) l.i (drop l.i l.row) ≡ first_from (unfit_pattern 4) 0 l.row
+
+abbrev pub decreases-loop-i : goal.decreases-loop-i
+decreases-loop-i l =
+    length l.row - l.i

@@ -1,0 +1,18 @@
+use mathlib.Core.Path.{◌≡◌, refl}
+use Prim.Native.Nat.{◌+◌, ◌-◌, ◌≤◌}
+use native.Mathlib.Nat.{add-zero}
+use lib.ListN.{length, drop, length-set}
+use Rattle.word.specs.Put.{put}
+use Rattle.lines.specs.Lines.{spaced}
+use Rattle.lines.specs.Spaced.{length_spaced, spaced_turn, spaced_over}
+use borrow.Author.Rules.{rules}
+use native.Mathlib.Omega.{arith}
+use Rattle.lines.proofs.put_spaced.Given as goal
+
+abbrev pub invariant-loop-i : goal.invariant-loop-i
+invariant-loop-i l =
+    (l.i ≤ length l.v) × (length l.out ≡ length l.initial.out) × (put l.out (l.at + l.i) (drop l.i (spaced l.v)) ≡ put l.initial.out l.at (spaced l.v))
+
+abbrev pub decreases-loop-i : goal.decreases-loop-i
+decreases-loop-i l =
+    length l.v - l.i
