@@ -1,7 +1,7 @@
 -- What never is a double or a location: a text with any byte but blanks and those of numbers. So a comma is refused
 -- there too, wherever it stands.
 -- Assumes nothing.
-use Rattle.std.specs.Prelude.{◌≡◌, refl, Bool, true, false, ◌||◌, List, [], ◌∷◌, ◌++◌, ℕ, Float}
+use Rattle.std.specs.Prelude.{◌≡◌, refl, Bool, true, false, ◌||◌, List, [], ◌∷◌, ◌++◌, ℕ, ◌+◌, length, Float}
 use Rattle.std.proofs.Common.{sym, ◌∙◌, arith}
 use Rattle.decimal_parts.specs.declared.NumberAnswer.{NumberAnswer}
 use Rattle.decimal_parts.specs.declared.NumberAnswer.TheVariants as number
@@ -90,8 +90,11 @@ blank_spots = all_weaker blank spot (λ b e. or_right (mark b) (blank b) e)
 
 parted_spots : (at : ℕ) (t : List ℕ) (vs : List Value) → Parted at t vs → Marked vs → All spot t
 parted_spots at t [] (blanks {g = g} h) m = blank_spots g h
-parted_spots at t (x ∷ vs) (value g v r bg sv st rest) m =
-    all_append spot g (v ++ r) (blank_spots g bg) (all_append spot v r (mark_spots v m.0) (parted_spots _ r vs rest m.1))
+parted_spots at t (x ∷ vs) given m = go at x t given m.0 (λ b r more. parted_spots b r vs more m.1)
+  where
+    go : (at : ℕ) (x : Value) (t : List ℕ) → Parted at t (x ∷ vs) → All mark x.1 → ((b : ℕ) (r : List ℕ) → Parted b r vs → All spot r) → All spot t
+    go at x t (value g v r bg sv st rest) m again =
+        all_append spot g (v ++ r) (blank_spots g bg) (all_append spot v r (mark_spots v m) (again (at + length g + length v) r rest))
 
 pub other_byte_location : (b : ℕ) → spot b ≡ false → (before after : List ℕ) (l : Coordinates) → location_of (before ++ b ∷ after) ≡ Is l → ⊥
 unfolding location_of

@@ -137,7 +137,10 @@ values_solid at (x ∷ xs) r s h =
 pub one_split : (at : ℕ) (t : List ℕ) (vs : List Value) → Parted at t vs → values_from at t ≡ vs
 one_split at t [] (blanks {g = g} h) =
     blanks_passed at g ∙ ap (λ (r : List ℕ). values_from (at + run blank g) r) (behind_all blank g h) ∙ values_none (at + run blank g)
-one_split at t (x ∷ vs) (value g v r bg sv st rest) =
-    blanks_passed at (g ++ (v ++ r))
-    ∙ rw (run_length blank g (v ++ r) bg (first_solid v r sv), drop_at g (v ++ r) (length g) refl)
-    (values_solid (at + length g) v r sv st ∙ ap (λ (us : List Value). (at + length g, v) ∷ us) (one_split (at + length g + length v) r vs rest))
+one_split at t (x ∷ vs) given = go at x t given (λ b r more. one_split b r vs more)
+  where
+    go : (at : ℕ) (x : Value) (t : List ℕ) → Parted at t (x ∷ vs) → ((b : ℕ) (r : List ℕ) → Parted b r vs → values_from b r ≡ vs) → values_from at t ≡ x ∷ vs
+    go at x t (value g v r bg sv st rest) again =
+        blanks_passed at (g ++ (v ++ r))
+        ∙ rw (run_length blank g (v ++ r) bg (first_solid v r sv), drop_at g (v ++ r) (length g) refl)
+        (values_solid (at + length g) v r sv st ∙ ap (λ (us : List Value). (at + length g, v) ∷ us) (again (at + length g + length v) r rest))

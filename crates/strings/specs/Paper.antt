@@ -144,14 +144,17 @@ accepts how high t u p (s ∷ ss) end prev (suc m) at ends x g h =
 pub spelled_accepted : (how : Manner) {high : Bool} {t u l : List ℕ} {ss : List Str} (p : Part) (at : ℕ) → LineEnd u → Spells how high t u ss l
     → strings_of how high t u p l at ≡ Accepted
 unfolding strings_of
-spelled_accepted how p at ends empty = refl
-spelled_accepted how {high} {t} {u} p at ends (full {ss} {end} x g) =
-    go (eqb (length (texts high t ss end)) 0)
-    (accepts how high t u p ss end [] (length (texts high t ss end)) at ends x g (le_refl (length (texts high t ss end))))
+spelled_accepted how {high} {t} {u} p at ends given = of_list _ _ given
   where
     go : (w : Bool) {v : Verdict} → v ≡ Accepted → pick w Accepted v ≡ Accepted
     go true h = refl
     go false h = h
+
+    of_list : (ss : List Str) (l : List ℕ) → Spells how high t u ss l → strings_of how high t u p l at ≡ Accepted
+    of_list ss l empty = refl
+    of_list ss l (full {end} x g) =
+        go (eqb (length (texts high t ss end)) 0)
+        (accepts how high t u p ss end [] (length (texts high t ss end)) at ends x g (le_refl (length (texts high t ss end))))
 
 -- ---- what is accepted is spelled
 
@@ -385,8 +388,12 @@ no_place how f high t at = refl
 
 apart_spelled : (how : Manner) (high : Bool) (t u l : List ℕ) (ss : List Str) → Spells how high t u ss l
     → ((l ≡ []) × (ss ≡ [])) ⊎ ((end : List ℕ) × Ends how high end × Rising how t u [] ss × (l ≡ texts high t ss end))
-apart_spelled how high t u l ss empty = inl (refl, refl)
-apart_spelled how high t u l ss (full x g) = inr (_, x, g, refl)
+apart_spelled how high t u l ss given = go ss l given
+  where
+    go : (ss : List Str) (l : List ℕ) → Spells how high t u ss l
+        → ((l ≡ []) × (ss ≡ [])) ⊎ ((end : List ℕ) × Ends how high end × Rising how t u [] ss × (l ≡ texts high t ss end))
+    go ss l empty = inl (refl, refl)
+    go ss l (full x g) = inr (_, x, g, refl)
 
 -- on an area that spells ss, the places are those of ss
 pub spelled_places : (how : Manner) (f t u : List ℕ) (high : Bool) (a e : ℕ) (ss : List Str) → a ≤ e → e ≤ length f → Spells how high t u ss (part a e f)
@@ -486,8 +493,11 @@ pairs_rise t u prev (s ∷ ss) (suc i) (suc j) g l h = pairs_rise t u s.key ss i
 
 spelled_rise : {high : Bool} {t u l : List ℕ} (ss : List Str) (i j : ℕ) → Spells Strict high t u ss l → i < j → j < length ss
     → rises (nth_str ss i).key (nth_str ss j).key ≡ true
-spelled_rise ss i j empty l h = absurd (omega arith)
-spelled_rise {t = t} {u = u} ss i j (full x g) l h = pairs_rise t u [] ss i j g l h
+spelled_rise {high = high} {t = t} {u = u} ss i j given l h = go ss _ given l h
+  where
+    go : (ss : List Str) (l : List ℕ) → Spells Strict high t u ss l → i < j → j < length ss → rises (nth_str ss i).key (nth_str ss j).key ≡ true
+    go ss l empty g h = absurd (omega arith)
+    go ss l (full x g) k h = pairs_rise t u [] ss i j g k h
 
 pub keywords_once : {high : Bool} {t u l : List ℕ} (ss : List Str) (i j : ℕ) → Spells Strict high t u ss l → i < j → j < length ss
     → (nth_str ss i).key ≡ (nth_str ss j).key

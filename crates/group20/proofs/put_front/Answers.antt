@@ -1,0 +1,9 @@
+-- `group20::put_front` meets its contract. Two pairs of words. Assumes nothing.
+use mathlib.Core.Path.{◌∙◌}
+use borrow.Author.Rules.{rules}
+use Rattle.group20.specs.GroupLaws.{put_four}
+use Rattle.group20.proofs.put_front.Goals as goal
+
+pub returns : goal.returns
+returns c =
+    c.put_pair-2.ensures ∙ rw c.put_pair.ensures (put_four _ _ _ _ _ _ _)

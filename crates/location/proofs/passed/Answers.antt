@@ -1,0 +1,11 @@
+-- `location::passed` meets its contract. Assumes nothing.
+use borrow.Author.Rules.{rules}
+use Rattle.location.proofs.passed.Goals as goal
+
+pub returns-in-Is : goal.returns-in-Is
+returns-in-Is c =
+    rw c.in-Is.is
+
+pub returns-in-Refused : goal.returns-in-Refused
+returns-in-Refused c =
+    rw c.in-Refused.is

@@ -1,0 +1,20 @@
+use mathlib.Core.Path.{◌≡◌, refl, sym, ◌∙◌}
+use Prim.Native.Nat.{ℕ, ◌≤◌, ◌-◌, ◌+◌, ◌<◌}
+use native.Mathlib.Nat.{le_of_eq}
+use lib.ListN.{length}
+use Rattle.word.specs.Part.{part, length_part}
+use Rattle.strings.specs.Strings.{places_from, places_of, nth_of, PlaceIn}
+use Rattle.strings.specs.Walks.{place_next, place_stop, place_bounds, place_over}
+use Rattle.lookup.specs.Lists.{nth_none, nth_first, nth_later}
+use borrow.Author.Rules.{rules}
+use native.Mathlib.Omega.{arith}
+use Rattle.lookup.proofs.nth.Given as goal
+
+abbrev pub invariant-loop-at : goal.invariant-loop-at
+invariant-loop-at l =
+    (l.a ≤ l.at) × (l.at ≤ l.e) × ((m : ℕ) × (l.e - l.at ≤ m) × (nth_of (places_from l.how m l.high l.t
+    (part l.at l.e l.f) l.at) l.k ≡ nth_of (places_of l.how l.high l.t (part l.a l.e l.f) l.a) l.i))
+
+abbrev pub decreases-loop-at : goal.decreases-loop-at
+decreases-loop-at l =
+    l.e - l.at

@@ -1,0 +1,12 @@
+-- `numeral_room::point_size` meets its contract. Assumes nothing.
+use Rattle.numeral_room.specs.Sizes.{point_none_size, point_size}
+use borrow.Author.Rules.{rules}
+use Rattle.numeral_room.proofs.point_size.Goals as goal
+
+pub returns-then-k-lt1 : goal.returns-then-k-lt1
+returns-then-k-lt1 c =
+    point_none_size _ _ c.if-k-lt1.true
+
+pub returns : goal.returns
+returns c =
+    point_size _ _ c.if-k-lt1.false

@@ -1,0 +1,17 @@
+-- `patterns::read_bits` meets its contract. Each arm is the decoder of its code; no other code is one of bits. Assumes
+-- nothing.
+use borrow.Author.Rules.{rules}
+use Rattle.decode.specs.SampleLaws.{no_bits, no_bits_read}
+use Rattle.patterns.proofs.read_bits.Goals as goal
+
+pub returns-in-4 : goal.returns-in-4
+returns-in-4 c =
+    rw c.in-4.is (record { answer = c.read4.ensures.answer; filled = c.read4.ensures.filled; classed = c.read4.ensures.classed })
+
+pub returns-in-5 : goal.returns-in-5
+returns-in-5 c =
+    rw c.in-5.is (record { answer = c.read5.ensures.answer; filled = c.read5.ensures.filled; classed = c.read5.ensures.classed })
+
+pub returns-in_default : goal.returns-in_default
+returns-in_default c =
+    let r = c.in_default.in_default-own.rest in let e = no_bits_read _ _ _ _ _ (no_bits _ _ _ _ r.0.1 r.1) in record { answer = e.0; filled = e.1.0; classed = e.1.1 }

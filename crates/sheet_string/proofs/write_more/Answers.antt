@@ -1,0 +1,9 @@
+-- `sheet_string::write_more` meets its contract. Assumes nothing.
+use mathlib.Core.Path.{refl, ◌∙◌}
+use Rattle.sheet_string.specs.StringBytes.{put_then}
+use borrow.Author.Rules.{rules}
+use Rattle.sheet_string.proofs.write_more.Goals as goal
+
+pub returns : goal.returns
+returns c =
+    (search rules, c.copy-2.ensures ∙ rw c.copy.ensures (put_then _ _ _ _ _ refl))

@@ -1,0 +1,99 @@
+-- `sheet_string::write_note` meets its contract. The stores make the string, the offset last. Assumes nothing.
+use mathlib.Core.Path.{refl}
+use Prim.Native.Nat.{◌+◌, ◌≤◌, ◌<◌}
+use lib.ListN.{length}
+use Rattle.word.specs.Part.{part_rest}
+use Rattle.strings.specs.Spelled.{size_of}
+use Rattle.sheet.specs.Lines.{sheet_lines}
+use Rattle.sheet.specs.Area.{note_of}
+use Rattle.sheet_string.specs.StringBytes.{NoteAt, note_at, note_written}
+use borrow.Author.Rules.{rules}
+use native.Mathlib.Omega.{arith}
+use Rattle.sheet_string.proofs.write_note.Goals as goal
+use Rattle.sheet_string.proofs.write_note.Goals.{After-line_len-n}
+
+-- the NOTE's first line, once its length is known, and the room that the buffer has
+noted : (c : After-line_len-n)
+    → NoteAt c.args.u.now c.args.s.now c.line_len-n.result
+    × (size_of c.args.t.now (note_of c.args.u.now (sheet_lines c.args.s.now)) < 65536)
+    × (c.args.to + size_of c.args.t.now (note_of c.args.u.now (sheet_lines c.args.s.now)) ≤ length c.args.part.now)
+noted c =
+    (note_at c.args.u.now c.args.s.now _ c.requires.0 c.line_len-n.ensures.0, c.requires.1, c.requires.2)
+
+pub overflow_add-a : goal.overflow_add-a
+overflow_add-a c =
+    let a = noted (goal.at.overflow_add-a c).After-line_len-n in omega (arith, a.0.low, a.0.fits, a.0.long, a.0.size, a.1, a.2)
+
+pub overflow_add-b : goal.overflow_add-b
+overflow_add-b c =
+    let a = noted (goal.at.overflow_add-b c).After-line_len-n in omega (arith, a.0.low, a.0.fits, a.0.long, a.0.size, a.1, a.2)
+
+pub overflow_add-c : goal.overflow_add-c
+overflow_add-c c =
+    let a = noted (goal.at.overflow_add-c c).After-line_len-n in omega (arith, a.0.low, a.0.fits, a.0.long, a.0.size, a.1, a.2)
+
+pub overflow_add-from : goal.overflow_add-from
+overflow_add-from c =
+    let a = noted (goal.at.overflow_add-from c).After-line_len-n in omega (arith, a.0.low, a.0.fits, a.0.long, a.0.size, a.1, a.2)
+
+pub slice_bounds-copy-start : goal.slice_bounds-copy-start
+slice_bounds-copy-start c =
+    let a = noted (goal.at.slice_bounds-copy-start c).After-copy-arg-1 in omega (arith, a.0.low, a.0.fits, a.0.long, a.0.size, a.1, a.2)
+
+pub slice_bounds-copy-end-2 : goal.slice_bounds-copy-end-2
+slice_bounds-copy-end-2 c =
+    let a = noted (goal.at.slice_bounds-copy-end-2 c).After-copy-arg-1 in omega (arith, a.0.low, a.0.fits, a.0.long, a.0.size, a.1, a.2)
+
+pub copy-requires-2 : goal.copy-requires-2
+copy-requires-2 c =
+    let a = noted (goal.at.copy-requires-2 c).After-copy-arg-1 in
+    omega (arith, a.0.low, a.0.fits, a.0.long, a.0.size, a.1, a.2)
+
+pub slice_bounds-write_lines-count : goal.slice_bounds-write_lines-count
+slice_bounds-write_lines-count c =
+    let a = noted (goal.at.slice_bounds-write_lines-count c).After-copy-arg-1 in
+    omega (arith, a.0.low, a.0.fits, a.0.long, a.0.size, a.1, a.2)
+
+pub slice_bounds-write_lines-start : goal.slice_bounds-write_lines-start
+slice_bounds-write_lines-start c =
+    let a = noted (goal.at.slice_bounds-write_lines-start c).After-copy-arg-1 in
+    omega (arith, a.0.low, a.0.fits, a.0.long, a.0.size, a.1, a.2)
+
+pub slice_bounds-write_lines-end : goal.slice_bounds-write_lines-end
+slice_bounds-write_lines-end c =
+    let a = noted (goal.at.slice_bounds-write_lines-end c).After-copy-arg-1 in
+    omega (arith, a.0.low, a.0.fits, a.0.long, a.0.size, a.1, a.2)
+
+pub write_lines-e-requires : goal.write_lines-e-requires
+write_lines-e-requires c =
+    let a = noted (goal.at.write_lines-e-requires c).After-copy-arg-1 in
+    rw part_rest (a.0.noted, omega (arith, a.0.low, a.0.fits, a.0.long, a.0.size, a.1, a.2))
+
+pub copy-requires-3 : goal.copy-requires-3
+copy-requires-3 c =
+    let a = noted (goal.at.copy-requires-3 c).After-copy-arg-1 in
+    let e = rw part_rest at c.write_lines-e.ensures.0 in
+    omega (arith, a.0.low, a.0.fits, a.0.long, a.0.size, a.1, a.2)
+
+pub overflow_add-end : goal.overflow_add-end
+overflow_add-end c =
+    let a =
+    noted (goal.at.overflow_add-end c).After-copy-arg-1 in
+    let e = rw part_rest at c.write_lines-e.ensures.0 in
+    omega (arith, a.0.low, a.0.fits, a.0.long, a.0.size, a.1, a.2, e)
+
+pub overflow_cast-end : goal.overflow_cast-end
+overflow_cast-end c =
+    let a =
+    noted (goal.at.overflow_cast-end c).After-copy-arg-1 in
+    let e = rw part_rest at c.write_lines-e.ensures.0 in
+    omega (arith, a.0.low, a.0.fits, a.0.long, a.0.size, a.1, a.2, e)
+
+pub returns : goal.returns
+returns c =
+    let a = (noted (goal.at.returns c).After-copy-arg-1).0 in
+    let e = rw part_rest at c.write_lines-e.ensures.0 in (
+      omega (arith, a.size),
+      note_written _ _ _ _ _ _ _ _ _ _ _ _ a _ _ _ _ _ refl refl refl e (omega (arith, a.size)) c.copy.ensures
+          c.copy-2.ensures (rw part_rest at c.write_lines-e.ensures.1) c.copy-3.ensures c.put2.ensures,
+    )

@@ -1,0 +1,143 @@
+-- `strings_check::check` meets its contract. The invariant: the check from here answers as the check of the whole area, and
+-- the keyword that is sought was seen at `hit` or is to be seen from here on. Assumes nothing.
+use mathlib.Core.Path.{◌≡◌, sym, ◌∙◌}
+use Prim.Native.Nat.{ℕ, ◌≤◌, ◌-◌, ◌+◌, ◌<◌}
+use native.Mathlib.Nat.{le_of_eq}
+use lib.ListN.{length}
+use Rattle.word.specs.Part.{part, length_part}
+use Rattle.strings.specs.Strings.{strings_from, strings_of}
+use Rattle.channel.specs.Channel.{channel_number}
+use Rattle.strings.specs.Walks.{turn_fits, turn_next, turn_bad, turn_done, walk_start, walk_over}
+use Rattle.seek.specs.Sought.{Sought, sought_start, sought_done, sought_over, sought_next}
+use Rattle.seek.specs.Sought.{checked_bad, checked_seen, checked_none}
+use borrow.Author.Rules.{rules}
+use native.Mathlib.Omega.{arith}
+use Rattle.strings_check.proofs.check.Goals as goal
+use Rattle.strings_check.proofs.check.Goals.{In-Next}
+
+-- the string that a step has passed has bytes, and it and its keyword end in the area
+fits : (c : In-Next)
+    → let e = c.args.e in
+    (0 < c.in-Next.o) × (c.loop-at.at + c.in-Next.o ≤ e) × (c.loop-at.at + 2 + c.in-Next.n ≤ e)
+fits c =
+    turn_fits _ _ _ _ _ c.args.f.now c.args.e c.loop-at.at c.loop-at.k c.loop-at.g c.loop-at.invariant.4.0
+    c.loop-at-test.true c.requires.1 c.loop-at.invariant.4.1 _ _ (sym c.step_at-s.ensures ∙ c.in-Next.is)
+
+pub has-requires : goal.has-requires
+has-requires c =
+    (c.requires.1, λ l. absurd (omega arith))
+
+pub returns-then-e-a : goal.returns-then-e-a
+returns-then-e-a c =
+    let args = c.args in
+    checked_none _ _ _ _ _ args.f.now args.a args.e _ c.if-e-a.true c.has.ensures
+
+pub loop-at-init : goal.loop-at-init
+loop-at-init c =
+    let s = c.args in (
+      search rules,
+      search rules,
+      search rules,
+      search rules,
+      (
+        length (part s.a s.e s.f.now),
+        le_of_eq (sym (length_part s.a s.e s.f.now c.requires.1)),
+        walk_start _ _ _ _ _
+            s.f.now s.a s.e c.if-e-a.false c.requires.1,
+        sought_start _ _ _ _ _ _ _,
+      ),
+    )
+
+pub returns-in-Bad : goal.returns-in-Bad
+returns-in-Bad c =
+    let args = c.args in
+    checked_bad _ _ _ _ _ args.f.now args.a args.e _
+    (turn_bad _ _ _ _ _ args.f.now args.e c.loop-at.at c.loop-at.k c.loop-at.g c.loop-at.invariant.4.0
+    c.loop-at-test.true c.requires.1 c.loop-at.invariant.4.1 _ (sym c.step_at-s.ensures ∙ c.in-Bad.is)
+    ∙ c.loop-at.invariant.4.2)
+
+pub has-requires-in-Done : goal.has-requires-in-Done
+has-requires-in-Done c =
+    (c.requires.1, c.loop-at.invariant.4.3.lies)
+
+pub returns-in-Done : goal.returns-in-Done
+returns-in-Done c =
+    let args = c.args in
+    let i = c.loop-at.invariant.4 in
+    let h = sym c.step_at-s.ensures ∙ c.in-Done.is in
+    checked_seen _ _ _ _ _ args.f.now args.a args.e _
+    (turn_done _ _ _ _ _ args.f.now args.e c.loop-at.at c.loop-at.k c.loop-at.g i.0 c.loop-at-test.true
+    c.requires.1 i.1 h ∙ i.2)
+    (sought_done _ _ _ args.f.now _ args.a args.e c.loop-at.at c.loop-at.hit c.loop-at.gap c.loop-at.size i.0 i.3
+    _ _ _ c.loop-at-test.true c.requires.1 i.1 h)
+    c.has-in-Done.ensures
+
+pub overflow_add-k : goal.overflow_add-k
+overflow_add-k c =
+    let b = fits (goal.at.overflow_add-k c).In-Next in omega (arith, b.0, b.1, b.2)
+
+pub overflow_add-g : goal.overflow_add-g
+overflow_add-g c =
+    let b = fits (goal.at.overflow_add-g c).In-Next in omega (arith, b.0, b.1, b.2)
+
+pub slice_bounds-is_sought-count : goal.slice_bounds-is_sought-count
+slice_bounds-is_sought-count c =
+    let b = fits (goal.at.slice_bounds-is_sought-count c).In-Next in omega (arith, b.0, b.1, b.2)
+
+pub slice_bounds-is_sought-start : goal.slice_bounds-is_sought-start
+slice_bounds-is_sought-start c =
+    let b = fits (goal.at.slice_bounds-is_sought-start c).In-Next in omega (arith, b.0, b.1, b.2)
+
+pub slice_bounds-is_sought-end : goal.slice_bounds-is_sought-end
+slice_bounds-is_sought-end c =
+    let b = fits (goal.at.slice_bounds-is_sought-end c).In-Next in omega (arith, b.0, b.1, b.2)
+
+pub overflow_add-at : goal.overflow_add-at
+overflow_add-at c =
+    let b = fits (goal.at.overflow_add-at c).In-Next in omega (arith, b.0, b.1, b.2)
+
+pub loop-at-smaller : goal.loop-at-smaller
+loop-at-smaller c =
+    let b = fits (goal.at.loop-at-smaller c).In-Next in omega (arith, b.0, b.1, b.2)
+
+pub loop-at-preserved : goal.loop-at-preserved
+loop-at-preserved c =
+    let args = c.args in
+    let i = c.loop-at.invariant.4 in
+    let h = sym c.step_at-s.ensures ∙ c.in-Next.is in
+    let b = fits (goal.at.loop-at-preserved c).In-Next in (
+      omega (arith, b.1),
+      b.1,
+      omega arith,
+      b.2,
+      (
+        i.0 - 1,
+        omega (arith, b.0),
+        turn_next _ _ _ _ _ args.f.now args.e c.loop-at.at c.loop-at.k c.loop-at.g i.0 c.loop-at-test.true
+            c.requires.1 i.1 _ _ h ∙ i.2,
+        sought_next _ _ _ args.f.now _ args.a args.e c.loop-at.at c.loop-at.hit c.loop-at.gap c.loop-at.size i.0
+            i.3 _ _ _ _ _ c.loop-at-test.true c.requires.1 i.1 h c.is_sought.ensures c.choose-hit.ensures
+            c.choose-gap.ensures c.choose-size.ensures,
+      ),
+    )
+
+pub has-requires-then-open_end : goal.has-requires-then-open_end
+has-requires-then-open_end c =
+    (c.requires.1, c.loop-at.invariant.4.3.lies)
+
+pub returns-then-open_end : goal.returns-then-open_end
+returns-then-open_end c =
+    let s = c.args in
+    let i = c.loop-at.invariant.4 in
+    let w = walk_over _ _ _ _ _ _ s.f.now s.e c.loop-at.at i.0 c.loop-at-test.false ∙ i.2 in
+    checked_seen _ _ _ _ _ s.f.now s.a s.e _ (rw (sym c.open_end.ensures ∙ c.if-open_end.true) at w)
+    (sought_over _ _ _ s.f.now _ s.a s.e c.loop-at.at c.loop-at.hit c.loop-at.gap c.loop-at.size i.0 i.3
+    c.loop-at-test.false)
+    c.has-then-open_end.ensures
+
+pub returns : goal.returns
+returns c =
+    let s = c.args in
+    let i = c.loop-at.invariant.4 in
+    let w = walk_over _ _ _ _ _ _ s.f.now s.e c.loop-at.at i.0 c.loop-at-test.false ∙ i.2 in
+    checked_bad _ _ _ _ _ s.f.now s.a s.e _ (rw (sym c.open_end.ensures ∙ c.if-open_end.false) at w)

@@ -1,0 +1,15 @@
+use mathlib.Core.Path.{◌≡◌, refl, ◌∙◌}
+use Prim.Native.Nat.{◌≤◌, ◌-◌}
+use lib.ListN.{length, drop}
+use Rattle.terminators.specs.Terminators.{lacks}
+use Rattle.terminators.specs.TerminatorLaws.{lacks_here, lacks_on, lacks_over}
+use borrow.Author.Rules.{rules}
+use Rattle.terminators.proofs.is_lacking.Given as goal
+
+abbrev pub invariant-loop-i : goal.invariant-loop-i
+invariant-loop-i l =
+    (l.i ≤ length l.u) × (lacks (drop l.i l.u) l.b ≡ lacks l.u l.b)
+
+abbrev pub decreases-loop-i : goal.decreases-loop-i
+decreases-loop-i l =
+    length l.u - l.i
