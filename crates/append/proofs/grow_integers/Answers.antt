@@ -1,0 +1,34 @@
+-- `append::grow_integers` meets its contract. What is begun, the samples and the registered trace are the grown buffer.
+-- Assumes nothing.
+use mathlib.Core.Path.{◌∙◌}
+use Rattle.layout.specs.Layout.{integers, count}
+use Rattle.append.specs.GrownLaws.{samples_room, still_slotted, grown_put}
+use borrow.Author.Rules.{rules}
+use Rattle.append.proofs.grow_integers.Goals as goal
+
+pub begin-b-requires : goal.begin-b-requires
+unfolding count
+begin-b-requires c =
+    search rules
+
+pub put_integers-requires : goal.put_integers-requires
+unfolding count
+put_integers-requires c =
+    (samples_room (integers c.args.row.now) c.requires.0 c.begin-b.ensures.left c.begin-b.ensures.place, c.requires.1)
+
+pub register-requires : goal.register-requires
+unfolding count
+register-requires c =
+    still_slotted (integers c.args.row.now) c.requires.0 c.begin-b.ensures.left c.begin-b.ensures.place
+    c.put_integers.ensures
+
+pub shape_of-buffer : goal.shape_of-buffer
+unfolding count
+shape_of-buffer c =
+    search rules
+
+pub returns : goal.returns
+unfolding count
+returns c =
+    c.register.ensures ∙ grown_put _ c.requires.0 c.begin-b.ensures.left
+    c.begin-b.ensures.place c.put_integers.ensures

@@ -1,0 +1,11 @@
+-- `call_blocks::string_count` meets its contract. The answer of the function below it, as it crosses. Assumes nothing.
+use mathlib.Core.Path.{ap, ◌∙◌}
+use mir.Syntax.{w32}
+use mir.Facts.{to_z-of_z}
+use Rattle.face.specs.Face.{as_count}
+use borrow.Author.Rules.{rules}
+use Rattle.call_blocks.proofs.string_count.Goals as goal
+
+pub returns : goal.returns
+returns c =
+    c.count_told.ensures ∙ ap as_count (rw (to_z-of_z {w = w32} c.ranges.part) at c.string_count.ensures)

@@ -1,0 +1,11 @@
+-- `call_blocks::trace_block` meets its contract. The answer of the function below it, as it crosses. Assumes nothing.
+use mathlib.Core.Path.{ap, ◌∙◌}
+use mir.Syntax.{w32}
+use mir.Facts.{to_z-of_z}
+use Rattle.face.specs.Face.{as_trace}
+use borrow.Author.Rules.{rules}
+use Rattle.call_blocks.proofs.trace_block.Goals as goal
+
+pub returns : goal.returns
+returns c =
+    c.trace_told.ensures ∙ ap as_trace (rw (to_z-of_z {w = w32} c.ranges.trace) at c.trace_block.ensures)

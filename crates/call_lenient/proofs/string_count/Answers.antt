@@ -1,0 +1,12 @@
+-- `call_lenient::string_count` meets its contract: the answers of the two functions below it, as they cross. Assumes nothing.
+use mathlib.Core.Path.{ap₂, ◌∙◌}
+use mir.Syntax.{w32}
+use mir.Facts.{to_z-of_z}
+use Rattle.face_lenient.specs.FaceLenient.{lenient_count}
+use borrow.Author.Rules.{rules}
+use Rattle.call_lenient.proofs.string_count.Goals as goal
+
+pub returns : goal.returns
+returns c =
+    let own = rw (to_z-of_z {w = w32} c.ranges.part) at c.string_count.ensures in
+    c.count_beside.ensures ∙ ap₂ lenient_count own c.strictly-strict.ensures

@@ -1,0 +1,12 @@
+-- `call_lenient_strings::string` meets its contract: the answers of the two functions below it, as they cross. Assumes nothing.
+use mathlib.Core.Path.{ap₂, ◌∙◌}
+use mir.Syntax.{w32}
+use mir.Facts.{to_z-of_z}
+use Rattle.face_lenient.specs.FaceLenient.{lenient_string}
+use borrow.Author.Rules.{rules}
+use Rattle.call_lenient_strings.proofs.string.Goals as goal
+
+pub returns : goal.returns
+returns c =
+    let own = rw (to_z-of_z {w = w32} c.ranges.part) at c.string.ensures in
+    c.string_beside.ensures ∙ ap₂ lenient_string own c.strictly-strict.ensures

@@ -1,0 +1,12 @@
+-- `call_strings::keyword` meets its contract. The answer of the function below it, as it crosses. Assumes nothing.
+use mathlib.Core.Path.{ap, ◌∙◌}
+use mir.Syntax.{w32}
+use mir.Facts.{to_z-of_z}
+use Rattle.face_values.specs.FaceValues.{as_keyword}
+use borrow.Author.Rules.{rules}
+use Rattle.call_strings.proofs.keyword.Goals as goal
+
+pub returns : goal.returns
+returns c =
+    c.keyword_told.ensures ∙ ap as_keyword (rw (to_z-of_z {w = w32} c.ranges.part) at
+    c.keyword.ensures)

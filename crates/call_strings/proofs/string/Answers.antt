@@ -1,0 +1,11 @@
+-- `call_strings::string` meets its contract. The answer of the function below it, as it crosses. Assumes nothing.
+use mathlib.Core.Path.{ap, ◌∙◌}
+use mir.Syntax.{w32}
+use mir.Facts.{to_z-of_z}
+use Rattle.face_values.specs.FaceValues.{as_string}
+use borrow.Author.Rules.{rules}
+use Rattle.call_strings.proofs.string.Goals as goal
+
+pub returns : goal.returns
+returns c =
+    c.string_told.ensures ∙ ap as_string (rw (to_z-of_z {w = w32} c.ranges.part) at c.string.ensures)

@@ -1,0 +1,27 @@
+-- `listing::program` meets its contract: 19 first, else the listing. Assumes nothing.
+use mathlib.Core.Path.{sym, ap, ◌∙◌}
+use Rattle.lines.specs.Lines.{refusal_line}
+use Rattle.listing.specs.Told.{enough, print_full, print_told, prints_large, prints_listing}
+use native.Mathlib.Omega.{arith}
+use borrow.Author.Rules.{rules}
+use Rattle.listing.proofs.program.Goals as goal
+
+pub returns-then-input-le65536 : goal.returns-then-input-le65536
+returns-then-input-le65536 c =
+    rw (prints_listing c.args.input.now (omega (arith, c.if-input-le65536.true))) at (c.list.ensures.answer, (c.list.ensures.within, c.list.ensures.left))
+
+pub returns-then-too_short : goal.returns-then-too_short
+returns-then-too_short c =
+    let args = c.args in let e = print_full _ args.input.now args.out.now (sym c.too_short.ensures ∙ c.if-too_short.true) in record { answer = e.0; within = e.1.0; left = e.1.1 }
+
+pub put_refusal-requires : goal.put_refusal-requires
+put_refusal-requires c =
+    let args = c.args in
+    let room = enough args.input.now args.out.now (sym c.too_short.ensures ∙ c.if-too_short.false) in omega (arith, room)
+
+pub returns : goal.returns
+returns c =
+    let args = c.args in let tested = sym c.too_short.ensures ∙ c.if-too_short.false in let room = enough args.input.now args.out.now tested in let e = print_told _ args.input.now args.out.now tested _ _ _
+    (ap refusal_line c.of_file.ensures ∙ prints_large args.input.now (omega (arith, c.if-input-le65536.false)))
+    c.put_refusal.ensures.0
+    (omega (arith, c.put_refusal.ensures.1, room)) in record { answer = e.0; within = e.1.0; left = e.1.1 }
