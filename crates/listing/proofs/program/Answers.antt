@@ -8,7 +8,8 @@ use Rattle.listing.proofs.program.Goals as goal
 
 pub returns-then-input-le65536 : goal.returns-then-input-le65536
 returns-then-input-le65536 c =
-    rw (prints_listing c.args.input.now (omega (arith, c.if-input-le65536.true))) at (c.list.ensures.answer, (c.list.ensures.within, c.list.ensures.left))
+    let e = prints_listing c.args.input.now (omega (arith, c.if-input-le65536.true)) in
+    record { answer = rw e at c.list.ensures.answer; within = c.list.ensures.within; left = rw e at c.list.ensures.left }
 
 pub returns-then-too_short : goal.returns-then-too_short
 returns-then-too_short c =

@@ -108,5 +108,5 @@ returns-in-Bad c =
 
 pub returns-in-At : goal.returns-in-At
 returns-in-At c =
-    let e = absurd (no_string _ _ _ c.args.row.now _ (read (goal.at.returns-in-At c).In-Is) _ (plain (goal.at.returns-in-At c).In-Is) _
-    (sym c.between-w.ensures ∙ c.in-At.is)) in record { answer = e.0; row = e.1 }
+    absurd (no_string _ _ _ c.args.row.now _ (read (goal.at.returns-in-At c).In-Is) _ (plain (goal.at.returns-in-At c).In-Is) _
+    (sym c.between-w.ensures ∙ c.in-At.is))

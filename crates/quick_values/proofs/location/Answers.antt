@@ -8,20 +8,23 @@ use Rattle.location.specs.declared.LocationAnswer.TheVariants as location
 use Rattle.quick.specs.Quick.{quick_find, quick_location}
 use Rattle.quick.specs.QuickLaws.{find_lent, read_told}
 use borrow.Author.Rules.{rules}
-use Rattle.quick_values.proofs.location.Statement.{statement}
-use Rattle.quick_values.proofs.location.Tie as tie
+use Rattle.quick_values.proofs.location.Goals as goal
 
-pub location-spec : {M : Type 1} → statement M
+pub find-requires : goal.find-requires
 unfolding quick_location
-location-spec =
-    tie.close
-    (tie.spec
-    (λ c κs. search rules)
-    (λ c κs. rw c.find.ensures (find_lent _ _ _ _))
-    (λ c.
-    let start = c.before.before.before.before in
-    let args = start.args in
-    c.location-of.ensures
+find-requires c =
+    search rules
+
+pub location_of-requires : goal.location_of-requires
+unfolding quick_location
+location_of-requires c =
+    rw c.find.ensures (find_lent _ _ _ _)
+
+pub returns : goal.returns
+unfolding quick_location
+returns c =
+    let args = c.args in
+    c.location_of.ensures
     ∙ read_told location.Refused location_of _ _ _ _ _
-    (handed w32 (λ (z : ℤ). quick_find args.buffer.now args.n z args.key.now) args.trace start.ranges.trace.sfits
-    c.before.find.ensures)))
+    (handed w32 (λ (z : ℤ). quick_find args.buffer.now args.n z args.key.now) args.trace c.ranges.trace.sfits
+    c.find.ensures)

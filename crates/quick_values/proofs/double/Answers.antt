@@ -8,20 +8,23 @@ use Rattle.double.specs.declared.DoubleAnswer.TheVariants as double
 use Rattle.quick.specs.Quick.{quick_find, quick_double}
 use Rattle.quick.specs.QuickLaws.{find_lent, read_told}
 use borrow.Author.Rules.{rules}
-use Rattle.quick_values.proofs.double.Statement.{statement}
-use Rattle.quick_values.proofs.double.Tie as tie
+use Rattle.quick_values.proofs.double.Goals as goal
 
-pub double-spec : {M : Type 1} → statement M
+pub find-requires : goal.find-requires
 unfolding quick_double
-double-spec =
-    tie.close
-    (tie.spec
-    (λ c κs. search rules)
-    (λ c κs. rw c.find.ensures (find_lent _ _ _ _))
-    (λ c.
-    let start = c.before.before.before.before in
-    let args = start.args in
-    c.double-of.ensures
+find-requires c =
+    search rules
+
+pub double_of-requires : goal.double_of-requires
+unfolding quick_double
+double_of-requires c =
+    rw c.find.ensures (find_lent _ _ _ _)
+
+pub returns : goal.returns
+unfolding quick_double
+returns c =
+    let args = c.args in
+    c.double_of.ensures
     ∙ read_told double.Refused double_of _ _ _ _ _
-    (handed w32 (λ (z : ℤ). quick_find args.buffer.now args.n z args.key.now) args.trace start.ranges.trace.sfits
-    c.before.find.ensures)))
+    (handed w32 (λ (z : ℤ). quick_find args.buffer.now args.n z args.key.now) args.trace c.ranges.trace.sfits
+    c.find.ensures)

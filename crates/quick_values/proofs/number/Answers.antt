@@ -8,20 +8,23 @@ use Rattle.decimal_parts.specs.declared.NumberAnswer.TheVariants as number
 use Rattle.quick.specs.Quick.{quick_find, quick_number}
 use Rattle.quick.specs.QuickLaws.{find_lent, read_told}
 use borrow.Author.Rules.{rules}
-use Rattle.quick_values.proofs.number.Statement.{statement}
-use Rattle.quick_values.proofs.number.Tie as tie
+use Rattle.quick_values.proofs.number.Goals as goal
 
-pub number-spec : {M : Type 1} → statement M
+pub find-requires : goal.find-requires
 unfolding quick_number
-number-spec =
-    tie.close
-    (tie.spec
-    (λ c κs. search rules)
-    (λ c κs. rw c.find.ensures (find_lent _ _ _ _))
-    (λ c.
-    let start = c.before.before.before.before in
-    let args = start.args in
-    c.number_of_lem.ensures
+find-requires c =
+    search rules
+
+pub number_of-requires : goal.number_of-requires
+unfolding quick_number
+number_of-requires c =
+    rw c.find.ensures (find_lent _ _ _ _)
+
+pub returns : goal.returns
+unfolding quick_number
+returns c =
+    let args = c.args in
+    c.number_of.ensures
     ∙ read_told number.Refused number_in _ _ _ _ _
-    (handed w32 (λ (z : ℤ). quick_find args.buffer.now args.n z args.key.now) args.trace start.ranges.trace.sfits
-    c.before.find.ensures)))
+    (handed w32 (λ (z : ℤ). quick_find args.buffer.now args.n z args.key.now) args.trace c.ranges.trace.sfits
+    c.find.ensures)

@@ -1,0 +1,12 @@
+-- `call_values::double` meets its contract. The answer of the function below it, as it crosses. Assumes nothing.
+use mathlib.Core.Path.{ap, ◌∙◌}
+use mir.Syntax.{w32}
+use mir.Facts.{to_z-of_z}
+use Rattle.face_values.specs.FaceValues.{as_double}
+use borrow.Author.Rules.{rules}
+use Rattle.call_values.proofs.double.Goals as goal
+
+pub returns : goal.returns
+returns c =
+    c.double_told.ensures ∙ ap as_double (rw (to_z-of_z {w = w32} c.ranges.part) at
+    c.double.ensures)

@@ -1,0 +1,11 @@
+-- `call_values::location` meets its contract. The answer of the function below it, as it crosses. Assumes nothing.
+use mathlib.Core.Path.{ap, ◌∙◌}
+use mir.Syntax.{w32}
+use mir.Facts.{to_z-of_z}
+use Rattle.face_values.specs.FaceValues.{as_location}
+use borrow.Author.Rules.{rules}
+use Rattle.call_values.proofs.location.Goals as goal
+
+pub returns : goal.returns
+returns c =
+    c.location_told.ensures ∙ ap as_location (rw (to_z-of_z {w = w32} c.ranges.part) at c.location.ensures)
