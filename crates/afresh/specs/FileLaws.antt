@@ -1,7 +1,7 @@
 -- How long the pieces of that file are, what one trace more adds to each, and what stands in its first 32 bytes.
 -- Assumes nothing.
 use Rattle.std.specs.Prelude.{◌≡◌, refl, Bool, true, false, List, [], ◌∷◌, ◌++◌, ℕ, zero, suc, ◌+◌, ◌-◌, ◌*◌, ◌%◌, ◌≤◌, ◌<◌, length, get_or, replicate}
-use Rattle.std.proofs.Common.{sym, ap, ap₂, ◌∙◌, append-nil, append_assoc, inl, inr, ⊎_elim, arith, length-append}
+use Rattle.std.proofs.Common.{sym, ap, ap₂, ◌∙◌, append-nil, append_assoc, subst, inl, inr, ⊎_elim, arith, length-append}
 use Rattle.std.proofs.lemmas.List.{length-replicate}
 use Rattle.word.specs.Word.{bytes_of}
 use Rattle.word.specs.WordLaws.{length_bytes_of}
@@ -39,7 +39,7 @@ pub length_pointers : (high : Bool) (at : ℕ) (ts : List Trace) → length (poi
 unfolding pointers
 length_pointers high at [] = refl
 length_pointers high at (x ∷ ts) = length-append (bytes_of 4 high at) _
-    ∙ ap₂ (λ (i j : ℕ). i + j) (length_bytes_of 4 high at) (length_pointers high _ ts) ∙ omega arith
+    ∙ ap₂ (λ (i j : ℕ). i + j) (length_bytes_of 4 high at) (length_pointers high (at + trace_size nul line_feed x) ts) ∙ omega arith
 
 pub length_blocks : (high : Bool) (ts : List Trace) → EachGood ts → length (blocks high ts) ≡ sizes ts
 unfolding blocks sizes
@@ -152,7 +152,9 @@ has_split w (x ∷ ts) rest h = let i = has_split w ts rest h.1 in ((h.0, i.0), 
 
 -- a list whose first trace is told: the others are as it
 pub together_first : (x : Trace) (ts : List Trace) → Together (x ∷ ts) → EachHas (has_channel x) (x ∷ ts)
-together_first x ts t = ⊎_elim (λ h. rw h.0 (refl, h.1)) (λ h. rw h.0 (refl, h.1)) t
+together_first x ts t =
+    let each : Bool → Type 0 = λ w. EachHas w (x ∷ ts) in
+    ⊎_elim (λ h. subst each (sym h.0) h) (λ h. subst each (sym h.0) h) t
 
 pub first_together : (w : Bool) (ts : List Trace) → EachHas w ts → Together ts
 first_together true ts h = inl h

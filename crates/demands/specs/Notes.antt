@@ -25,8 +25,11 @@ rising_good t u prev (s ∷ ss) zero r l = r.0
 rising_good t u prev (s ∷ ss) (suc i) r l = rising_good t u s.key ss i r.2 (omega arith)
 
 spelled_good : {high : Bool} {t u l : List ℕ} (ss : List Str) (i : ℕ) → Spells Strict high t u ss l → i < length ss → GoodString Strict t u (nth_str ss i)
-spelled_good ss i empty l = absurd (omega arith)
-spelled_good {t = t} {u = u} ss i (full rest r) l = rising_good t u [] ss i r l
+spelled_good {high = high} {t = t} {u = u} ss i given low = go ss _ given low
+  where
+    go : (ss : List Str) (l : List ℕ) → Spells Strict high t u ss l → i < length ss → GoodString Strict t u (nth_str ss i)
+    go ss l empty low = absurd (omega arith)
+    go ss l (full rest r) low = rising_good t u [] ss i r low
 
 -- Rules out a reading of a NOTE that gives one line which holds everything, loses a line or an empty one, or cuts a
 -- line in two.

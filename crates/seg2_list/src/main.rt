@@ -1,11 +1,15 @@
 // The listing program: one file from standard input, its listing to standard output (document 01, the end of
-// "Worked values"). It reads one byte more than 65,536, so that row 19 is seen. The work is in `listing::program`.
+// "Worked values"). It reads one byte more than 65,536, so that row 19 is seen. The work is in `listing::program`. A read or a
+// write that fails ends it with that error.
 // The rules in words: docs/FORMAT.md, "Worked values".
 #![tactic(auto)]
 
 ghost use Rattle.std.specs.Prelude.{◌≡◌, length};
+ghost use Rattle.std.specs.Io.{ReadsAtMost};
 
 use listing::Listed;
+use std::io;
+use std::io::{Read, Write};
 
 // Room for the input. The `ensures` gives only the length, which lending the array as a slice needs.
 fn input_row() -> [u8; 65537]
@@ -19,22 +23,38 @@ fn listing_row() -> [u8; 1048656] {
     [0; 1048656]
 }
 
+// Fills the row from its start until it is full or the input ends, and says how many bytes came.
+fn read_full<R: Read>(from: &mut R, row: &mut [u8]) -> io::Result<usize>
+    ensures { ReadsAtMost result row.new }
+{
+    let mut done = 0;
+    while done < row.len() {
+        let n = from.read(&mut row[done..])?;
+        if n == 0 {
+            break;
+        }
+        done += n;
+    }
+    Ok(done)
+}
+
 // What was read, listed.
-fn print(input: &[u8], out: &mut [u8]) {
+fn print<W: Write>(to: &mut W, input: &[u8], out: &mut [u8]) -> io::Result<()> {
     let answer = listing::program(input, out);
     if let Listed::To(n) = answer {
-        io::write_all(1, &out[..n]);
+        to.write_all(&out[..n])?;
     }
+    Ok(())
 }
 
 // The same into an array, whose length its type tells.
-fn print_in(input: &[u8], row: &mut [u8; 1048656]) {
-    print(input, row);
+fn print_in<W: Write>(to: &mut W, input: &[u8], row: &mut [u8; 1048656]) -> io::Result<()> {
+    print(to, input, row)
 }
 
-fn main() {
+fn main(rt: HostRuntime) -> io::Result<()> {
     let mut input = input_row();
-    let n = io::read_full(0, &mut input);
+    let n = read_full(&mut rt.stdin(), &mut input)?;
     let mut out = listing_row();
-    print_in(&input[..n], &mut out);
+    print_in(&mut rt.stdout(), &input[..n], &mut out)
 }

@@ -4,7 +4,6 @@ use mathlib.Core.Path.{sym}
 use lib.Seq.{length-take-le}
 use native.Mathlib.Omega.{arith}
 use Rattle.append.specs.GrownLaws.{small, told, head_room, front_put}
-use borrow.Author.Rules.{rules}
 use Rattle.append.proofs.begin.Goals as goal
 
 pub overflow_cast-s : goal.overflow_cast-s

@@ -1,7 +1,6 @@
 -- `append::register` meets its contract. Two stores: the slot and N. Assumes nothing.
 use native.Mathlib.Omega.{arith}
 use Rattle.append.specs.GrownLaws.{block_count, register_put}
-use borrow.Author.Rules.{rules}
 use Rattle.append.proofs.register.Goals as goal
 
 pub put4-requires : goal.put4-requires

@@ -3,7 +3,6 @@ use mathlib.Core.Path.{refl}
 use Rattle.word.specs.Put.{length_put}
 use Rattle.sheet_texts.specs.Texts.{texts_room}
 use Rattle.area.specs.Writing.{area_written}
-use borrow.Author.Rules.{rules}
 use native.Mathlib.Omega.{arith}
 use Rattle.area.proofs.write_area.Goals as goal
 

@@ -1,7 +1,5 @@
 -- `bit_rows::bits` meets its contract. A law for each answer, with the tests as premises. Assumes nothing.
 use mathlib.Core.Path.{sym, ◌∙◌}
-use borrow.Author.Tests.{not-true, not-false}
-use borrow.Author.Rules.{rules}
 use Rattle.sample_rows.specs.Ended.{bits_kind, bits_long, classes_long, bits_done}
 use Rattle.bit_rows.proofs.bits.Goals as goal
 

@@ -1,5 +1,4 @@
 -- `bit_rows::is_bits` meets its contract. No other code is one of bits. Assumes nothing.
-use borrow.Author.Rules.{rules}
 use Rattle.reader.specs.Leaves.{bits_none}
 use Rattle.bit_rows.proofs.is_bits.Goals as goal
 

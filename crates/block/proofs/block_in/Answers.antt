@@ -1,6 +1,5 @@
 -- `block::block_in` meets its contract. Assumes nothing.
 use Rattle.block.specs.Block.{block_size_of, data_size_of, sample_count_of, format_code_of, block_in}
-use borrow.Author.Rules.{rules}
 use Rattle.block.proofs.block_in.Goals as goal
 
 pub returns : goal.returns

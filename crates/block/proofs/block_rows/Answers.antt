@@ -4,7 +4,6 @@ use borrow.Author.Tests.{eq-eqb, ne_eqb}
 use Rattle.block.specs.Block.{mark_at, block_of, block_answer}
 use Rattle.block.specs.BlockLaws.{block_size, block_data, block_samples, block_code}
 use Rattle.block.specs.declared.TraceAnswer.TheVariants as trace
-use borrow.Author.Rules.{rules}
 use Rattle.block.proofs.block_rows.Goals as goal
 
 pub returns-then-mark-ne17442 : goal.returns-then-mark-ne17442

@@ -1,6 +1,5 @@
 -- `block::pointer` meets its contract. Assumes nothing.
 use Rattle.block.specs.Block.{pointer_of}
-use borrow.Author.Rules.{rules}
 use Rattle.block.proofs.pointer.Goals as goal
 
 pub returns : goal.returns

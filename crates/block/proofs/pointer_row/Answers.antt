@@ -1,7 +1,6 @@
 -- `block::pointer_row` meets its contract. Assumes nothing.
 use mathlib.Core.Path.{sym, ◌∙◌}
 use Rattle.block.specs.Block.{pointer_row}
-use borrow.Author.Rules.{rules}
 use Rattle.block.proofs.pointer_row.Goals as goal
 
 pub returns-then-is_bad_pointer : goal.returns-then-is_bad_pointer

@@ -1,7 +1,6 @@
 -- `block::trace_block` meets its contract. Assumes nothing.
 use mathlib.Core.Path.{◌∙◌}
 use Rattle.block.specs.BlockLaws.{own_block}
-use borrow.Author.Rules.{rules}
 use Rattle.block.proofs.trace_block.Goals as goal
 
 pub returns : goal.returns

@@ -1,7 +1,6 @@
 -- `call_blocks::check` meets its contract. The answer of the function below it, as it crosses. Assumes nothing.
 use mathlib.Core.Path.{ap, ◌∙◌}
 use Rattle.face.specs.Face.{as_verdict}
-use borrow.Author.Rules.{rules}
 use Rattle.call_blocks.proofs.check.Goals as goal
 
 pub returns : goal.returns

@@ -3,7 +3,6 @@ use mathlib.Core.Path.{ap₂, ◌∙◌}
 use mir.Syntax.{w32}
 use mir.Facts.{to_z-of_z}
 use Rattle.face_lenient.specs.FaceLenient.{lenient_keyword}
-use borrow.Author.Rules.{rules}
 use Rattle.call_lenient_strings.proofs.keyword.Goals as goal
 
 pub returns : goal.returns

@@ -1,7 +1,6 @@
 -- `call_numbers::read_number` meets its contract. The answer of the function below it, as it crosses. Assumes nothing.
 use mathlib.Core.Path.{ap, ◌∙◌}
 use Rattle.face_values.specs.FaceValues.{as_number}
-use borrow.Author.Rules.{rules}
 use Rattle.call_numbers.proofs.read_number.Goals as goal
 
 pub returns : goal.returns

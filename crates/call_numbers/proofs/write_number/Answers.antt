@@ -4,7 +4,6 @@ use mathlib.Core.Path.{ap, ◌∙◌}
 use mir.Syntax.{w32}
 use mir.Facts.{to_z-of_z}
 use Rattle.face.specs.Face.{as_length}
-use borrow.Author.Rules.{rules}
 use Rattle.call_numbers.proofs.write_number.Goals as goal
 
 pub returns : goal.returns

@@ -3,7 +3,6 @@ use mathlib.Core.Path.{ap, ◌∙◌}
 use mir.Syntax.{w32}
 use mir.Facts.{to_z-of_z}
 use Rattle.face.specs.Face.{as_verdict}
-use borrow.Author.Rules.{rules}
 use Rattle.call_rows.proofs.strings.Goals as goal
 
 pub returns : goal.returns

@@ -3,7 +3,6 @@ use mathlib.Core.Path.{ap, ◌∙◌}
 use mir.Syntax.{w32}
 use mir.Facts.{to_z-of_z}
 use Rattle.face_values.specs.FaceValues.{as_double}
-use borrow.Author.Rules.{rules}
 use Rattle.call_values.proofs.double.Goals as goal
 
 pub returns : goal.returns

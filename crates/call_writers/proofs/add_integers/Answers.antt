@@ -1,7 +1,6 @@
 -- `call_writers::add_integers` meets its contract. The answer of the function below it, as it crosses. Assumes nothing.
 use mathlib.Core.Path.{ap, ◌∙◌}
 use Rattle.face.specs.Face.{as_length}
-use borrow.Author.Rules.{rules}
 use Rattle.call_writers.proofs.add_integers.Goals as goal
 
 pub returns : goal.returns

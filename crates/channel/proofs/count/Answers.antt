@@ -1,10 +1,8 @@
 -- `channel::count` meets its contract: a law for each answer. Assumes nothing.
 use native.Mathlib.Omega.{arith}
 use mathlib.Core.Path.{sym, ◌∙◌}
-use borrow.Author.Tests.{not-true, not-false}
 use Rattle.digits.specs.Value.{room_none}
 use Rattle.channel.specs.Count.{count_long, count_other, count_over, count_is}
-use borrow.Author.Rules.{rules}
 use Rattle.channel.proofs.count.Goals as goal
 
 pub returns-then-text-gt18 : goal.returns-then-text-gt18

@@ -1,7 +1,5 @@
 -- `channel::is_bad` meets its contract: a law for each answer. Assumes nothing.
-use borrow.Author.Tests.{not-true, not-false}
 use Rattle.channel.specs.Channel.{channel_none, channel_alone, channel_judged}
-use borrow.Author.Rules.{rules}
 use Rattle.channel.proofs.is_bad.Goals as goal
 
 pub returns-then-not-has : goal.returns-then-not-has

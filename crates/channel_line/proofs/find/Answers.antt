@@ -2,10 +2,7 @@
 -- nothing.
 use mathlib.Core.Path.{sym, ◌∙◌}
 use Prim.Native.Nat.{◌-◌}
-use lib.ListN.{length}
-use Rattle.channel.specs.Channel.{channel_number}
-use Rattle.channel_line.specs.Finding.{Walked, walk_start, walk_turn, walk_found, walk_over, line_ends}
-use borrow.Author.Rules.{rules}
+use Rattle.channel_line.specs.Finding.{walk_start, walk_turn, walk_found, walk_over, line_ends}
 use native.Mathlib.Omega.{arith}
 use Rattle.channel_line.proofs.find.Goals as goal
 

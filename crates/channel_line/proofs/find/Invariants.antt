@@ -1,10 +1,7 @@
-use mathlib.Core.Path.{sym, ◌∙◌}
 use Prim.Native.Nat.{◌-◌}
 use lib.ListN.{length}
 use Rattle.channel.specs.Channel.{channel_number}
-use Rattle.channel_line.specs.Finding.{Walked, walk_start, walk_turn, walk_found, walk_over, line_ends}
-use borrow.Author.Rules.{rules}
-use native.Mathlib.Omega.{arith}
+use Rattle.channel_line.specs.Finding.{Walked}
 use Rattle.channel_line.proofs.find.Given as goal
 
 abbrev pub invariant-loop-at : goal.invariant-loop-at

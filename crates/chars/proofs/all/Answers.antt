@@ -1,10 +1,8 @@
 -- `chars::all` meets its contract. The invariant: what was found before, and all from here on, is all. Assumes nothing.
-use mathlib.Core.Path.{◌≡◌, refl, ◌∙◌}
-use mathlib.Core.Bool.{◌&&◌}
-use Prim.Native.Nat.{◌≤◌, ◌-◌}
-use lib.ListN.{length, drop}
+use mathlib.Core.Path.{refl, ◌∙◌}
+use Prim.Native.Nat.{◌-◌}
 use Rattle.chars.specs.Chars.{is_of}
-use Rattle.chars.specs.Runs.{all, all_turn, all_through}
+use Rattle.chars.specs.Runs.{all_turn, all_through}
 use borrow.Author.Rules.{rules}
 use Rattle.chars.proofs.all.Goals as goal
 

@@ -2,7 +2,6 @@
 use mathlib.Core.Path.{sym, ◌∙◌}
 use Rattle.chars.specs.Chars.{printed, value_char, printed_value}
 use Rattle.chars.specs.Runs.{all_weaker}
-use borrow.Author.Rules.{rules}
 use Rattle.chars.proofs.all_value.Goals as goal
 
 pub returns-then-all : goal.returns-then-all

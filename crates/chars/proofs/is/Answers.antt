@@ -1,5 +1,4 @@
 -- `chars::is` meets its contract: each arm has its own kind. Assumes nothing.
-use borrow.Author.Rules.{rules}
 use Rattle.chars.proofs.is.Goals as goal
 
 pub returns-in-Blank : goal.returns-in-Blank

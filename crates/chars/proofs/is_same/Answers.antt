@@ -1,9 +1,7 @@
 -- `chars::is_same` meets its contract. The invariant: what is left compares as the whole does. Assumes nothing.
-use mathlib.Core.Path.{◌≡◌, refl, ◌∙◌}
-use Prim.Native.Nat.{◌≤◌, ◌-◌}
-use lib.ListN.{length, drop}
+use mathlib.Core.Path.{refl, ◌∙◌}
+use Prim.Native.Nat.{◌-◌}
 use borrow.Author.Tests.{eq-eqb, ne_eqb}
-use Rattle.chars.specs.Runs.{same}
 use Rattle.chars.specs.Runs.{same_short, same_apart, same_next, same_longer, same_ended}
 use borrow.Author.Rules.{rules}
 use Rattle.chars.proofs.is_same.Goals as goal

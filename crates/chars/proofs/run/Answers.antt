@@ -1,10 +1,8 @@
 -- `chars::run` meets its contract. The invariant: the run from here and the bytes passed make the run from the start.
 -- Assumes nothing.
-use mathlib.Core.Path.{◌≡◌, sym, ◌∙◌}
-use Prim.Native.Nat.{◌≤◌, ◌+◌, ◌-◌}
-use lib.ListN.{length, drop}
-use Rattle.chars.specs.Chars.{is_of}
-use Rattle.chars.specs.Runs.{run, run_more, run_end, run_none}
+use mathlib.Core.Path.{sym, ◌∙◌}
+use Prim.Native.Nat.{◌-◌}
+use Rattle.chars.specs.Runs.{run_more, run_end, run_none}
 use borrow.Author.Rules.{rules}
 use native.Mathlib.Omega.{arith}
 use Rattle.chars.proofs.run.Goals as goal

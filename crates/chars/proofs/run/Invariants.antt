@@ -1,10 +1,8 @@
-use mathlib.Core.Path.{◌≡◌, sym, ◌∙◌}
+use mathlib.Core.Path.{◌≡◌}
 use Prim.Native.Nat.{◌≤◌, ◌+◌, ◌-◌}
 use lib.ListN.{length, drop}
 use Rattle.chars.specs.Chars.{is_of}
-use Rattle.chars.specs.Runs.{run, run_more, run_end, run_none}
-use borrow.Author.Rules.{rules}
-use native.Mathlib.Omega.{arith}
+use Rattle.chars.specs.Runs.{run}
 use Rattle.chars.proofs.run.Given as goal
 
 abbrev pub invariant-loop-i : goal.invariant-loop-i

@@ -1,7 +1,6 @@
 -- `decimal::number` meets its contract: a law for each answer, with what was found on the way. Assumes nothing.
 use mathlib.Core.Path.{◌∙◌}
 use Rattle.decimal.specs.Number.{no_digit, no_decimal, to_tail}
-use borrow.Author.Rules.{rules}
 use Rattle.decimal.proofs.number.Goals as goal
 
 pub returns-then-n-eq0 : goal.returns-then-n-eq0

@@ -2,7 +2,6 @@
 use mathlib.Core.Path.{◌∙◌}
 use native.Mathlib.Omega.{arith}
 use Rattle.decimal.specs.Number.{no_e, no_exponent, more_behind, tail_judged}
-use borrow.Author.Rules.{rules}
 use Rattle.decimal.proofs.tail.Goals as goal
 
 pub returns-then-x-e : goal.returns-then-x-e

@@ -3,7 +3,6 @@ use mathlib.Core.Path.{ap, ◌∙◌}
 use native.Mathlib.Omega.{arith}
 use Rattle.decimal_parts.specs.declared.NumberAnswer.TheVariants.{Is}
 use Rattle.decimal_parts.specs.Answer.{long_before, long_after, within}
-use borrow.Author.Rules.{rules}
 use Rattle.decimal_parts.proofs.judged.Goals as goal
 
 pub returns-then-whole-gt18 : goal.returns-then-whole-gt18

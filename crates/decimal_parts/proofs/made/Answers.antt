@@ -4,7 +4,6 @@ use Prim.Native.Nat.{◌<◌}
 use native.Mathlib.Omega.{arith}
 use mir.Syntax.{w32}
 use Rattle.word.specs.Signed.{kept}
-use borrow.Author.Rules.{rules}
 use Rattle.decimal_parts.specs.Answer.{decimal_of}
 use Rattle.digits.specs.Value.{room_none, room_behind, two_digits}
 use Rattle.decimal_parts.proofs.made.Goals as goal

@@ -2,7 +2,6 @@
 use mathlib.Core.Path.{◌∙◌}
 use mir.Syntax.{w32}
 use Rattle.word.specs.Signed.{kept}
-use borrow.Author.Rules.{rules}
 use Rattle.decimal_power.specs.Power.{power_down, power_less, power_more}
 use Rattle.decimal_power.proofs.power.Goals as goal
 

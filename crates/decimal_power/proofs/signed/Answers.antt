@@ -1,6 +1,5 @@
 -- `decimal_power::signed` meets its contract. Assumes nothing.
 use Rattle.word.specs.Signed.{negates, negated}
-use borrow.Author.Rules.{rules}
 use mir.Syntax.{w32}
 use mir.Facts.{to_z_pos}
 use Rattle.decimal_power.proofs.signed.Goals as goal

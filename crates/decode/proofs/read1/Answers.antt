@@ -3,13 +3,11 @@
 use mathlib.Core.Path.{refl, ◌∙◌}
 use Prim.Native.Nat.{◌-◌}
 use native.Mathlib.Omega.{arith}
-use lib.ListN.{length}
 use borrow.Author.Rules.{rules}
 use mir.Syntax.{w32}
 use Rattle.word.specs.Signed.{kept}
 use Rattle.sample.specs.Needed.{needed}
-use Rattle.sample.specs.Run.{Filling, fill_start, fill_one, fill_end}
-use Rattle.decode.specs.Sample.{sample_of}
+use Rattle.sample.specs.Run.{fill_start, fill_one, fill_end}
 use Rattle.decode.specs.SampleLaws.{too_short, there, nothing_read, all_read}
 use Rattle.decode.proofs.read1.Goals as goal
 

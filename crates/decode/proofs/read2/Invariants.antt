@@ -1,14 +1,7 @@
-use mathlib.Core.Path.{refl, ◌∙◌}
 use Prim.Native.Nat.{◌-◌}
-use native.Mathlib.Omega.{arith}
 use lib.ListN.{length}
-use borrow.Author.Rules.{rules}
-use mir.Syntax.{w32}
-use Rattle.word.specs.Signed.{kept}
-use Rattle.sample.specs.Needed.{needed}
-use Rattle.sample.specs.Run.{Filling, fill_start, fill_one, fill_end}
+use Rattle.sample.specs.Run.{Filling}
 use Rattle.decode.specs.Sample.{sample_of}
-use Rattle.decode.specs.SampleLaws.{too_short, there, nothing_read, all_read}
 use Rattle.decode.proofs.read2.Given as goal
 
 abbrev pub invariant-loop-i : goal.invariant-loop-i

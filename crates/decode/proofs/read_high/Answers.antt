@@ -1,13 +1,10 @@
 -- `decode::read_high` meets its contract. The invariant is that of a row of which 4 * g places are filled. Assumes
 -- nothing.
-use mathlib.Core.Bool.{true}
-use Prim.Native.Nat.{◌-◌, ◌*◌, ◌/◌}
+use Prim.Native.Nat.{◌-◌}
 use native.Mathlib.Omega.{arith}
-use lib.ListN.{length}
 use borrow.Author.Rules.{rules}
 use Rattle.sample.specs.Needed.{needed}
-use Rattle.sample.specs.Run.{Filling, fill_start, fill_end}
-use Rattle.decode.specs.Sample.{sample_of}
+use Rattle.sample.specs.Run.{fill_start, fill_end}
 use Rattle.decode.specs.SampleLaws.{fill_group}
 use Rattle.decode.proofs.read_high.Goals as goal
 

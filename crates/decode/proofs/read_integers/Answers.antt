@@ -1,6 +1,5 @@
 -- `decode::read_integers` meets its contract. Each arm is the decoder of its code; no other code is one of integers.
 -- Assumes nothing.
-use borrow.Author.Rules.{rules}
 use Rattle.decode.specs.SampleLaws.{no_integers, nothing_read}
 use Rattle.decode.proofs.read_integers.Goals as goal
 

@@ -1,12 +1,8 @@
 use mathlib.Core.Bool.{false}
 use Prim.Native.Nat.{◌-◌, ◌*◌, ◌/◌}
-use native.Mathlib.Omega.{arith}
 use lib.ListN.{length}
-use borrow.Author.Rules.{rules}
-use Rattle.sample.specs.Needed.{needed}
-use Rattle.sample.specs.Run.{Filling, fill_start, fill_end}
+use Rattle.sample.specs.Run.{Filling}
 use Rattle.decode.specs.Sample.{sample_of}
-use Rattle.decode.specs.SampleLaws.{fill_group}
 use Rattle.decode.proofs.read_low.Given as goal
 
 abbrev pub invariant-loop-g : goal.invariant-loop-g

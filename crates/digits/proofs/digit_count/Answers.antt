@@ -1,11 +1,9 @@
 -- `digits::digit_count` meets its contract: those that are counted, and those of what is left, are one more than all.
 -- Assumes nothing.
 use mathlib.Core.Path.{refl}
-use Prim.Native.Nat.{◌≤◌}
 use native.Mathlib.Omega.{arith}
-use lib.ListN.{length}
-use Rattle.digits.specs.Digits.{digits, digits_some}
-use Rattle.digits.specs.LastDigits.{Counting, counting_turn, counting_over, at_most_twenty}
+use Rattle.digits.specs.Digits.{digits_some}
+use Rattle.digits.specs.LastDigits.{counting_turn, counting_over, at_most_twenty}
 use Rattle.digits.proofs.digit_count.Goals as goal
 
 pub loop-left-init : goal.loop-left-init

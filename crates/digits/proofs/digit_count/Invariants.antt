@@ -1,9 +1,7 @@
-use mathlib.Core.Path.{refl}
 use Prim.Native.Nat.{◌≤◌}
-use native.Mathlib.Omega.{arith}
 use lib.ListN.{length}
-use Rattle.digits.specs.Digits.{digits, digits_some}
-use Rattle.digits.specs.LastDigits.{Counting, counting_turn, counting_over, at_most_twenty}
+use Rattle.digits.specs.Digits.{digits}
+use Rattle.digits.specs.LastDigits.{Counting}
 use Rattle.digits.proofs.digit_count.Given as goal
 
 abbrev pub invariant-loop-left : goal.invariant-loop-left

@@ -3,7 +3,6 @@
 use mathlib.Core.Path.{ap, ◌∙◌}
 use Prim.Native.Nat.{ℕ}
 use Rattle.digits.specs.LastDigits.{last_digits, all_last}
-use borrow.Author.Rules.{rules}
 use Rattle.digits.proofs.put_digits.Goals as goal
 
 pub put_last-requires : goal.put_last-requires

@@ -1,9 +1,8 @@
 -- `digits::put_last` meets its contract: the digits that are left, stored from here on, are all of them. Assumes
 -- nothing.
-use Prim.Native.Nat.{◌+◌, ◌≤◌}
 use native.Mathlib.Omega.{arith}
-use lib.ListN.{length, length-set}
-use Rattle.digits.specs.LastDigits.{last_length, StoringLast, last_start, last_again, last_over}
+use lib.ListN.{length-set}
+use Rattle.digits.specs.LastDigits.{last_length, last_start, last_again, last_over}
 use Rattle.digits.proofs.put_last.Goals as goal
 
 pub loop-i-init : goal.loop-i-init

@@ -1,7 +1,6 @@
 use Prim.Native.Nat.{◌+◌, ◌≤◌}
-use native.Mathlib.Omega.{arith}
-use lib.ListN.{length, length-set}
-use Rattle.digits.specs.LastDigits.{last_length, StoringLast, last_start, last_again, last_over}
+use lib.ListN.{length}
+use Rattle.digits.specs.LastDigits.{StoringLast}
 use Rattle.digits.proofs.put_last.Given as goal
 
 abbrev pub invariant-loop-i : goal.invariant-loop-i

@@ -1,13 +1,12 @@
 -- `digits::value` meets its contract. The invariant: what was read, with the digits left behind it, is the whole, and
 -- there is room for them.
 -- Assumes nothing.
-use mathlib.Core.Path.{◌≡◌, refl, sym, ◌∙◌}
+use mathlib.Core.Path.{refl, sym, ◌∙◌}
 use Prim.Native.Nat.{◌-◌}
 use native.Mathlib.Nat.{sub-zero}
 use native.Mathlib.Omega.{arith}
-use borrow.Author.Rules.{rules}
-use lib.ListN.{length, drop}
-use Rattle.digits.specs.Value.{value, Room, room_lt, room_more, value_more, value_over}
+use lib.ListN.{length}
+use Rattle.digits.specs.Value.{room_lt, room_more, value_more, value_over}
 use Rattle.digits.proofs.value.Goals as goal
 
 pub loop-i-init : goal.loop-i-init

@@ -1,10 +1,7 @@
-use mathlib.Core.Path.{◌≡◌, refl, sym, ◌∙◌}
+use mathlib.Core.Path.{◌≡◌}
 use Prim.Native.Nat.{◌-◌}
-use native.Mathlib.Nat.{sub-zero}
-use native.Mathlib.Omega.{arith}
-use borrow.Author.Rules.{rules}
 use lib.ListN.{length, drop}
-use Rattle.digits.specs.Value.{value, Room, room_lt, room_more, value_more, value_over}
+use Rattle.digits.specs.Value.{value, Room}
 use Rattle.digits.proofs.value.Given as goal
 
 abbrev pub invariant-loop-i : goal.invariant-loop-i

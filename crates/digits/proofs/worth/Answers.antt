@@ -1,7 +1,6 @@
 -- `digits::worth` meets its contract. Assumes nothing.
 use mathlib.Core.Path.{sym, ◌∙◌}
 use native.Mathlib.Omega.{arith}
-use borrow.Author.Rules.{rules}
 use Rattle.digits.specs.Value.{worth_digit, worth_other}
 use Rattle.digits.proofs.worth.Goals as goal
 

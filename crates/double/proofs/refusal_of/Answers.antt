@@ -1,5 +1,4 @@
 -- `double::refusal_of` meets its contract. Assumes nothing.
-use borrow.Author.Rules.{rules}
 use Rattle.double.proofs.refusal_of.Goals as goal
 
 pub returns-in-Is : goal.returns-in-Is

@@ -3,13 +3,13 @@ use mathlib.Core.Path.{◌≡◌, sym, ap, ◌∙◌}
 use Prim.Native.Nat.{ℕ, ◌-◌, ◌%◌}
 use native.Mathlib.Omega.{arith}
 use lib.IntN.{pos}
-use lib.ListN.{length, get_or, drop}
+use lib.ListN.{get_or}
 use borrow.Author.Rules.{rules}
 use mir.Syntax.{w32}
 use Rattle.word.specs.WordLaws.{length_bytes_of}
-use Rattle.encode.specs.Write.{residue, flat, fixed_bytes, integers_data}
+use Rattle.encode.specs.Write.{residue, fixed_bytes, integers_data}
 use Rattle.sample.specs.Needed.{needed, room}
-use Rattle.row20.specs.RowLaws.{Writing, write_start}
+use Rattle.row20.specs.RowLaws.{write_start}
 use Rattle.encode.specs.WriteLaws.{residue_low, row_turn, row_end}
 use Rattle.word.specs.Signed.{kept}
 use Rattle.encode.proofs.write1.Goals as goal

@@ -1,16 +1,7 @@
-use mathlib.Core.Path.{◌≡◌, sym, ap, ◌∙◌}
-use Prim.Native.Nat.{ℕ, ◌-◌, ◌%◌}
-use native.Mathlib.Omega.{arith}
-use lib.IntN.{pos}
-use lib.ListN.{length, get_or, drop}
-use borrow.Author.Rules.{rules}
-use mir.Syntax.{w32}
-use Rattle.word.specs.WordLaws.{length_bytes_of}
-use Rattle.encode.specs.Write.{residue, flat, fixed_bytes, integers_data}
-use Rattle.sample.specs.Needed.{needed, room}
-use Rattle.row20.specs.RowLaws.{Writing, write_start}
-use Rattle.encode.specs.WriteLaws.{residue_low, row_turn, row_end}
-use Rattle.word.specs.Signed.{kept}
+use Prim.Native.Nat.{ℕ, ◌-◌}
+use lib.ListN.{length, drop}
+use Rattle.encode.specs.Write.{flat, fixed_bytes}
+use Rattle.row20.specs.RowLaws.{Writing}
 use Rattle.encode.proofs.write1.Given as goal
 
 abbrev pub invariant-loop-i : goal.invariant-loop-i

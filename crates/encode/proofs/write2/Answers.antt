@@ -1,15 +1,15 @@
 -- `encode::write2` meets its contract. The invariant: what is left to write, written, makes the whole. Assumes nothing.
 use mathlib.Core.Path.{◌≡◌, ap, ◌∙◌}
-use Prim.Native.Nat.{ℕ, ◌-◌}
+use Prim.Native.Nat.{◌-◌}
 use native.Mathlib.Omega.{arith}
 use lib.IntN.{pos}
-use lib.ListN.{length, get_or, drop}
+use lib.ListN.{get_or}
 use borrow.Author.Rules.{rules}
 use mir.Syntax.{w32}
 use Rattle.word.specs.WordLaws.{length_bytes_of}
-use Rattle.encode.specs.Write.{residue, flat, fixed_bytes, integers_data}
+use Rattle.encode.specs.Write.{residue, fixed_bytes, integers_data}
 use Rattle.sample.specs.Needed.{needed, room}
-use Rattle.row20.specs.RowLaws.{Writing, write_start}
+use Rattle.row20.specs.RowLaws.{write_start}
 use Rattle.encode.specs.WriteLaws.{row_turn, row_end}
 use Rattle.word.specs.Signed.{kept}
 use Rattle.encode.proofs.write2.Goals as goal

@@ -1,14 +1,13 @@
 -- `encode::write5` meets its contract. The invariant: what is left to write, written, makes the whole. Assumes nothing.
 use mathlib.Core.Path.{◌∙◌}
-use Prim.Native.Nat.{ℕ, ◌-◌}
+use Prim.Native.Nat.{◌-◌}
 use native.Mathlib.Omega.{arith}
-use lib.ListN.{length, drop}
 use borrow.Author.Rules.{rules}
 use Rattle.word.specs.Word.{bytes_of}
 use Rattle.word.specs.WordLaws.{length_bytes_of}
 use Rattle.sample.specs.Needed.{needed, room}
-use Rattle.encode.specs.Write.{flat, bits_data}
-use Rattle.row20.specs.RowLaws.{Writing, write_start}
+use Rattle.encode.specs.Write.{bits_data}
+use Rattle.row20.specs.RowLaws.{write_start}
 use Rattle.encode.specs.WriteLaws.{row_turn, row_end}
 use Rattle.encode.proofs.write5.Goals as goal
 

@@ -1,14 +1,8 @@
-use mathlib.Core.Path.{◌∙◌}
 use Prim.Native.Nat.{ℕ, ◌-◌}
-use native.Mathlib.Omega.{arith}
 use lib.ListN.{length, drop}
-use borrow.Author.Rules.{rules}
 use Rattle.word.specs.Word.{bytes_of}
-use Rattle.word.specs.WordLaws.{length_bytes_of}
-use Rattle.sample.specs.Needed.{needed, room}
-use Rattle.encode.specs.Write.{flat, bits_data}
-use Rattle.row20.specs.RowLaws.{Writing, write_start}
-use Rattle.encode.specs.WriteLaws.{row_turn, row_end}
+use Rattle.encode.specs.Write.{flat}
+use Rattle.row20.specs.RowLaws.{Writing}
 use Rattle.encode.proofs.write5.Given as goal
 
 abbrev pub invariant-loop-i : goal.invariant-loop-i

@@ -1,5 +1,4 @@
 -- `entry::fitted` meets its contract. A sample that does not fit is row 29 at its index. Assumes nothing.
-use borrow.Author.Rules.{rules}
 use Rattle.entry.proofs.fitted.Goals as goal
 
 pub returns-in-At : goal.returns-in-At

@@ -2,7 +2,6 @@
 use Rattle.file_lines.specs.Told.{ends_good, line_some, trace_slot, trace_area, trace_first, trace_second}
 use Rattle.file_lines.specs.Told.{trace_both}
 use native.Mathlib.Omega.{arith}
-use borrow.Author.Rules.{rules}
 use Rattle.file_lines.proofs.put_trace.Goals as goal
 
 pub is_high-high-requires : goal.is_high-high-requires

@@ -1,7 +1,5 @@
 use Prim.Native.Nat.{◌-◌}
-use Rattle.file_lines.specs.Walks.{Tracing, tracing_start, tracing_over, tracing_room, tracing_turn}
-use borrow.Author.Rules.{rules}
-use native.Mathlib.Omega.{arith}
+use Rattle.file_lines.specs.Walks.{Tracing}
 use Rattle.file_lines.proofs.put_traces.Given as goal
 
 abbrev pub invariant-loop-k : goal.invariant-loop-k

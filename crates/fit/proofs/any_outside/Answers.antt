@@ -1,11 +1,10 @@
 -- `fit::any_outside` meets its contract. The invariant: what was found before, or any from here on, is any. Assumes
 -- nothing.
-use mathlib.Core.Path.{◌≡◌, refl, sym, ap, ap₂, ◌∙◌}
+use mathlib.Core.Path.{refl, sym, ap, ap₂, ◌∙◌}
 use mathlib.Core.Bool.{Bool, ◌||◌}
 use Prim.Native.Nat.{◌+◌, ◌-◌}
 use lib.IntN.{ℤ, pos}
-use lib.ListN.{length, get_or, drop}
-use borrow.Author.Rules.{rules}
+use lib.ListN.{get_or, drop}
 use mir.Syntax.{w32}
 use mir.Val.{to_z, of_z}
 use Rattle.word.specs.Signed.{kept}

@@ -1,14 +1,8 @@
-use mathlib.Core.Path.{◌≡◌, refl, sym, ap, ap₂, ◌∙◌}
-use mathlib.Core.Bool.{Bool, ◌||◌}
-use Prim.Native.Nat.{◌+◌, ◌-◌}
-use lib.IntN.{ℤ, pos}
-use lib.ListN.{length, get_or, drop}
-use borrow.Author.Rules.{rules}
-use mir.Syntax.{w32}
-use mir.Val.{to_z, of_z}
-use Rattle.word.specs.Signed.{kept}
-use Rattle.fit.proofs.Signs.{tested}
-use Rattle.fit.specs.Unfit.{any, outside, any_turn, any_through}
+use mathlib.Core.Path.{◌≡◌}
+use mathlib.Core.Bool.{◌||◌}
+use Prim.Native.Nat.{◌-◌}
+use lib.ListN.{length, drop}
+use Rattle.fit.specs.Unfit.{any, outside}
 use Rattle.fit.proofs.any_outside.Given as goal
 
 abbrev pub invariant-loop-i : goal.invariant-loop-i

@@ -1,11 +1,8 @@
 -- `fit::any_wide` meets its contract. The invariant: what was found before, or any from here on, is any. Assumes
 -- nothing.
-use mathlib.Core.Path.{◌≡◌, refl, ◌∙◌}
-use mathlib.Core.Bool.{◌||◌}
+use mathlib.Core.Path.{refl, ◌∙◌}
 use Prim.Native.Nat.{◌-◌}
-use lib.ListN.{length, drop}
-use borrow.Author.Rules.{rules}
-use Rattle.fit.specs.Unfit.{any, unfit_pattern, any_turn, any_through}
+use Rattle.fit.specs.Unfit.{unfit_pattern, any_turn, any_through}
 use Rattle.fit.proofs.any_wide.Goals as goal
 
 pub loop-i-init : goal.loop-i-init

@@ -1,9 +1,8 @@
-use mathlib.Core.Path.{◌≡◌, refl, ◌∙◌}
+use mathlib.Core.Path.{◌≡◌}
 use mathlib.Core.Bool.{◌||◌}
 use Prim.Native.Nat.{◌-◌}
 use lib.ListN.{length, drop}
-use borrow.Author.Rules.{rules}
-use Rattle.fit.specs.Unfit.{any, unfit_pattern, any_turn, any_through}
+use Rattle.fit.specs.Unfit.{any, unfit_pattern}
 use Rattle.fit.proofs.any_wide.Given as goal
 
 abbrev pub invariant-loop-i : goal.invariant-loop-i

@@ -1,12 +1,9 @@
 -- `fit::first_outside` meets its contract. The invariant: what is found from here on is what is found from the
 -- start. Assumes nothing.
-use mathlib.Core.Path.{ap₂, ◌≡◌, refl, ◌∙◌}
+use mathlib.Core.Path.{ap₂, refl, ◌∙◌}
 use Prim.Native.Nat.{◌-◌}
 use lib.IntN.{ℤ, pos}
-use lib.ListN.{length, drop}
-use borrow.Author.Rules.{rules}
 use mir.Syntax.{w32}
-use mir.Val.{to_z}
 use Rattle.word.specs.Signed.{kept}
 use Rattle.fit.proofs.Signs.{tested}
 use Rattle.fit.specs.Unfit.{first_from, outside, first_found, first_next, first_over}

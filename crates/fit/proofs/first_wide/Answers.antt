@@ -1,11 +1,9 @@
 -- `fit::first_wide` meets its contract. The invariant: what is found from here on is what is found from the start.
 -- Assumes nothing.
-use mathlib.Core.Path.{◌≡◌, refl}
+use mathlib.Core.Path.{refl}
 use Prim.Native.Nat.{◌-◌}
-use lib.ListN.{length, drop}
 use borrow.Author.Tests.{le-leb, lt-leb}
-use borrow.Author.Rules.{rules}
-use Rattle.fit.specs.Unfit.{first_from, unfit_pattern, unfit_patterns, first_found, first_next, first_over}
+use Rattle.fit.specs.Unfit.{unfit_pattern, unfit_patterns, first_found, first_next, first_over}
 use Rattle.fit.proofs.first_wide.Goals as goal
 
 pub loop-i-init : goal.loop-i-init

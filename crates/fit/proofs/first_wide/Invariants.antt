@@ -1,9 +1,7 @@
-use mathlib.Core.Path.{◌≡◌, refl}
+use mathlib.Core.Path.{◌≡◌}
 use Prim.Native.Nat.{◌-◌}
 use lib.ListN.{length, drop}
-use borrow.Author.Tests.{le-leb, lt-leb}
-use borrow.Author.Rules.{rules}
-use Rattle.fit.specs.Unfit.{first_from, unfit_pattern, unfit_patterns, first_found, first_next, first_over}
+use Rattle.fit.specs.Unfit.{first_from, unfit_pattern}
 use Rattle.fit.proofs.first_wide.Given as goal
 
 abbrev pub invariant-loop-i : goal.invariant-loop-i

@@ -5,7 +5,6 @@ use mir.Syntax.{w32}
 use mir.Val.{to_z, of_z}
 use Rattle.word.specs.Signed.{kept}
 use Rattle.fit.specs.Unfit.{first_from, outside, any_none}
-use borrow.Author.Rules.{rules}
 use Rattle.fit.proofs.outside_of.Goals as goal
 
 pub returns-then-any_outside : goal.returns-then-any_outside

@@ -1,5 +1,4 @@
 -- `fit::unfit_bits` meets its contract. Only code 4 has patterns that it cannot hold. Assumes nothing.
-use borrow.Author.Rules.{rules}
 use Rattle.fit.specs.Unfit.{holds_patterns}
 use Rattle.fit.proofs.unfit_bits.Goals as goal
 

@@ -1,7 +1,6 @@
 -- `fit::unfit_integers` meets its contract. Under code 3 a magnitude below 2^30 is a number between two bounds; the
 -- other codes hold every integer. Assumes nothing.
 use mathlib.Core.Path.{◌∙◌}
-use borrow.Author.Rules.{rules}
 use Rattle.fit.specs.Unfit.{unfit_integers, unfit_integer, first_same, magnitude_bounds, holds_integers}
 use Rattle.fit.proofs.unfit_integers.Goals as goal
 

@@ -1,7 +1,6 @@
 -- `fit::wide_of` meets its contract. Where none is found, the row is all good. Assumes nothing.
 use mathlib.Core.Path.{sym, ◌∙◌}
 use Rattle.fit.specs.Unfit.{unfit_pattern, unfit_patterns, any_none}
-use borrow.Author.Rules.{rules}
 use Rattle.fit.proofs.wide_of.Goals as goal
 
 pub returns : goal.returns

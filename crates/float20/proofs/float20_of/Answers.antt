@@ -2,7 +2,6 @@
 use mathlib.Core.Path.{◌≡◌, ap, ◌∙◌}
 use native.Mathlib.Omega.{arith}
 use lib.IntN.{nat_abs}
-use borrow.Author.Rules.{rules}
 use mir.Syntax.{w32}
 use Rattle.float20.specs.Float20Laws.{coded_minus, coded_plus}
 use Rattle.word.specs.Signed.{kept, sign}

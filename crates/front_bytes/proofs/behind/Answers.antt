@@ -1,7 +1,6 @@
 -- `front_bytes::behind` meets its contract: the part to the end is what is left behind the first n bytes. Assumes nothing.
 use mathlib.Core.Path.{refl, sym, ◌∙◌}
 use native.Mathlib.Omega.{arith}
-use borrow.Author.Rules.{rules}
 use lib.ListN.{length, drop_of_length-le}
 use lib.Seq.{drop-length}
 use Rattle.word.specs.Part.{rest_from}

@@ -1,5 +1,4 @@
 -- `front_bytes::has` meets its contract. Assumes nothing.
-use borrow.Author.Rules.{rules}
 use Rattle.front_bytes.specs.OneByte.{has_first, has_none}
 use Rattle.front_bytes.proofs.has.Goals as goal
 

@@ -1,7 +1,6 @@
 -- `front_bytes::past` meets its contract. Assumes nothing.
 use mathlib.Core.Path.{refl, sym, ◌∙◌}
 use native.Mathlib.Omega.{arith}
-use borrow.Author.Rules.{rules}
 use Rattle.word.specs.Part.{rest_from}
 use Rattle.front_bytes.specs.OneByte.{past_has, past_not}
 use Rattle.front_bytes.proofs.past.Goals as goal

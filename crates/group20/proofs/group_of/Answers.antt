@@ -4,7 +4,6 @@ use Prim.Native.Nat.{◌+◌, ◌*◌}
 use native.Mathlib.Omega.{arith}
 use lib.IntN.{pos}
 use lib.ListN.{get_or}
-use borrow.Author.Rules.{rules}
 use mir.Syntax.{w32}
 use Rattle.group20.specs.GroupLaws.{fit_magnitude, words_told}
 use Rattle.word.specs.Signed.{kept}

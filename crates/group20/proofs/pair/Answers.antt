@@ -1,5 +1,4 @@
 -- `group20::pair` meets its contract. Which word counts 65536 times is by the order. Assumes nothing.
-use borrow.Author.Rules.{rules}
 use Rattle.group20.proofs.pair.Goals as goal
 
 pub returns-then-high : goal.returns-then-high

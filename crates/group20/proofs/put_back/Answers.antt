@@ -1,6 +1,5 @@
 -- `group20::put_back` meets its contract. Three pairs of words. Assumes nothing.
 use mathlib.Core.Path.{◌∙◌}
-use borrow.Author.Rules.{rules}
 use Rattle.group20.specs.GroupLaws.{put_six}
 use Rattle.group20.proofs.put_back.Goals as goal
 

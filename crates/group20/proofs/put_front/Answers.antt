@@ -1,6 +1,5 @@
 -- `group20::put_front` meets its contract. Two pairs of words. Assumes nothing.
 use mathlib.Core.Path.{◌∙◌}
-use borrow.Author.Rules.{rules}
 use Rattle.group20.specs.GroupLaws.{put_four}
 use Rattle.group20.proofs.put_front.Goals as goal
 

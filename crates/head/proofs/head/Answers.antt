@@ -1,6 +1,6 @@
 -- `head::head` meets its contract. Each answer is the first row whose test holds. Assumes nothing.
 use mathlib.Core.Path.{sym, ap, ◌∙◌}
-use borrow.Author.Tests.{eq-eqb, ne_eqb, lt-ltb, le-ltb, not-true, not-false}
+use borrow.Author.Tests.{eq-eqb, ne_eqb, lt-ltb, le-ltb}
 use Rattle.head.specs.Head.{head_of, head_answer}
 use Rattle.head.specs.HeadLaws.{block_room, block_count, block_revision}
 use Rattle.head.specs.declared.FileAnswer.TheVariants as file

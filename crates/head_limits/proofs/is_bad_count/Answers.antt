@@ -1,5 +1,4 @@
 -- `head_limits::is_bad_count` meets its contract. Assumes nothing.
-use borrow.Author.Rules.{rules}
 use Rattle.head_limits.proofs.is_bad_count.Goals as goal
 
 pub returns : goal.returns

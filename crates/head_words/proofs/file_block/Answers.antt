@@ -1,7 +1,6 @@
 -- `head_words::file_block` meets its contract. Assumes nothing.
 use Rattle.head_words.specs.HeadWords.{file_block_of}
 use Rattle.head_words.specs.HeadWords.{room_read, count_read}
-use borrow.Author.Rules.{rules}
 use Rattle.head_words.proofs.file_block.Goals as goal
 
 pub returns : goal.returns

@@ -1,7 +1,6 @@
 -- `head_words::is_high` meets its contract. Assumes nothing.
 use mathlib.Core.Path.{refl}
 use Rattle.head_words.specs.HeadWords.{high_first}
-use borrow.Author.Rules.{rules}
 use Rattle.head_words.proofs.is_high.Goals as goal
 
 pub returns : goal.returns

@@ -3,7 +3,6 @@ use mathlib.Core.Path.{sym, ap, ◌∙◌}
 use lib.ListN.{length}
 use Rattle.terminators.specs.TerminatorLaws.{good_most, length_terminator}
 use Rattle.image.specs.ImageLaws.{in_words, head_bad, head_shown, head_room, head_count, head_rest}
-use borrow.Author.Rules.{rules}
 use native.Mathlib.Omega.{arith}
 use Rattle.image.proofs.image.Goals as goal
 

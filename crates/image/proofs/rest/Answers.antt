@@ -2,7 +2,6 @@
 use mathlib.Core.Path.{sym, ◌∙◌}
 use Rattle.traces.specs.Walk.{next_stands, next_within}
 use Rattle.image.specs.Rest.{rest_pointer, rest_strings, rest_traces}
-use borrow.Author.Rules.{rules}
 use native.Mathlib.Omega.{arith}
 use Rattle.image.proofs.rest.Goals as goal
 

@@ -2,8 +2,6 @@
 use mathlib.Core.Path.{sym, ◌∙◌}
 use native.Mathlib.Omega.{arith}
 use lib.Seq.{length-take-le}
-use Rattle.head.specs.Head.{InWords}
-use borrow.Author.Rules.{rules}
 use Rattle.image.proofs.top_of.Goals as goal
 
 pub slice_bounds-head-end : goal.slice_bounds-head-end

@@ -1,7 +1,6 @@
 -- `key_chars::key_char` meets its contract. Assumes nothing.
 use mathlib.Core.Path.{◌∙◌}
 use Rattle.text.specs.Manner.{low_letter}
-use borrow.Author.Rules.{rules}
 use Rattle.key_chars.proofs.key_char.Goals as goal
 
 pub returns-then-b-lt33 : goal.returns-then-b-lt33

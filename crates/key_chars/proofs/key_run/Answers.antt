@@ -1,13 +1,12 @@
 -- `key_chars::key_run` meets its contract. The invariant: the run from here and the bytes passed make the run from the
 -- start. Assumes nothing.
-use mathlib.Core.Path.{◌≡◌, sym, ◌∙◌}
-use Prim.Native.Nat.{◌≤◌, ◌+◌, ◌-◌}
-use borrow.Author.Tests.{not-true, not-false}
-use lib.ListN.{length, drop}
+use mathlib.Core.Path.{sym, ◌∙◌}
+use Prim.Native.Nat.{◌+◌, ◌-◌}
+use lib.ListN.{length}
 use Rattle.word.specs.Part.{part_rest, length_part}
 use Rattle.chars.specs.Chars.{capital}
 use Rattle.text.specs.Manner.{letter, capital_letter}
-use Rattle.chars.specs.Runs.{run, run_more, run_end, run_none, run_part}
+use Rattle.chars.specs.Runs.{run_more, run_end, run_none, run_part}
 use borrow.Author.Rules.{rules}
 use native.Mathlib.Omega.{arith}
 use Rattle.key_chars.proofs.key_run.Goals as goal

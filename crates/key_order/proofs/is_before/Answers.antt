@@ -1,7 +1,6 @@
 -- `key_order::is_before` meets its contract. Assumes nothing.
 use mathlib.Core.Path.{sym, ◌∙◌}
 use Rattle.key_order.specs.Order.{before}
-use borrow.Author.Rules.{rules}
 use Rattle.key_order.proofs.is_before.Goals as goal
 
 pub returns-then-is_note : goal.returns-then-is_note

@@ -1,8 +1,7 @@
 -- `key_order::is_less` meets its contract. The invariant: what is left compares as the whole does. Assumes nothing.
-use mathlib.Core.Path.{◌≡◌, refl, ◌∙◌}
-use Prim.Native.Nat.{◌≤◌, ◌-◌}
-use lib.ListN.{length, drop}
-use Rattle.key_order.specs.Order.{less, less_short, less_below, less_above, less_next, less_longer, less_ended}
+use mathlib.Core.Path.{refl, ◌∙◌}
+use Prim.Native.Nat.{◌-◌}
+use Rattle.key_order.specs.Order.{less_short, less_below, less_above, less_next, less_longer, less_ended}
 use borrow.Author.Rules.{rules}
 use Rattle.key_order.proofs.is_less.Goals as goal
 

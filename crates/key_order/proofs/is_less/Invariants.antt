@@ -1,8 +1,7 @@
-use mathlib.Core.Path.{◌≡◌, refl, ◌∙◌}
+use mathlib.Core.Path.{◌≡◌}
 use Prim.Native.Nat.{◌≤◌, ◌-◌}
 use lib.ListN.{length, drop}
-use Rattle.key_order.specs.Order.{less, less_short, less_below, less_above, less_next, less_longer, less_ended}
-use borrow.Author.Rules.{rules}
+use Rattle.key_order.specs.Order.{less}
 use Rattle.key_order.proofs.is_less.Given as goal
 
 abbrev pub invariant-loop-i : goal.invariant-loop-i

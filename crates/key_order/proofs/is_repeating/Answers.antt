@@ -1,6 +1,5 @@
 -- `key_order::is_repeating` meets its contract. Assumes nothing.
 use Rattle.key_order.specs.Order.{repeats}
-use borrow.Author.Rules.{rules}
 use Rattle.key_order.proofs.is_repeating.Goals as goal
 
 pub returns : goal.returns

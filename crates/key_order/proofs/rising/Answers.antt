@@ -1,7 +1,6 @@
 -- `key_order::rising` meets its contract. Assumes nothing.
 use mathlib.Core.Path.{sym, ◌∙◌}
 use Rattle.key_order.specs.Order.{rises}
-use borrow.Author.Rules.{rules}
 use Rattle.key_order.proofs.rising.Goals as goal
 
 pub returns-then-is_before : goal.returns-then-is_before

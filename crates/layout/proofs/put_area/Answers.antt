@@ -1,6 +1,5 @@
 -- `layout::put_area` meets its contract. The part that is lent comes back as stores in the buffer. Assumes nothing.
 use Rattle.word.specs.Put.{lent_back}
-use borrow.Author.Rules.{rules}
 use Rattle.layout.proofs.put_area.Goals as goal
 
 pub returns : goal.returns

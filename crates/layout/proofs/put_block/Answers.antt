@@ -1,6 +1,5 @@
 -- `layout::put_block` meets its contract. Six pieces, one behind the other, are the trace block. Assumes nothing.
 use Rattle.layout.specs.Stores.{block_put}
-use borrow.Author.Rules.{rules}
 use Rattle.layout.proofs.put_block.Goals as goal
 
 pub returns : goal.returns

@@ -4,7 +4,6 @@ use Rattle.word.specs.Put.{length_put}
 use Rattle.area.specs.Spelling.{measured_size}
 use Rattle.area.specs.Writing.{writable}
 use Rattle.layout.specs.Stores.{head_put}
-use borrow.Author.Rules.{rules}
 use Rattle.layout.proofs.put_head.Goals as goal
 
 pub overflow_cast-size : goal.overflow_cast-size

@@ -2,7 +2,6 @@
 -- nothing.
 use Rattle.word.specs.Put.{length_put}
 use Rattle.layout.specs.Stores.{start_put}
-use borrow.Author.Rules.{rules}
 use Rattle.layout.proofs.put_start.Goals as goal
 
 pub put_area-requires : goal.put_area-requires

@@ -1,11 +1,9 @@
 -- `letters::is_same_raised` meets its contract. The invariant: what is left compares as the whole does. Assumes
 -- nothing.
-use mathlib.Core.Path.{◌≡◌, refl, sym, ap, ◌∙◌}
-use Prim.Native.Nat.{◌≤◌, ◌-◌}
-use lib.ListN.{length, drop}
+use mathlib.Core.Path.{refl, ◌∙◌}
+use Prim.Native.Nat.{◌-◌}
 use borrow.Author.Tests.{eq-eqb, ne_eqb}
-use Rattle.chars.specs.Runs.{same}
-use Rattle.letters.specs.Upper.{uppered, raised_short, raised_apart, raised_next, raised_longer, raised_ended}
+use Rattle.letters.specs.Upper.{raised_short, raised_apart, raised_next, raised_longer, raised_ended}
 use borrow.Author.Rules.{rules}
 use Rattle.letters.proofs.is_same_raised.Goals as goal
 

@@ -1,10 +1,8 @@
-use mathlib.Core.Path.{◌≡◌, refl, sym, ap, ◌∙◌}
+use mathlib.Core.Path.{◌≡◌}
 use Prim.Native.Nat.{◌≤◌, ◌-◌}
 use lib.ListN.{length, drop}
-use borrow.Author.Tests.{eq-eqb, ne_eqb}
 use Rattle.chars.specs.Runs.{same}
-use Rattle.letters.specs.Upper.{uppered, raised_short, raised_apart, raised_next, raised_longer, raised_ended}
-use borrow.Author.Rules.{rules}
+use Rattle.letters.specs.Upper.{uppered}
 use Rattle.letters.proofs.is_same_raised.Given as goal
 
 abbrev pub invariant-loop-i : goal.invariant-loop-i

@@ -1,5 +1,4 @@
 -- `limits::is_bad_samples` meets its contract. Assumes nothing.
-use borrow.Author.Rules.{rules}
 use Rattle.limits.proofs.is_bad_samples.Goals as goal
 
 pub returns : goal.returns

@@ -3,7 +3,6 @@ use Rattle.lines.specs.Lines.{ended}
 use Rattle.lines.specs.Sizes.{length_ended}
 use Rattle.word.specs.Wrote.{joined}
 use native.Mathlib.Omega.{arith}
-use borrow.Author.Rules.{rules}
 use Rattle.lines.proofs.put_ended.Goals as goal
 
 pub put_digits-a-requires : goal.put_digits-a-requires

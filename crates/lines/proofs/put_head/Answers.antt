@@ -3,7 +3,6 @@ use Rattle.lines.specs.Lines.{head_line}
 use Rattle.lines.specs.Sizes.{length_head}
 use Rattle.word.specs.Wrote.{joined}
 use native.Mathlib.Omega.{arith}
-use borrow.Author.Rules.{rules}
 use Rattle.lines.proofs.put_head.Goals as goal
 
 pub put_order-a-requires : goal.put_order-a-requires

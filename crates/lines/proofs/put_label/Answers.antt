@@ -3,7 +3,6 @@ use Rattle.lines.specs.Lines.{label}
 use Rattle.lines.specs.Sizes.{length_label}
 use Rattle.word.specs.Wrote.{joined}
 use native.Mathlib.Omega.{arith}
-use borrow.Author.Rules.{rules}
 use Rattle.lines.proofs.put_label.Goals as goal
 
 pub put_bytes-a-requires : goal.put_bytes-a-requires

@@ -3,7 +3,6 @@ use Rattle.lines.specs.Lines.{string_line}
 use Rattle.lines.specs.Sizes.{length_line}
 use Rattle.word.specs.Wrote.{joined}
 use native.Mathlib.Omega.{arith}
-use borrow.Author.Rules.{rules}
 use Rattle.lines.proofs.put_line.Goals as goal
 
 pub put_label-a-requires : goal.put_label-a-requires

@@ -1,6 +1,5 @@
 -- `lines::put_order` meets its contract. The line of the order that it is. Assumes nothing.
 use Rattle.lines.specs.Lines.{order}
-use borrow.Author.Rules.{rules}
 use Rattle.lines.proofs.put_order.Goals as goal
 
 pub put_bytes-requires : goal.put_bytes-requires

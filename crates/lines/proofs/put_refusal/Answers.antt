@@ -2,7 +2,6 @@
 use Rattle.lines.specs.Lines.{refusal_line}
 use Rattle.word.specs.Wrote.{joined}
 use native.Mathlib.Omega.{arith}
-use borrow.Author.Rules.{rules}
 use Rattle.lines.proofs.put_refusal.Goals as goal
 
 pub put_bytes-a-requires : goal.put_bytes-a-requires

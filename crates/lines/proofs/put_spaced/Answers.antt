@@ -1,11 +1,9 @@
 -- `lines::put_spaced` meets its contract. The invariant: what is left to store, stored, makes the whole. Assumes
 -- nothing.
-use mathlib.Core.Path.{◌≡◌, refl}
-use Prim.Native.Nat.{◌+◌, ◌-◌, ◌≤◌}
+use mathlib.Core.Path.{refl}
+use Prim.Native.Nat.{◌-◌}
 use native.Mathlib.Nat.{add-zero}
-use lib.ListN.{length, drop, length-set}
-use Rattle.word.specs.Put.{put}
-use Rattle.lines.specs.Lines.{spaced}
+use lib.ListN.{length-set}
 use Rattle.lines.specs.Spaced.{length_spaced, spaced_turn, spaced_over}
 use borrow.Author.Rules.{rules}
 use native.Mathlib.Omega.{arith}

@@ -1,12 +1,8 @@
-use mathlib.Core.Path.{◌≡◌, refl}
+use mathlib.Core.Path.{◌≡◌}
 use Prim.Native.Nat.{◌+◌, ◌-◌, ◌≤◌}
-use native.Mathlib.Nat.{add-zero}
-use lib.ListN.{length, drop, length-set}
+use lib.ListN.{length, drop}
 use Rattle.word.specs.Put.{put}
 use Rattle.lines.specs.Lines.{spaced}
-use Rattle.lines.specs.Spaced.{length_spaced, spaced_turn, spaced_over}
-use borrow.Author.Rules.{rules}
-use native.Mathlib.Omega.{arith}
 use Rattle.lines.proofs.put_spaced.Given as goal
 
 abbrev pub invariant-loop-i : goal.invariant-loop-i

@@ -1,6 +1,5 @@
 -- `lines::put_whose` meets its contract. One of the two. Assumes nothing.
 use Rattle.lines.specs.Lines.{whose}
-use borrow.Author.Rules.{rules}
 use Rattle.lines.proofs.put_whose.Goals as goal
 
 pub put_byte-requires : goal.put_byte-requires

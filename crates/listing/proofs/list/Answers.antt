@@ -4,7 +4,6 @@ use Rattle.word.specs.Bytes.{each_bytes}
 use Rattle.listing.specs.Room.{file_few}
 use Rattle.listing.specs.Told.{enough, print_full, print_told, prints_refusal, prints_file, whole_image}
 use native.Mathlib.Omega.{arith}
-use borrow.Author.Rules.{rules}
 use Rattle.listing.proofs.list.Goals as goal
 
 pub returns-then-too_short : goal.returns-then-too_short

@@ -3,7 +3,6 @@ use mathlib.Core.Path.{sym, ap, ◌∙◌}
 use Rattle.lines.specs.Lines.{refusal_line}
 use Rattle.listing.specs.Told.{enough, print_full, print_told, prints_large, prints_listing}
 use native.Mathlib.Omega.{arith}
-use borrow.Author.Rules.{rules}
 use Rattle.listing.proofs.program.Goals as goal
 
 pub returns-then-input-le65536 : goal.returns-then-input-le65536

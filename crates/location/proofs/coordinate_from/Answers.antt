@@ -1,5 +1,4 @@
 -- `location::coordinate_from` meets its contract: by the answer of the double. Assumes nothing.
-use borrow.Author.Rules.{rules}
 use Rattle.location.proofs.coordinate_from.Goals as goal
 
 pub returns-in-Is : goal.returns-in-Is

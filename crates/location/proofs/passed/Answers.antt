@@ -1,5 +1,4 @@
 -- `location::passed` meets its contract. Assumes nothing.
-use borrow.Author.Rules.{rules}
 use Rattle.location.proofs.passed.Goals as goal
 
 pub returns-in-Is : goal.returns-in-Is

@@ -3,7 +3,6 @@
 use mathlib.Core.Path.{◌∙◌}
 use native.Mathlib.Omega.{arith}
 use Rattle.location.specs.Location.{no_value, one_value, two_values, three_values, more_values}
-use borrow.Author.Rules.{rules}
 use Rattle.location_text.proofs.location.Goals as goal
 
 pub returns-then-n-a : goal.returns-then-n-a

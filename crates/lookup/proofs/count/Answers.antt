@@ -1,11 +1,11 @@
 -- `lookup::count` meets its contract. The invariant: the strings passed and those that are left are all. Assumes
 -- nothing.
-use mathlib.Core.Path.{◌≡◌, sym, ap, ◌∙◌}
-use Prim.Native.Nat.{ℕ, ◌≤◌, ◌+◌, ◌-◌, ◌<◌}
+use mathlib.Core.Path.{sym, ap, ◌∙◌}
+use Prim.Native.Nat.{◌≤◌, ◌+◌, ◌-◌, ◌<◌}
 use native.Mathlib.Nat.{le_of_eq}
 use lib.ListN.{length}
 use Rattle.word.specs.Part.{part, length_part}
-use Rattle.strings.specs.Strings.{places_from, places_of, PlaceIn}
+use Rattle.strings.specs.Strings.{places_of, PlaceIn}
 use Rattle.strings.specs.Walks.{place_next, place_stop, place_bounds, place_over}
 use borrow.Author.Rules.{rules}
 use native.Mathlib.Omega.{arith}

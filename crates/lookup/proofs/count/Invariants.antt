@@ -1,12 +1,8 @@
-use mathlib.Core.Path.{◌≡◌, sym, ap, ◌∙◌}
-use Prim.Native.Nat.{ℕ, ◌≤◌, ◌+◌, ◌-◌, ◌<◌}
-use native.Mathlib.Nat.{le_of_eq}
+use mathlib.Core.Path.{◌≡◌}
+use Prim.Native.Nat.{ℕ, ◌≤◌, ◌+◌, ◌-◌}
 use lib.ListN.{length}
-use Rattle.word.specs.Part.{part, length_part}
-use Rattle.strings.specs.Strings.{places_from, places_of, PlaceIn}
-use Rattle.strings.specs.Walks.{place_next, place_stop, place_bounds, place_over}
-use borrow.Author.Rules.{rules}
-use native.Mathlib.Omega.{arith}
+use Rattle.word.specs.Part.{part}
+use Rattle.strings.specs.Strings.{places_from, places_of}
 use Rattle.lookup.proofs.count.Given as goal
 
 abbrev pub invariant-loop-at : goal.invariant-loop-at

@@ -1,11 +1,11 @@
 -- `lookup::find` meets its contract. The invariant: what is found among those that are left is found among all. Assumes
 -- nothing.
-use mathlib.Core.Path.{◌≡◌, refl, sym, ◌∙◌}
-use Prim.Native.Nat.{ℕ, ◌≤◌, ◌-◌, ◌+◌, ◌<◌}
+use mathlib.Core.Path.{refl, sym, ◌∙◌}
+use Prim.Native.Nat.{◌≤◌, ◌-◌, ◌+◌, ◌<◌}
 use native.Mathlib.Nat.{le_of_eq}
 use lib.ListN.{length}
 use Rattle.word.specs.Part.{part, length_part}
-use Rattle.strings.specs.Strings.{places_from, places_of, find_of, PlaceIn}
+use Rattle.strings.specs.Strings.{places_of, PlaceIn}
 use Rattle.strings.specs.Walks.{place_next, place_stop, place_bounds, place_over}
 use Rattle.lookup.specs.Lists.{find_none, find_here, find_later}
 use borrow.Author.Rules.{rules}

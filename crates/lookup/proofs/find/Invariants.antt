@@ -1,13 +1,7 @@
-use mathlib.Core.Path.{◌≡◌, refl, sym, ◌∙◌}
-use Prim.Native.Nat.{ℕ, ◌≤◌, ◌-◌, ◌+◌, ◌<◌}
-use native.Mathlib.Nat.{le_of_eq}
-use lib.ListN.{length}
-use Rattle.word.specs.Part.{part, length_part}
-use Rattle.strings.specs.Strings.{places_from, places_of, find_of, PlaceIn}
-use Rattle.strings.specs.Walks.{place_next, place_stop, place_bounds, place_over}
-use Rattle.lookup.specs.Lists.{find_none, find_here, find_later}
-use borrow.Author.Rules.{rules}
-use native.Mathlib.Omega.{arith}
+use mathlib.Core.Path.{◌≡◌}
+use Prim.Native.Nat.{ℕ, ◌≤◌, ◌-◌}
+use Rattle.word.specs.Part.{part}
+use Rattle.strings.specs.Strings.{places_from, places_of, find_of}
 use Rattle.lookup.proofs.find.Given as goal
 
 abbrev pub invariant-loop-at : goal.invariant-loop-at

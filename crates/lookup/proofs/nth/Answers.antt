@@ -1,10 +1,10 @@
 -- `lookup::nth` meets its contract. The invariant: the k-th of those that are left is the i-th of all. Assumes nothing.
-use mathlib.Core.Path.{◌≡◌, refl, sym, ◌∙◌}
-use Prim.Native.Nat.{ℕ, ◌≤◌, ◌-◌, ◌+◌, ◌<◌}
+use mathlib.Core.Path.{refl, sym, ◌∙◌}
+use Prim.Native.Nat.{◌≤◌, ◌-◌, ◌+◌, ◌<◌}
 use native.Mathlib.Nat.{le_of_eq}
 use lib.ListN.{length}
 use Rattle.word.specs.Part.{part, length_part}
-use Rattle.strings.specs.Strings.{places_from, places_of, nth_of, PlaceIn}
+use Rattle.strings.specs.Strings.{places_of, PlaceIn}
 use Rattle.strings.specs.Walks.{place_next, place_stop, place_bounds, place_over}
 use Rattle.lookup.specs.Lists.{nth_none, nth_first, nth_later}
 use borrow.Author.Rules.{rules}

@@ -1,7 +1,6 @@
 -- `note::value_ok` meets its contract. Assumes nothing.
 use mathlib.Core.Path.{sym, ◌∙◌}
 use Rattle.note.specs.Note.{value_ok}
-use borrow.Author.Rules.{rules}
 use Rattle.note.proofs.value_ok.Goals as goal
 
 pub returns-then-is_named_note : goal.returns-then-is_named_note

@@ -1,12 +1,10 @@
 -- `note::walk_lines` meets its contract. The invariant: the walk from here answers as the walk from the start. Assumes
 -- nothing.
-use mathlib.Core.Path.{◌≡◌, refl, sym, ◌∙◌}
-use Prim.Native.Nat.{◌≤◌, ◌-◌}
+use mathlib.Core.Path.{refl, sym, ◌∙◌}
+use Prim.Native.Nat.{◌-◌}
 use native.Mathlib.Omega.{arith}
-use lib.ListN.{length, drop}
-use borrow.Author.Tests.{not-true, not-false}
 use Rattle.word.specs.Part.{part_rest}
-use Rattle.note.specs.Note.{lines, lines_start, lines_apart, lines_char, lines_bad, lines_over}
+use Rattle.note.specs.Note.{lines_start, lines_apart, lines_char, lines_bad, lines_over}
 use borrow.Author.Rules.{rules}
 use Rattle.note.proofs.walk_lines.Goals as goal
 

@@ -1,11 +1,7 @@
-use mathlib.Core.Path.{◌≡◌, refl, sym, ◌∙◌}
+use mathlib.Core.Path.{◌≡◌}
 use Prim.Native.Nat.{◌≤◌, ◌-◌}
-use native.Mathlib.Omega.{arith}
 use lib.ListN.{length, drop}
-use borrow.Author.Tests.{not-true, not-false}
-use Rattle.word.specs.Part.{part_rest}
-use Rattle.note.specs.Note.{lines, lines_start, lines_apart, lines_char, lines_bad, lines_over}
-use borrow.Author.Rules.{rules}
+use Rattle.note.specs.Note.{lines}
 use Rattle.note.proofs.walk_lines.Given as goal
 
 abbrev pub invariant-loop-i : goal.invariant-loop-i

@@ -1,10 +1,8 @@
 -- `note_bytes::all_value_or` meets its contract. The invariant: what was found before, and all from here on, is all. Assumes
 -- nothing.
-use mathlib.Core.Path.{◌≡◌, refl, ◌∙◌}
-use mathlib.Core.Bool.{◌&&◌}
-use Prim.Native.Nat.{◌≤◌, ◌-◌}
-use lib.ListN.{length, drop}
-use Rattle.chars.specs.Runs.{all, all_turn, all_through}
+use mathlib.Core.Path.{refl, ◌∙◌}
+use Prim.Native.Nat.{◌-◌}
+use Rattle.chars.specs.Runs.{all_turn, all_through}
 use Rattle.note_bytes.specs.NoteBytes.{value_or}
 use borrow.Author.Rules.{rules}
 use Rattle.note_bytes.proofs.all_value_or.Goals as goal

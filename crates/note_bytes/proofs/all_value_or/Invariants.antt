@@ -1,10 +1,9 @@
-use mathlib.Core.Path.{◌≡◌, refl, ◌∙◌}
+use mathlib.Core.Path.{◌≡◌}
 use mathlib.Core.Bool.{◌&&◌}
 use Prim.Native.Nat.{◌≤◌, ◌-◌}
 use lib.ListN.{length, drop}
-use Rattle.chars.specs.Runs.{all, all_turn, all_through}
+use Rattle.chars.specs.Runs.{all}
 use Rattle.note_bytes.specs.NoteBytes.{value_or}
-use borrow.Author.Rules.{rules}
 use Rattle.note_bytes.proofs.all_value_or.Given as goal
 
 abbrev pub invariant-loop-i : goal.invariant-loop-i

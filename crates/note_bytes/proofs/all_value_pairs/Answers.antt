@@ -1,11 +1,10 @@
 -- `note_bytes::all_value_pairs` meets its contract. The invariant: what was found before, and what is left behind the byte
 -- passed last, is the answer.
 -- Assumes nothing.
-use mathlib.Core.Path.{◌≡◌, refl, ◌∙◌}
-use mathlib.Core.Bool.{false, ◌&&◌}
-use Prim.Native.Nat.{◌≤◌, ◌-◌}
-use lib.ListN.{length, drop}
-use Rattle.note_bytes.specs.NoteBytes.{paired, paired_turn, paired_through}
+use mathlib.Core.Path.{refl, ◌∙◌}
+use mathlib.Core.Bool.{false}
+use Prim.Native.Nat.{◌-◌}
+use Rattle.note_bytes.specs.NoteBytes.{paired_turn, paired_through}
 use borrow.Author.Rules.{rules}
 use Rattle.note_bytes.proofs.all_value_pairs.Goals as goal
 

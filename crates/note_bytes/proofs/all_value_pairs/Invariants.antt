@@ -1,9 +1,8 @@
-use mathlib.Core.Path.{◌≡◌, refl, ◌∙◌}
+use mathlib.Core.Path.{◌≡◌}
 use mathlib.Core.Bool.{false, ◌&&◌}
 use Prim.Native.Nat.{◌≤◌, ◌-◌}
 use lib.ListN.{length, drop}
-use Rattle.note_bytes.specs.NoteBytes.{paired, paired_turn, paired_through}
-use borrow.Author.Rules.{rules}
+use Rattle.note_bytes.specs.NoteBytes.{paired}
 use Rattle.note_bytes.proofs.all_value_pairs.Given as goal
 
 abbrev pub invariant-loop-i : goal.invariant-loop-i

@@ -6,7 +6,6 @@ use lib.ListN.{length}
 use lib.Seq.{length-take-le}
 use borrow.Author.Tests.{lt-leb, le-leb}
 use Rattle.note_line.specs.NoteLine.{starts, starts_none, starts_other}
-use borrow.Author.Rules.{rules}
 use Rattle.note_line.proofs.is_start.Goals as goal
 
 pub returns-then-s-n : goal.returns-then-s-n

@@ -1,10 +1,9 @@
 -- `note_line::line_end` meets its contract. The invariant: the line from here and the bytes passed make the line. Assumes
 -- nothing.
-use mathlib.Core.Path.{◌≡◌, refl, sym, ◌∙◌}
-use Prim.Native.Nat.{◌≤◌, ◌+◌, ◌-◌}
-use lib.ListN.{length, drop}
+use mathlib.Core.Path.{refl, sym, ◌∙◌}
+use Prim.Native.Nat.{◌-◌}
 use Rattle.word.specs.Part.{part_rest}
-use Rattle.note_line.specs.NoteLine.{line_len, line_here, line_on, line_over}
+use Rattle.note_line.specs.NoteLine.{line_here, line_on, line_over}
 use borrow.Author.Rules.{rules}
 use native.Mathlib.Omega.{arith}
 use Rattle.note_line.proofs.line_end.Goals as goal

@@ -5,7 +5,6 @@ use native.Mathlib.Omega.{arith}
 use mir.Syntax.{w32}
 use Rattle.word.specs.Signed.{kept, sign}
 use Rattle.numeral.specs.Answers.{raised_up, raised_over, raised_under}
-use borrow.Author.Rules.{rules}
 use Rattle.numeral.proofs.behind_e.Goals as goal
 use Rattle.numeral.proofs.behind_e.Goals.{After-magnitude-m}
 

@@ -1,6 +1,5 @@
 -- `numeral_room::point_size` meets its contract. Assumes nothing.
 use Rattle.numeral_room.specs.Sizes.{point_none_size, point_size}
-use borrow.Author.Rules.{rules}
 use Rattle.numeral_room.proofs.point_size.Goals as goal
 
 pub returns-then-k-lt1 : goal.returns-then-k-lt1

@@ -1,6 +1,5 @@
 -- `numeral_room::power_size` meets its contract. Assumes nothing.
 use Rattle.numeral_room.specs.Sizes.{power_none_size, power_size}
-use borrow.Author.Rules.{rules}
 use Rattle.numeral_room.proofs.power_size.Goals as goal
 
 pub returns-then-to-lt1 : goal.returns-then-to-lt1

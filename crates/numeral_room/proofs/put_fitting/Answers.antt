@@ -1,7 +1,6 @@
 -- `numeral_room::put_fitting` meets its contract: the text against the room. Assumes nothing.
 use native.Mathlib.Omega.{arith}
 use Rattle.numeral_room.specs.Sizes.{room_missing, room_enough}
-use borrow.Author.Rules.{rules}
 use Rattle.numeral_room.proofs.put_fitting.Goals as goal
 
 pub returns-then-out-size : goal.returns-then-out-size

@@ -6,7 +6,6 @@ use lib.ListN.{length}
 use Rattle.digits.specs.Digits.{digits}
 use Rattle.numeral_text.specs.NumeralText.{parts_with}
 use Rattle.numeral_text.specs.Stored.{text_length}
-use borrow.Author.Rules.{rules}
 use Rattle.numeral_room.proofs.text_size.Goals as goal
 
 pub returns : goal.returns

@@ -1,7 +1,6 @@
 -- `numeral_text::before_last` meets its contract: what is left, before the digits that are left, is what is asked. Assumes
 -- nothing.
-use mathlib.Core.Path.{◌≡◌}
-use Prim.Native.Nat.{◌-◌, ◌^◌, ◌/◌, ◌≤◌}
+use Prim.Native.Nat.{◌-◌}
 use native.Mathlib.Omega.{arith}
 use Rattle.numeral_text.specs.Stored.{before_start, before_again, before_over}
 use Rattle.numeral_text.proofs.before_last.Goals as goal

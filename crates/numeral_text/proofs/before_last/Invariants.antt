@@ -1,7 +1,5 @@
 use mathlib.Core.Path.{◌≡◌}
 use Prim.Native.Nat.{◌-◌, ◌^◌, ◌/◌, ◌≤◌}
-use native.Mathlib.Omega.{arith}
-use Rattle.numeral_text.specs.Stored.{before_start, before_again, before_over}
 use Rattle.numeral_text.proofs.before_last.Given as goal
 
 abbrev pub invariant-loop-i : goal.invariant-loop-i

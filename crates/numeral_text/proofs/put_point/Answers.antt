@@ -3,7 +3,6 @@ use mathlib.Core.Path.{ap, ◌∙◌}
 use lib.ListN.{length, length-set}
 use Rattle.word.specs.Put.{length_put}
 use Rattle.numeral_text.specs.Stored.{point_none, point_room, point_there}
-use borrow.Author.Rules.{rules}
 use Rattle.numeral_text.proofs.put_point.Goals as goal
 
 pub returns-then-k-lt1 : goal.returns-then-k-lt1

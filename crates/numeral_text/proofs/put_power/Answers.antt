@@ -4,7 +4,6 @@ use native.Mathlib.Omega.{arith}
 use lib.ListN.{length, length-set}
 use Rattle.word.specs.Put.{length_put}
 use Rattle.numeral_text.specs.Stored.{power_none, power_room, power_there}
-use borrow.Author.Rules.{rules}
 use Rattle.numeral_text.proofs.put_power.Goals as goal
 
 pub returns-then-far-lt1 : goal.returns-then-far-lt1

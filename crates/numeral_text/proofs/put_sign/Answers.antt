@@ -1,6 +1,5 @@
 -- `numeral_text::put_sign` meets its contract. Assumes nothing.
 use Rattle.numeral_text.specs.Stored.{sign_room, sign_there, sign_none}
-use borrow.Author.Rules.{rules}
 use Rattle.numeral_text.proofs.put_sign.Goals as goal
 
 pub bounds-out-at : goal.bounds-out-at

@@ -1,10 +1,8 @@
 -- `one_string::judge` meets its contract. Each answer has its law. Assumes nothing.
 use mathlib.Core.Path.{sym, ◌∙◌}
 use lib.Seq.{length-take-le}
-use borrow.Author.Tests.{not-true, not-false}
 use Rattle.word.specs.Part.{part_rest}
 use Rattle.strings.specs.Texts.{judged_none, judged_char, judged_value, judged_order, judged_good}
-use borrow.Author.Rules.{rules}
 use native.Mathlib.Omega.{arith}
 use Rattle.one_string.proofs.judge.Goals as goal
 

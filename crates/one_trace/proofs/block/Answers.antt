@@ -11,7 +11,6 @@ use Rattle.file_length.specs.FileLength.{long_enough}
 use Rattle.image.specs.ImageLaws.{in_words, head_shown, head_room, head_count}
 use Rattle.one_trace.specs.Alone.{named_of}
 use Rattle.one_trace.specs.AloneLaws.{alone_length, alone_head, alone_named}
-use borrow.Author.Rules.{rules}
 use Rattle.one_trace.proofs.block.Goals as goal
 
 pub returns-then-is_bad_length : goal.returns-then-is_bad_length

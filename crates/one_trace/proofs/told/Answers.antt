@@ -1,6 +1,5 @@
 -- `one_trace::told` meets its contract, arm by arm. Assumes nothing.
 use mathlib.Core.Path.{sym}
-use borrow.Author.Rules.{rules}
 use Rattle.one_trace.proofs.told.Goals as goal
 
 pub returns-in-Refused : goal.returns-in-Refused

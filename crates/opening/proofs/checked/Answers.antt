@@ -1,6 +1,5 @@
 -- `opening::checked` meets its contract: the answer of the check, handed on. Assumes nothing.
 use mathlib.Core.Path.{sym, ◌∙◌}
-use borrow.Author.Rules.{rules}
 use Rattle.opening.proofs.checked.Goals as goal
 
 pub returns-in-Refused : goal.returns-in-Refused

@@ -3,7 +3,6 @@
 use mathlib.Core.Path.{sym, ap, ◌∙◌}
 use Rattle.strings.specs.Strings.{found}
 use Rattle.opening.specs.OpeningLaws.{image_shown, first_lies, first_channel}
-use borrow.Author.Rules.{rules}
 use native.Mathlib.Omega.{arith}
 use Rattle.opening.proofs.has_channel.Goals as goal
 

@@ -1,6 +1,5 @@
 -- `opening::is_wrong_channel` meets its contract: the first sheet is free, a later one is as trace 0. Assumes nothing.
 use Rattle.opening.specs.OpeningLaws.{wrong_first, wrong_later, some_there}
-use borrow.Author.Rules.{rules}
 use Rattle.opening.proofs.is_wrong_channel.Goals as goal
 
 pub returns-then-first : goal.returns-then-first

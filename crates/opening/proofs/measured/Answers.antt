@@ -2,7 +2,6 @@
 use mathlib.Core.Path.{◌∙◌}
 use native.Mathlib.Omega.{arith}
 use Rattle.opening.specs.OpeningLaws.{image_shown}
-use borrow.Author.Rules.{rules}
 use Rattle.opening.proofs.measured.Goals as goal
 
 pub string_end-requires : goal.string_end-requires

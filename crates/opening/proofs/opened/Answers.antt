@@ -4,7 +4,6 @@ use mathlib.Core.Path.{sym, ◌∙◌}
 use native.Mathlib.Omega.{arith}
 use Rattle.head.specs.HeadLaws.{block_order, block_count}
 use Rattle.opening.specs.OpeningLaws.{accepted, opened_bad, opened_full, opened_free}
-use borrow.Author.Rules.{rules}
 use Rattle.opening.proofs.opened.Goals as goal
 
 pub returns-in-Refused : goal.returns-in-Refused

@@ -1,7 +1,6 @@
 -- `opening::taken` meets its contract: the rows of the sheet, then row 35. Assumes nothing.
 use mathlib.Core.Path.{sym, ◌∙◌}
 use Rattle.opening.specs.OpeningLaws.{taken_bad, taken_wrong, taken_size}
-use borrow.Author.Rules.{rules}
 use Rattle.opening.proofs.taken.Goals as goal
 
 pub returns-then-is_wrong_channel : goal.returns-then-is_wrong_channel

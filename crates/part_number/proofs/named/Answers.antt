@@ -1,5 +1,4 @@
 -- `part_number::named` meets its contract. -1 is told by its bit pattern, then the sign, then the bound. Assumes nothing.
-use borrow.Author.Rules.{rules}
 use Rattle.part_number.proofs.Machine.{whole, below, casts, one, past}
 use Rattle.part_number.proofs.named.Goals as goal
 

@@ -9,7 +9,6 @@ use Rattle.reader.specs.declared.Opened.TheVariants as opened
 use Rattle.reader.specs.Reach.{Reached, reached}
 use Rattle.reader.specs.Leaves.{opened_of, placed}
 use Rattle.string_rows.specs.Rows.{strings_bad, strings_told, strings_left_lem}
-use borrow.Author.Rules.{rules}
 use Rattle.part_rows.proofs.strings.Goals as goal
 use Rattle.part_rows.proofs.strings.Goals.{In-From}
 

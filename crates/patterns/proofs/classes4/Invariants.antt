@@ -1,10 +1,7 @@
 use Prim.Native.Nat.{ℕ, ◌-◌}
-use native.Mathlib.Omega.{arith}
 use lib.ListN.{length, get_or}
-use borrow.Author.Rules.{rules}
-use Rattle.sample.specs.Run.{Filling, fill_start, fill_one}
+use Rattle.sample.specs.Run.{Filling}
 use Rattle.decode.specs.Sample.{class_of}
-use Rattle.decode.specs.SampleLaws.{classes_end}
 use Rattle.patterns.proofs.classes4.Given as goal
 
 abbrev pub invariant-loop-i : goal.invariant-loop-i

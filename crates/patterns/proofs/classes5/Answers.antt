@@ -1,11 +1,8 @@
 -- `patterns::classes5` meets its contract. The invariant: what is left to store, stored, makes the whole row. Assumes
 -- nothing.
-use Prim.Native.Nat.{ℕ, ◌-◌}
+use Prim.Native.Nat.{◌-◌}
 use native.Mathlib.Omega.{arith}
-use lib.ListN.{length, get_or}
-use borrow.Author.Rules.{rules}
-use Rattle.sample.specs.Run.{Filling, fill_start, fill_one}
-use Rattle.decode.specs.Sample.{class_of}
+use Rattle.sample.specs.Run.{fill_start, fill_one}
 use Rattle.decode.specs.SampleLaws.{classes_end}
 use Rattle.patterns.proofs.classes5.Goals as goal
 

@@ -1,9 +1,6 @@
 use Prim.Native.Nat.{◌-◌}
-use native.Mathlib.Omega.{arith}
 use lib.ListN.{length}
-use borrow.Author.Rules.{rules}
-use Rattle.sample.specs.Needed.{needed, width}
-use Rattle.sample.specs.Run.{Filling, fill_start, fill_one, fill_end}
+use Rattle.sample.specs.Run.{Filling}
 use Rattle.decode.specs.Sample.{pattern_of}
 use Rattle.patterns.proofs.patterns4.Given as goal
 

@@ -1,6 +1,5 @@
 -- `patterns::read_bits` meets its contract. Each arm is the decoder of its code; no other code is one of bits. Assumes
 -- nothing.
-use borrow.Author.Rules.{rules}
 use Rattle.decode.specs.SampleLaws.{no_bits, no_bits_read}
 use Rattle.patterns.proofs.read_bits.Goals as goal
 

@@ -2,15 +2,15 @@
 -- Assumes nothing.
 use mathlib.Core.Path.{◌≡◌, refl, sym, ap, ◌∙◌}
 use mathlib.Core.List.{◌∷◌}
-use Prim.Native.Nat.{ℕ, ◌≤◌, ◌-◌, ◌+◌, ◌*◌, ◌<◌}
+use Prim.Native.Nat.{◌≤◌, ◌-◌, ◌+◌, ◌<◌}
 use native.Mathlib.Nat.{le_of_eq}
 use native.Mathlib.Omega.{arith}
 use lib.ListN.{length}
 use Rattle.word.specs.Part.{part, length_part}
-use Rattle.word.specs.Put.{put, length_put}
+use Rattle.word.specs.Put.{length_put}
 use Rattle.strings.specs.Strings.{places_from, places_of, PlaceIn}
 use Rattle.strings.specs.Walks.{place_next, place_stop, place_bounds, place_over}
-use Rattle.places.specs.Numbers.{numbers_of, numbers_none, numbers_next, numbers_all}
+use Rattle.places.specs.Numbers.{numbers_none, numbers_next, numbers_all}
 use borrow.Author.Rules.{rules}
 use Rattle.places.proofs.fill.Goals as goal
 use Rattle.places.proofs.fill.Goals.{In-At}

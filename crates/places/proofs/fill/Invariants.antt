@@ -1,15 +1,10 @@
-use mathlib.Core.Path.{◌≡◌, refl, sym, ap, ◌∙◌}
-use mathlib.Core.List.{◌∷◌}
-use Prim.Native.Nat.{ℕ, ◌≤◌, ◌-◌, ◌+◌, ◌*◌, ◌<◌}
-use native.Mathlib.Nat.{le_of_eq}
-use native.Mathlib.Omega.{arith}
+use mathlib.Core.Path.{◌≡◌}
+use Prim.Native.Nat.{ℕ, ◌≤◌, ◌-◌, ◌+◌, ◌*◌}
 use lib.ListN.{length}
-use Rattle.word.specs.Part.{part, length_part}
-use Rattle.word.specs.Put.{put, length_put}
-use Rattle.strings.specs.Strings.{places_from, places_of, PlaceIn}
-use Rattle.strings.specs.Walks.{place_next, place_stop, place_bounds, place_over}
-use Rattle.places.specs.Numbers.{numbers_of, numbers_none, numbers_next, numbers_all}
-use borrow.Author.Rules.{rules}
+use Rattle.word.specs.Part.{part}
+use Rattle.word.specs.Put.{put}
+use Rattle.strings.specs.Strings.{places_from, places_of}
+use Rattle.places.specs.Numbers.{numbers_of}
 use Rattle.places.proofs.fill.Given as goal
 
 abbrev pub invariant-loop-at : goal.invariant-loop-at

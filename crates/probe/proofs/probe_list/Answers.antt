@@ -1,7 +1,6 @@
 -- `probe::probe_list` meets its contract: the answer as a number. Assumes nothing.
 use mathlib.Core.Path.{ap, ◌∙◌}
 use Rattle.probe.specs.Listed.{length_told}
-use borrow.Author.Rules.{rules}
 use Rattle.probe.proofs.probe_list.Goals as goal
 
 pub returns : goal.returns

@@ -3,7 +3,6 @@ use mathlib.Core.Path.{ap}
 use native.Mathlib.Omega.{arith}
 use lib.ListN.{length}
 use Rattle.terminators.specs.TerminatorLaws.{good_most, length_terminator}
-use borrow.Author.Rules.{rules}
 use Rattle.quick.proofs.between.Goals as goal
 
 pub walk-requires : goal.walk-requires

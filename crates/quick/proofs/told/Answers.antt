@@ -1,6 +1,5 @@
 -- `quick::told` meets its contract, arm by arm. Assumes nothing.
 use mathlib.Core.Path.{sym}
-use borrow.Author.Rules.{rules}
 use Rattle.quick.proofs.told.Goals as goal
 
 pub returns-in-At : goal.returns-in-At

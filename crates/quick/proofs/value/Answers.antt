@@ -5,7 +5,6 @@ use mir.Syntax.{w32}
 use Rattle.word.specs.Signed.{handed}
 use Rattle.quick.specs.Quick.{quick_find}
 use Rattle.quick.specs.QuickLaws.{find_lent, value_told, span_told}
-use borrow.Author.Rules.{rules}
 use Rattle.quick.proofs.value.Goals as goal
 
 pub value_at-requires : goal.value_at-requires

@@ -11,7 +11,6 @@ use Rattle.block.specs.declared.TraceAnswer.TheVariants as trace
 use Rattle.one_trace.specs.Alone.{block_alone}
 use Rattle.one_trace.specs.AloneLaws.{Alone}
 use Rattle.quick.specs.QuickLaws.{walk_refused, shown, area_lies, walk_told, number_plain, number_casts}
-use borrow.Author.Rules.{rules}
 use Rattle.quick.proofs.walk.Goals as goal
 use Rattle.quick.proofs.walk.Goals.{In-Is}
 

@@ -17,7 +17,6 @@ use Rattle.one_trace.specs.Alone.{block_alone}
 use Rattle.one_trace.specs.AloneLaws.{Alone}
 use Rattle.quick.specs.QuickLaws.{shown, area_lies, number_plain, number_casts}
 use Rattle.quick_rows.specs.Told.{strings_refused, strings_bad, as_many, strings_told, strings_left_lem, no_string}
-use borrow.Author.Rules.{rules}
 use Rattle.quick_rows.proofs.strings.Goals as goal
 use Rattle.quick_rows.proofs.strings.Goals.{In-Is}
 

@@ -8,7 +8,6 @@ use Rattle.block.specs.declared.TraceAnswer.TheVariants as trace
 use Rattle.one_trace.specs.Alone.{block_alone}
 use Rattle.quick.specs.QuickLaws.{shown}
 use Rattle.quick_samples.specs.Told.{bits_bad, own_fits, bits_answer_lem, patterns_left_lem, classes_left_lem}
-use borrow.Author.Rules.{rules}
 use Rattle.quick_samples.proofs.bits.Goals as goal
 use Rattle.quick_samples.proofs.bits.Goals.{In-Is}
 

@@ -8,7 +8,6 @@ use Rattle.block.specs.declared.TraceAnswer.TheVariants as trace
 use Rattle.one_trace.specs.Alone.{block_alone}
 use Rattle.quick.specs.QuickLaws.{shown}
 use Rattle.quick_samples.specs.Told.{integers_bad, own_fits, integers_answer_lem, integers_left_lem}
-use borrow.Author.Rules.{rules}
 use Rattle.quick_samples.proofs.integers.Goals as goal
 use Rattle.quick_samples.proofs.integers.Goals.{In-Is}
 

@@ -1,6 +1,5 @@
 -- `quick_strings::counted` meets its contract, arm by arm. Assumes nothing.
 use mathlib.Core.Path.{sym}
-use borrow.Author.Rules.{rules}
 use Rattle.quick_strings.proofs.counted.Goals as goal
 
 pub returns-in-Over : goal.returns-in-Over

@@ -1,7 +1,6 @@
 -- `reader::whose_in` meets its contract. N is the word at 6, in the order of the file. Assumes nothing.
 use mathlib.Core.Path.{◌∙◌}
 use lib.IntN.{ℤ}
-use borrow.Author.Rules.{rules}
 use mir.Syntax.{w32}
 use Rattle.head_words.specs.HeadWords.{count_read}
 use Rattle.head_words.specs.HeadWords.{count_of}

@@ -6,7 +6,6 @@ use lib.IntN.{ℤ, pos, nat_abs}
 use mir.Syntax.{w64}
 use mir.Val.{to_z, of_z}
 use mir.Facts.{to_z-of_z}
-use borrow.Author.Rules.{rules}
 use Rattle.refusal.specs.Table.{number_of, Numbered}
 use Rattle.refusal.specs.declared.Rule.{Rule}
 use Rattle.refusal.proofs.Numbers.{below_hundred}

@@ -1,7 +1,6 @@
 -- `refusal::part_number` meets its contract: a trace's number fits 16 bits, so it is kept as a signed one. Assumes
 -- nothing.
 use native.Mathlib.Omega.{arith}
-use borrow.Author.Rules.{rules}
 use mir.Syntax.{w32}
 use mir.Facts.{to_z_pos}
 use Rattle.refusal.proofs.part_number.Goals as goal

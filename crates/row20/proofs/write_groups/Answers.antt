@@ -1,6 +1,5 @@
 -- `row20::write_groups` meets its contract. What is left behind the pairs, written, makes the whole. Assumes nothing.
 use mathlib.Core.Path.{ap, ◌∙◌}
-use borrow.Author.Rules.{rules}
 use Rattle.word.specs.Put.{put}
 use Rattle.row20.specs.RowLaws.{pairs_all}
 use Rattle.row20.proofs.write_groups.Goals as goal

@@ -1,13 +1,12 @@
 -- `row20::write_low` meets its contract. The invariant: what is left to write, written, makes the whole. Assumes
 -- nothing.
-use mathlib.Core.Bool.{false}
 use mathlib.Core.Path.{◌≡◌}
-use Prim.Native.Nat.{◌-◌, ◌/◌, ◌≤◌}
+use Prim.Native.Nat.{◌-◌, ◌/◌}
 use native.Mathlib.Omega.{arith}
 use lib.ListN.{length}
 use borrow.Author.Rules.{rules}
 use Rattle.sample.specs.Needed.{needed, room}
-use Rattle.row20.specs.RowLaws.{Writing, write_start, pairs_from, pair_turn}
+use Rattle.row20.specs.RowLaws.{write_start, pair_turn}
 use Rattle.row20.proofs.write_low.Goals as goal
 
 pub loop-k-init : goal.loop-k-init

@@ -1,11 +1,7 @@
 use mathlib.Core.Bool.{false}
-use mathlib.Core.Path.{◌≡◌}
 use Prim.Native.Nat.{◌-◌, ◌/◌, ◌≤◌}
-use native.Mathlib.Omega.{arith}
 use lib.ListN.{length}
-use borrow.Author.Rules.{rules}
-use Rattle.sample.specs.Needed.{needed, room}
-use Rattle.row20.specs.RowLaws.{Writing, write_start, pairs_from, pair_turn}
+use Rattle.row20.specs.RowLaws.{Writing, pairs_from}
 use Rattle.row20.proofs.write_low.Given as goal
 
 abbrev pub invariant-loop-k : goal.invariant-loop-k

@@ -1,5 +1,4 @@
 -- `row20::write_pairs` meets its contract. Each order is written by itself. Assumes nothing.
-use borrow.Author.Rules.{rules}
 use Rattle.row20.proofs.write_pairs.Goals as goal
 
 pub returns-then-high : goal.returns-then-high

@@ -1,7 +1,6 @@
 -- `sample::needed` meets its contract. Each arm is the row of the table that its code names. Assumes nothing.
 use mathlib.Core.Path.{sym}
 use native.Mathlib.Omega.{arith}
-use borrow.Author.Rules.{rules}
 use Rattle.sample.specs.Needed.{needed, by_code_none}
 use Rattle.sample.proofs.needed.Goals as goal
 

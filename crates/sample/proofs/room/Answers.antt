@@ -1,7 +1,6 @@
 -- `sample::room` meets its contract. It is the needed bytes, rounded up. Assumes nothing.
 use mathlib.Core.Path.{◌∙◌, ap}
 use native.Mathlib.Omega.{arith}
-use borrow.Author.Rules.{rules}
 use Rattle.word.specs.Round.{round4}
 use Rattle.sample.specs.Needed.{room}
 use Rattle.sample.proofs.room.Goals as goal

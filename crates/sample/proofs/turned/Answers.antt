@@ -1,7 +1,6 @@
 -- `sample::turned` meets its contract. Two bytes change places. Assumes nothing.
 use mathlib.Core.Path.{sym}
 use native.Mathlib.Omega.{arith}
-use borrow.Author.Rules.{rules}
 use Rattle.sample.specs.Turned.{turned_two, turned_low}
 use Rattle.sample.proofs.turned.Goals as goal
 

@@ -1,7 +1,6 @@
 -- `sample::turned4` meets its contract. The halves change places, each turned. Assumes nothing.
 use mathlib.Core.Path.{sym}
 use native.Mathlib.Omega.{arith}
-use borrow.Author.Rules.{rules}
 use Rattle.sample.specs.Turned.{turned_halves, turned_low}
 use Rattle.sample.proofs.turned4.Goals as goal
 

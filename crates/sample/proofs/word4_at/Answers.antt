@@ -1,7 +1,6 @@
 -- `sample::word4_at` meets its contract. A word that is read low byte first and then turned is the word of the order.
 -- Assumes nothing.
 use mathlib.Core.Path.{ap, ◌∙◌}
-use borrow.Author.Rules.{rules}
 use Rattle.sample.specs.Turned.{turned, turned_word}
 use Rattle.sample.proofs.word4_at.Goals as goal
 

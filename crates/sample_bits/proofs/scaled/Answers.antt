@@ -1,5 +1,4 @@
 -- `sample_bits::scaled` meets its contract. 15 bits shifted by at most 15 lose nothing. Assumes nothing.
-use borrow.Author.Rules.{rules}
 use Rattle.sample_bits.proofs.Machine.{mantissa_shifts}
 use Rattle.sample_bits.proofs.scaled.Goals as goal
 

@@ -1,7 +1,5 @@
 -- `sample_rows::integers` meets its contract. A law for each answer, with the tests as premises. Assumes nothing.
 use mathlib.Core.Path.{sym, ◌∙◌}
-use borrow.Author.Tests.{not-true, not-false}
-use borrow.Author.Rules.{rules}
 use Rattle.sample_rows.specs.Ended.{integers_kind, integers_long, integers_done}
 use Rattle.sample_rows.proofs.integers.Goals as goal
 

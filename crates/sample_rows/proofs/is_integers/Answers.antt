@@ -1,5 +1,4 @@
 -- `sample_rows::is_integers` meets its contract. No other code is one of integers. Assumes nothing.
-use borrow.Author.Rules.{rules}
 use Rattle.reader.specs.Leaves.{integers_none}
 use Rattle.sample_rows.proofs.is_integers.Goals as goal
 

@@ -2,7 +2,6 @@
 use mathlib.Core.Path.{sym, ◌∙◌}
 use native.Mathlib.Omega.{arith}
 use lib.IntN.{ℤ}
-use borrow.Author.Rules.{rules}
 use mir.Syntax.{w32}
 use Rattle.samples.specs.Samples.{integers_bad, integers_answer_lem, integers_left_lem}
 use Rattle.reader.specs.Reach.{told, told_fits}

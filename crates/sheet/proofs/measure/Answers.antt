@@ -1,14 +1,13 @@
 -- `sheet::measure` meets its contract. The invariant: the check from here answers as the check of the sheet, and what
 -- was counted with what is to come is the whole size. Assumes nothing.
 use mathlib.Core.Path.{sym, ◌∙◌}
-use Prim.Native.Nat.{◌+◌, ◌-◌, ◌≤◌, ◌<◌}
+use Prim.Native.Nat.{◌+◌, ◌-◌, ◌<◌}
 use lib.ListN.{length}
 use Rattle.word.specs.Part.{part_rest}
-use Rattle.sheet.specs.Counting.{Counted, counted_start, turn_fits, counted_turn, counted_bad, counted_large}
+use Rattle.sheet.specs.Counting.{counted_start, turn_fits, counted_turn, counted_bad, counted_large}
 use Rattle.sheet.specs.Counting.{counted_size}
 use borrow.Author.Rules.{rules}
 use native.Mathlib.Omega.{arith}
-use Rattle.sheet.specs.Area.{area_most}
 use Rattle.sheet.proofs.measure.Goals as goal
 use Rattle.sheet.proofs.measure.Goals.{In-Next}
 

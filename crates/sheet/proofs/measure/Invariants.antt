@@ -1,11 +1,6 @@
-use mathlib.Core.Path.{sym, ◌∙◌}
-use Prim.Native.Nat.{◌+◌, ◌-◌, ◌≤◌, ◌<◌}
+use Prim.Native.Nat.{◌+◌, ◌-◌, ◌≤◌}
 use lib.ListN.{length}
-use Rattle.word.specs.Part.{part_rest}
-use Rattle.sheet.specs.Counting.{Counted, counted_start, turn_fits, counted_turn, counted_bad, counted_large}
-use Rattle.sheet.specs.Counting.{counted_size}
-use borrow.Author.Rules.{rules}
-use native.Mathlib.Omega.{arith}
+use Rattle.sheet.specs.Counting.{Counted}
 use Rattle.sheet.specs.Area.{area_most}
 use Rattle.sheet.proofs.measure.Given as goal
 

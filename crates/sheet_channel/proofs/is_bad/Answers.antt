@@ -1,6 +1,5 @@
 -- `sheet_channel::is_bad` meets its contract. Each answer has its law. Assumes nothing.
 use mathlib.Core.Path.{◌∙◌}
-use borrow.Author.Rules.{rules}
 use Rattle.sheet_channel.specs.Told.{sheet_without, sheet_with}
 use Rattle.sheet_channel.proofs.is_bad.Goals as goal
 

@@ -1,6 +1,5 @@
 -- `sheet_line::is_spaced` meets its contract. Assumes nothing.
 use lib.ListN.{get_or-eq_default}
-use borrow.Author.Rules.{rules}
 use native.Mathlib.Omega.{arith}
 use Rattle.sheet_line.proofs.is_spaced.Goals as goal
 

@@ -1,11 +1,9 @@
 -- `sheet_line::judge` meets its contract. Each answer has its law. Assumes nothing.
 use mathlib.Core.Path.{sym, ◌∙◌}
 use lib.Seq.{length-take-le}
-use borrow.Author.Tests.{not-true, not-false}
 use Rattle.word.specs.Part.{part_rest}
 use Rattle.sheet_line.specs.Judging.{judged_none, judged_short, judged_other, judged_value, judged_space, judged_order}
 use Rattle.sheet_line.specs.Judging.{judged_good}
-use borrow.Author.Rules.{rules}
 use native.Mathlib.Omega.{arith}
 use Rattle.sheet_line.proofs.judge.Goals as goal
 

@@ -2,7 +2,6 @@
 use mathlib.Core.Path.{sym, ◌∙◌}
 use lib.Seq.{length-take-le}
 use Rattle.sheet_line.specs.Judging.{step_open, step_good, step_bad}
-use borrow.Author.Rules.{rules}
 use Rattle.sheet_line.proofs.step_at.Goals as goal
 
 pub returns-then-s-n : goal.returns-then-s-n

@@ -1,11 +1,10 @@
 -- `sheet_string::write_lines` meets its contract. The invariant: what is left to store, stored, makes the whole. Assumes
 -- nothing.
-use mathlib.Core.Path.{◌≡◌, refl}
-use Prim.Native.Nat.{◌≤◌, ◌-◌}
-use lib.ListN.{length}
+use mathlib.Core.Path.{refl}
+use Prim.Native.Nat.{◌-◌}
 use Rattle.word.specs.Part.{part_rest}
 use Rattle.word.specs.Put.{length_put}
-use Rattle.sheet_string.specs.StringBytes.{Noting, noting_start, noting_fits, noting_turn, noting_over}
+use Rattle.sheet_string.specs.StringBytes.{noting_start, noting_fits, noting_turn, noting_over}
 use borrow.Author.Rules.{rules}
 use native.Mathlib.Omega.{arith}
 use Rattle.sheet_string.proofs.write_lines.Goals as goal

@@ -1,11 +1,7 @@
-use mathlib.Core.Path.{◌≡◌, refl}
+use mathlib.Core.Path.{◌≡◌}
 use Prim.Native.Nat.{◌≤◌, ◌-◌}
 use lib.ListN.{length}
-use Rattle.word.specs.Part.{part_rest}
-use Rattle.word.specs.Put.{length_put}
-use Rattle.sheet_string.specs.StringBytes.{Noting, noting_start, noting_fits, noting_turn, noting_over}
-use borrow.Author.Rules.{rules}
-use native.Mathlib.Omega.{arith}
+use Rattle.sheet_string.specs.StringBytes.{Noting}
 use Rattle.sheet_string.proofs.write_lines.Given as goal
 
 abbrev pub invariant-loop-at : goal.invariant-loop-at

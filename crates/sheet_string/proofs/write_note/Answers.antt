@@ -7,7 +7,6 @@ use Rattle.strings.specs.Spelled.{size_of}
 use Rattle.sheet.specs.Lines.{sheet_lines}
 use Rattle.sheet.specs.Area.{note_of}
 use Rattle.sheet_string.specs.StringBytes.{NoteAt, note_at, note_written}
-use borrow.Author.Rules.{rules}
 use native.Mathlib.Omega.{arith}
 use Rattle.sheet_string.proofs.write_note.Goals as goal
 use Rattle.sheet_string.proofs.write_note.Goals.{After-line_len-n}

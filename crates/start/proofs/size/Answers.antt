@@ -2,7 +2,6 @@
 use mathlib.Core.Path.{sym, ◌∙◌}
 use native.Mathlib.Omega.{arith}
 use Rattle.start.specs.StartWrites.{needs_bad, needs_sheet, needs_sized, small_size}
-use borrow.Author.Rules.{rules}
 use Rattle.start.proofs.size.Goals as goal
 
 pub returns-then-is_bad_start : goal.returns-then-is_bad_start

@@ -1,7 +1,6 @@
 -- `start::start` meets its contract. The question for its room, then row 30, then the image. Assumes nothing.
 use mathlib.Core.Path.{◌∙◌}
 use Rattle.start.specs.StartWrites.{start_kept, start_full, start_put, start_writable}
-use borrow.Author.Rules.{rules}
 use Rattle.start.proofs.start.Goals as goal
 
 pub returns-then-buffer-end : goal.returns-then-buffer-end

@@ -1,7 +1,6 @@
 -- `store::put2` meets its contract. The bytes are stored in the file's order. Assumes nothing.
 use native.Mathlib.Omega.{arith}
 use lib.ListN.{length-set}
-use borrow.Author.Rules.{rules}
 use Rattle.word.specs.Put.{put}
 use Rattle.word.specs.Word.{low_bytes, bytes_of}
 use Rattle.store.proofs.put2.Goals as goal

@@ -1,11 +1,10 @@
 -- `store_bytes::copy` meets its contract. The invariant: what is left to store, stored, makes the whole. Assumes nothing.
 use mathlib.Core.Path.{◌≡◌, refl, ◌∙◌}
-use mathlib.Core.List.{[]}
-use Prim.Native.Nat.{◌+◌, ◌-◌}
+use Prim.Native.Nat.{◌-◌}
 use native.Mathlib.Nat.{add-zero}
 use native.Mathlib.Omega.{arith}
-use lib.ListN.{length, drop, length-set, drop_of_length-le}
-use Rattle.word.specs.Put.{put, put_none, copy_turn}
+use lib.ListN.{drop, length-set, drop_of_length-le}
+use Rattle.word.specs.Put.{put_none, copy_turn}
 use Rattle.store_bytes.proofs.copy.Goals as goal
 
 pub loop-i-init : goal.loop-i-init

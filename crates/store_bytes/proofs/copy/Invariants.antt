@@ -1,10 +1,7 @@
-use mathlib.Core.Path.{◌≡◌, refl, ◌∙◌}
-use mathlib.Core.List.{[]}
+use mathlib.Core.Path.{◌≡◌}
 use Prim.Native.Nat.{◌+◌, ◌-◌}
-use native.Mathlib.Nat.{add-zero}
-use native.Mathlib.Omega.{arith}
-use lib.ListN.{length, drop, length-set, drop_of_length-le}
-use Rattle.word.specs.Put.{put, put_none, copy_turn}
+use lib.ListN.{length, drop}
+use Rattle.word.specs.Put.{put}
 use Rattle.store_bytes.proofs.copy.Given as goal
 
 abbrev pub invariant-loop-i : goal.invariant-loop-i

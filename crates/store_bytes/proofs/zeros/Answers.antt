@@ -2,8 +2,8 @@
 use mathlib.Core.Path.{◌≡◌, refl, ◌∙◌}
 use Prim.Native.Nat.{◌+◌, ◌-◌}
 use native.Mathlib.Omega.{arith}
-use lib.ListN.{length, replicate, length-set}
-use Rattle.word.specs.Put.{put, put_none, fill_turn}
+use lib.ListN.{length-set}
+use Rattle.word.specs.Put.{put_none, fill_turn}
 use Rattle.store_bytes.proofs.zeros.Goals as goal
 
 pub loop-i-init : goal.loop-i-init

@@ -1,7 +1,6 @@
 -- `store_wide::put8` meets its contract. It is two writes of half the width, one behind the other. Assumes nothing.
 use mathlib.Core.Path.{◌∙◌}
 use native.Mathlib.Omega.{arith}
-use borrow.Author.Rules.{rules}
 use Rattle.word.specs.WordLaws.{put_joined}
 use Rattle.store_wide.proofs.put8.Goals as goal
 

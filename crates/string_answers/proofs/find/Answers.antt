@@ -2,7 +2,6 @@
 use mathlib.Core.Path.{sym, ◌∙◌}
 use native.Mathlib.Omega.{arith}
 use lib.IntN.{ℤ}
-use borrow.Author.Rules.{rules}
 use mir.Syntax.{w32}
 use Rattle.reader.specs.Reach.{reached}
 use Rattle.reader.specs.Leaves.{opened_of, find_bad, find_told}

@@ -1,5 +1,4 @@
 -- `string_answers::there` meets its contract. An arm for each case. Assumes nothing.
-use borrow.Author.Rules.{rules}
 use Rattle.string_answers.proofs.there.Goals as goal
 
 pub returns-in-Is : goal.returns-in-Is

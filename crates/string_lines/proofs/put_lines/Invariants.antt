@@ -1,9 +1,6 @@
 use Prim.Native.Nat.{◌-◌}
 use lib.ListN.{length}
-use Rattle.string_lines.specs.Walks.{Lining, lining_start, lining_fits, lining_room, lining_turn, lining_last_room}
-use Rattle.string_lines.specs.Walks.{lining_last}
-use borrow.Author.Rules.{rules}
-use native.Mathlib.Omega.{arith}
+use Rattle.string_lines.specs.Walks.{Lining}
 use Rattle.string_lines.proofs.put_lines.Given as goal
 
 abbrev pub invariant-loop-e : goal.invariant-loop-e

@@ -1,7 +1,6 @@
 -- `string_lines::put_string` meets its contract. Only a NOTE has lines. Assumes nothing.
 use mathlib.Core.Path.{sym, ◌∙◌}
 use Rattle.string_lines.specs.Turns.{values_note, values_plain, lines_one}
-use borrow.Author.Rules.{rules}
 use Rattle.string_lines.proofs.put_string.Goals as goal
 
 pub put_lines-requires : goal.put_lines-requires

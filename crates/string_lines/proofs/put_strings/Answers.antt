@@ -4,9 +4,8 @@ use mathlib.Core.Path.{sym, ◌∙◌}
 use Prim.Native.Nat.{◌+◌, ◌-◌, ◌≤◌, ◌<◌}
 use lib.ListN.{length}
 use Rattle.strings.specs.Strings.{PlaceIn}
-use Rattle.string_lines.specs.Walks.{Stringing, stringing_start, stringing_over, stringing_none, stringing_in}
+use Rattle.string_lines.specs.Walks.{stringing_start, stringing_over, stringing_none, stringing_in}
 use Rattle.string_lines.specs.Walks.{stringing_room, stringing_turn}
-use borrow.Author.Rules.{rules}
 use native.Mathlib.Omega.{arith}
 use Rattle.string_lines.proofs.put_strings.Goals as goal
 use Rattle.string_lines.proofs.put_strings.Goals.{In-Is}

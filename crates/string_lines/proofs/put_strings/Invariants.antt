@@ -1,11 +1,5 @@
-use mathlib.Core.Path.{sym, ◌∙◌}
-use Prim.Native.Nat.{◌+◌, ◌-◌, ◌≤◌, ◌<◌}
-use lib.ListN.{length}
-use Rattle.strings.specs.Strings.{PlaceIn}
-use Rattle.string_lines.specs.Walks.{Stringing, stringing_start, stringing_over, stringing_none, stringing_in}
-use Rattle.string_lines.specs.Walks.{stringing_room, stringing_turn}
-use borrow.Author.Rules.{rules}
-use native.Mathlib.Omega.{arith}
+use Prim.Native.Nat.{◌-◌}
+use Rattle.string_lines.specs.Walks.{Stringing}
 use Rattle.string_lines.proofs.put_strings.Given as goal
 
 abbrev pub invariant-loop-s : goal.invariant-loop-s

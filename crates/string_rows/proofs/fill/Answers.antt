@@ -5,7 +5,6 @@ use lib.ListN.{length}
 use Rattle.places.specs.Numbers.{numbers_of}
 use Rattle.reader.specs.Leaves.{placed}
 use Rattle.string_rows.specs.Rows.{row_good, row_bad}
-use borrow.Author.Rules.{rules}
 use Rattle.string_rows.proofs.fill.Goals as goal
 
 pub returns-then-fours-c : goal.returns-then-fours-c

@@ -1,7 +1,7 @@
 -- `string_walk::walk` meets its contract. The invariant: the walk from here answers as the walk along the whole area.
 -- Assumes nothing.
 use mathlib.Core.Path.{◌≡◌, sym, ap, ◌∙◌}
-use Prim.Native.Nat.{ℕ, ◌≤◌, ◌-◌, ◌+◌, ◌<◌}
+use Prim.Native.Nat.{◌≤◌, ◌-◌, ◌+◌, ◌<◌}
 use native.Mathlib.Nat.{le_of_eq}
 use native.Mathlib.Omega.{arith}
 use lib.ListN.{length}
@@ -12,7 +12,6 @@ use Rattle.strings.specs.Strings.{step_of}
 use Rattle.strings.specs.Walks.{turn_fits}
 use Rattle.strings.specs.Passed.{seen_lies}
 use Rattle.until.specs.declared.Walked.TheVariants as walked
-use Rattle.until.specs.Until.{look_of, walk_from, walk_of}
 use Rattle.until.specs.Turns.{walk_start, walk_none, walk_past, walk_bad, walk_done, walk_here, walk_gone, walk_on}
 use borrow.Author.Rules.{rules}
 use Rattle.string_walk.proofs.walk.Goals as goal

@@ -1,6 +1,5 @@
 -- `strings::is_cut` meets its contract. Assumes nothing.
 use mathlib.Core.Path.{sym, ◌∙◌}
-use borrow.Author.Rules.{rules}
 use Rattle.strings.proofs.is_cut.Goals as goal
 
 pub returns-then-open_end : goal.returns-then-open_end

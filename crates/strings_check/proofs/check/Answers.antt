@@ -1,14 +1,12 @@
 -- `strings_check::check` meets its contract. The invariant: the check from here answers as the check of the whole area, and
 -- the keyword that is sought was seen at `hit` or is to be seen from here on. Assumes nothing.
-use mathlib.Core.Path.{◌≡◌, sym, ◌∙◌}
-use Prim.Native.Nat.{ℕ, ◌≤◌, ◌-◌, ◌+◌, ◌<◌}
+use mathlib.Core.Path.{sym, ◌∙◌}
+use Prim.Native.Nat.{◌≤◌, ◌-◌, ◌+◌, ◌<◌}
 use native.Mathlib.Nat.{le_of_eq}
 use lib.ListN.{length}
 use Rattle.word.specs.Part.{part, length_part}
-use Rattle.strings.specs.Strings.{strings_from, strings_of}
-use Rattle.channel.specs.Channel.{channel_number}
 use Rattle.strings.specs.Walks.{turn_fits, turn_next, turn_bad, turn_done, walk_start, walk_over}
-use Rattle.seek.specs.Sought.{Sought, sought_start, sought_done, sought_over, sought_next}
+use Rattle.seek.specs.Sought.{sought_start, sought_done, sought_over, sought_next}
 use Rattle.seek.specs.Sought.{checked_bad, checked_seen, checked_none}
 use borrow.Author.Rules.{rules}
 use native.Mathlib.Omega.{arith}

@@ -1,15 +1,9 @@
-use mathlib.Core.Path.{◌≡◌, sym, ◌∙◌}
-use Prim.Native.Nat.{ℕ, ◌≤◌, ◌-◌, ◌+◌, ◌<◌}
-use native.Mathlib.Nat.{le_of_eq}
-use lib.ListN.{length}
-use Rattle.word.specs.Part.{part, length_part}
+use mathlib.Core.Path.{◌≡◌}
+use Prim.Native.Nat.{ℕ, ◌≤◌, ◌-◌}
+use Rattle.word.specs.Part.{part}
 use Rattle.strings.specs.Strings.{strings_from, strings_of}
 use Rattle.channel.specs.Channel.{channel_number}
-use Rattle.strings.specs.Walks.{turn_fits, turn_next, turn_bad, turn_done, walk_start, walk_over}
-use Rattle.seek.specs.Sought.{Sought, sought_start, sought_done, sought_over, sought_next}
-use Rattle.seek.specs.Sought.{checked_bad, checked_seen, checked_none}
-use borrow.Author.Rules.{rules}
-use native.Mathlib.Omega.{arith}
+use Rattle.seek.specs.Sought.{Sought}
 use Rattle.strings_check.proofs.check.Given as goal
 
 abbrev pub invariant-loop-at : goal.invariant-loop-at

@@ -1,9 +1,7 @@
 -- `terminators::is_apart` meets its contract. The invariant: what is left is apart just where the whole is. Assumes nothing.
-use mathlib.Core.Path.{◌≡◌, refl, sym, ◌∙◌}
-use Prim.Native.Nat.{◌≤◌, ◌-◌}
-use lib.ListN.{length, drop}
-use borrow.Author.Tests.{not-true, not-false}
-use Rattle.chars.specs.Runs.{all, all_more, all_end, all_over}
+use mathlib.Core.Path.{refl, sym, ◌∙◌}
+use Prim.Native.Nat.{◌-◌}
+use Rattle.chars.specs.Runs.{all_more, all_end, all_over}
 use Rattle.terminators.specs.Terminators.{lacks, apart}
 use borrow.Author.Rules.{rules}
 use Rattle.terminators.proofs.is_apart.Goals as goal

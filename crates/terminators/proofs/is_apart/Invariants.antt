@@ -1,10 +1,8 @@
-use mathlib.Core.Path.{◌≡◌, refl, sym, ◌∙◌}
+use mathlib.Core.Path.{◌≡◌}
 use Prim.Native.Nat.{◌≤◌, ◌-◌}
 use lib.ListN.{length, drop}
-use borrow.Author.Tests.{not-true, not-false}
-use Rattle.chars.specs.Runs.{all, all_more, all_end, all_over}
-use Rattle.terminators.specs.Terminators.{lacks, apart}
-use borrow.Author.Rules.{rules}
+use Rattle.chars.specs.Runs.{all}
+use Rattle.terminators.specs.Terminators.{lacks}
 use Rattle.terminators.proofs.is_apart.Given as goal
 
 abbrev pub invariant-loop-i : goal.invariant-loop-i

@@ -1,6 +1,5 @@
 -- `terminators::is_bad_lines` meets its contract. Assumes nothing.
 use mathlib.Core.Path.{sym, ◌∙◌}
-use borrow.Author.Tests.{not-true, not-false}
 use borrow.Author.Rules.{rules}
 use Rattle.terminators.proofs.is_bad_lines.Goals as goal
 

@@ -2,7 +2,6 @@
 use mathlib.Core.Path.{ap₂, ◌∙◌}
 use mathlib.Core.Bool.{Bool, ◌&&◌}
 use Rattle.terminators.specs.TerminatorLaws.{good_one, good_two, good_other}
-use borrow.Author.Rules.{rules}
 use Rattle.terminators.proofs.is_good.Goals as goal
 
 pub returns-then-n-eq1 : goal.returns-then-n-eq1

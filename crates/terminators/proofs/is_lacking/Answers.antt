@@ -1,9 +1,7 @@
 -- `terminators::is_lacking` meets its contract. The invariant: what is left lacks the byte just where the whole does. Assumes
 -- nothing.
-use mathlib.Core.Path.{◌≡◌, refl, ◌∙◌}
-use Prim.Native.Nat.{◌≤◌, ◌-◌}
-use lib.ListN.{length, drop}
-use Rattle.terminators.specs.Terminators.{lacks}
+use mathlib.Core.Path.{refl, ◌∙◌}
+use Prim.Native.Nat.{◌-◌}
 use Rattle.terminators.specs.TerminatorLaws.{lacks_here, lacks_on, lacks_over}
 use borrow.Author.Rules.{rules}
 use Rattle.terminators.proofs.is_lacking.Goals as goal

@@ -1,9 +1,7 @@
-use mathlib.Core.Path.{◌≡◌, refl, ◌∙◌}
+use mathlib.Core.Path.{◌≡◌}
 use Prim.Native.Nat.{◌≤◌, ◌-◌}
 use lib.ListN.{length, drop}
 use Rattle.terminators.specs.Terminators.{lacks}
-use Rattle.terminators.specs.TerminatorLaws.{lacks_here, lacks_on, lacks_over}
-use borrow.Author.Rules.{rules}
 use Rattle.terminators.proofs.is_lacking.Given as goal
 
 abbrev pub invariant-loop-i : goal.invariant-loop-i

@@ -2,7 +2,6 @@
 use mathlib.Core.Path.{sym, ◌∙◌}
 use Rattle.key_order.specs.Order.{rises_later}
 use Rattle.text.specs.Manner.{strict_follows}
-use borrow.Author.Rules.{rules}
 use Rattle.text.proofs.following.Goals as goal
 
 pub returns-then-is_before : goal.returns-then-is_before

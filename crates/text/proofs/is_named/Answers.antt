@@ -1,7 +1,6 @@
 -- `text::is_named` meets its contract. Assumes nothing.
 use mathlib.Core.Path.{◌∙◌}
 use Rattle.text.specs.Manner.{other_length}
-use borrow.Author.Rules.{rules}
 use Rattle.text.proofs.is_named.Goals as goal
 
 pub returns-then-k-key : goal.returns-then-k-key

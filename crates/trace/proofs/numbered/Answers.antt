@@ -1,5 +1,4 @@
 -- `trace::numbered` meets its contract: the row's test is its own. Assumes nothing.
-use borrow.Author.Rules.{rules}
 use Rattle.trace.proofs.numbered.Goals as goal
 
 pub returns-then-asks_channels-is_bad : goal.returns-then-asks_channels-is_bad

@@ -1,6 +1,5 @@
 -- `trace_check::block_of` meets its contract: the answer of the rows, handed on. Assumes nothing.
 use mathlib.Core.Path.{sym, ◌∙◌}
-use borrow.Author.Rules.{rules}
 use Rattle.trace_check.proofs.block_of.Goals as goal
 
 pub returns-in-Refused : goal.returns-in-Refused

@@ -1,6 +1,5 @@
 -- `trace_check::strings_of` meets its contract: the answer of the check, handed on. Assumes nothing.
 use mathlib.Core.Path.{sym, ◌∙◌}
-use borrow.Author.Rules.{rules}
 use Rattle.trace_check.proofs.strings_of.Goals as goal
 
 pub returns-in-Refused : goal.returns-in-Refused

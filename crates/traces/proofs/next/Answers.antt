@@ -1,7 +1,6 @@
 -- `traces::next` meets its contract. Row 8 is asked of a trace that is there. Assumes nothing.
 use mathlib.Core.Path.{sym, ◌∙◌}
 use native.Mathlib.Omega.{arith}
-use borrow.Author.Rules.{rules}
 use borrow.Author.Tests.{le-leb, lt-leb}
 use Rattle.traces.proofs.next.Goals as goal
 

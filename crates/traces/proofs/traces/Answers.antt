@@ -1,11 +1,10 @@
 -- `traces::traces` meets its contract. The invariant: the check from here answers as the check of all, p is where the
 -- trace k begins, and behind trace 0 `with` tells whether that has a channel number. Assumes nothing.
 use mathlib.Core.Path.{◌≡◌, sym, ◌∙◌}
-use Prim.Native.Nat.{◌+◌, ◌-◌, ◌≤◌, ◌<◌}
+use Prim.Native.Nat.{◌+◌, ◌-◌, ◌≤◌}
 use Rattle.traces.specs.Traces.{with_channel, traces_from}
-use Rattle.traces.specs.Walk.{pointed_from, Stands, next_stands, next_bad, next_past, chosen_first, turn_bad, turn_past}
+use Rattle.traces.specs.Walk.{pointed_from, next_stands, next_bad, next_past, chosen_first, turn_bad, turn_past}
 use Rattle.traces.specs.Walk.{walk_over}
-use borrow.Author.Rules.{rules}
 use native.Mathlib.Omega.{arith}
 use Rattle.traces.proofs.traces.Goals as goal
 use Rattle.traces.proofs.traces.Goals.{In-Through}

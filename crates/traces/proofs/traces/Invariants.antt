@@ -1,10 +1,7 @@
-use mathlib.Core.Path.{◌≡◌, sym, ◌∙◌}
-use Prim.Native.Nat.{◌+◌, ◌-◌, ◌≤◌, ◌<◌}
-use Rattle.traces.specs.Traces.{with_channel, traces_from}
-use Rattle.traces.specs.Walk.{pointed_from, Stands, next_stands, next_bad, next_past, chosen_first, turn_bad, turn_past}
-use Rattle.traces.specs.Walk.{walk_over}
-use borrow.Author.Rules.{rules}
-use native.Mathlib.Omega.{arith}
+use mathlib.Core.Path.{◌≡◌}
+use Prim.Native.Nat.{◌-◌, ◌≤◌, ◌<◌}
+use Rattle.traces.specs.Traces.{with_channel}
+use Rattle.traces.specs.Walk.{pointed_from, Stands}
 use Rattle.traces.proofs.traces.Given as goal
 
 abbrev pub invariant-loop-k : goal.invariant-loop-k

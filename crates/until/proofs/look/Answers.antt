@@ -1,7 +1,6 @@
 -- `until::look` meets its contract. Each answer is what its tests say. Assumes nothing.
 use mathlib.Core.Path.{sym, ◌∙◌}
 use borrow.Author.Tests.{eq-eqb, ne_eqb}
-use borrow.Author.Rules.{rules}
 use Rattle.until.proofs.look.Goals as goal
 
 pub returns-then-is_same : goal.returns-then-is_same

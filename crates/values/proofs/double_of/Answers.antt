@@ -3,7 +3,6 @@ use mathlib.Core.Path.{sym, ap, ◌∙◌}
 use Rattle.double.specs.Double.{double_of}
 use Rattle.double.specs.declared.DoubleAnswer.TheVariants as double
 use Rattle.values.proofs.Passed.{answered}
-use borrow.Author.Rules.{rules}
 use Rattle.values.proofs.double_of.Goals as goal
 
 pub returns-in-Refused : goal.returns-in-Refused

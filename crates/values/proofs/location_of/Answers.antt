@@ -3,7 +3,6 @@ use mathlib.Core.Path.{sym, ap, ◌∙◌}
 use Rattle.location.specs.Location.{location_of}
 use Rattle.location.specs.declared.LocationAnswer.TheVariants as location
 use Rattle.values.proofs.Passed.{answered}
-use borrow.Author.Rules.{rules}
 use Rattle.values.proofs.location_of.Goals as goal
 
 pub returns-in-Refused : goal.returns-in-Refused

@@ -3,7 +3,6 @@ use mathlib.Core.Path.{sym, ap, ◌∙◌}
 use Rattle.decimal.specs.Number.{number_in}
 use Rattle.decimal_parts.specs.declared.NumberAnswer.TheVariants as number
 use Rattle.values.proofs.Passed.{answered}
-use borrow.Author.Rules.{rules}
 use Rattle.values.proofs.number_of.Goals as goal
 
 pub returns-in-Refused : goal.returns-in-Refused

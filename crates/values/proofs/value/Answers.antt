@@ -1,7 +1,6 @@
 -- `values::value` meets its contract. What was found lies in the buffer. Assumes nothing.
 use mathlib.Core.Path.{◌∙◌}
 use lib.IntN.{ℤ}
-use borrow.Author.Rules.{rules}
 use mir.Syntax.{w32}
 use Rattle.reader.specs.Reach.{find_lent, value_told, span_told}
 use Rattle.reader.specs.Questions.{find_answer}

@@ -5,7 +5,6 @@ use mathlib.Core.Path.{sym}
 use native.Mathlib.Omega.{arith}
 use mir.Syntax.{w32}
 use Rattle.word.specs.Signed.{kept, sign, flips, minus_size, plus_size}
-use borrow.Author.Rules.{rules}
 use Rattle.word.proofs.magnitude.Goals as goal
 
 pub overflow_cast-result : goal.overflow_cast-result

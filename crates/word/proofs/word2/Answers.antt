@@ -1,7 +1,6 @@
 -- `word::word2` meets its contract. A word of two is two words of one. Assumes nothing.
 use Prim.Native.Nat.{◌+◌}
 use native.Mathlib.Omega.{arith}
-use borrow.Author.Rules.{rules}
 use Rattle.word.specs.WordLaws.{word_byte, word_joined}
 use Rattle.word.proofs.word2.Goals as goal
 

@@ -1,6 +1,5 @@
 -- `word::word8` meets its contract. It is two words of half the width. Assumes nothing.
 use native.Mathlib.Omega.{arith}
-use borrow.Author.Rules.{rules}
 use Rattle.word.specs.WordLaws.{word_joined}
 use Rattle.word.proofs.word8.Goals as goal
 

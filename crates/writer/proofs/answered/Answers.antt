@@ -3,7 +3,6 @@ use mathlib.Core.Path.{sym, ◌∙◌}
 use Rattle.area.specs.Spelling.{measured_size}
 use Rattle.opening.specs.OpeningLaws.{opened}
 use Rattle.writer.specs.Writes.{rows_shut, rows_ended}
-use borrow.Author.Rules.{rules}
 use Rattle.writer.proofs.answered.Goals as goal
 
 pub ended-requires : goal.ended-requires

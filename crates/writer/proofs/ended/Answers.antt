@@ -2,7 +2,6 @@
 use mathlib.Core.Path.{◌∙◌}
 use native.Mathlib.Omega.{arith}
 use Rattle.writer.specs.Writes.{too_many}
-use borrow.Author.Rules.{rules}
 use Rattle.writer.proofs.ended.Goals as goal
 
 pub returns-in-Refused : goal.returns-in-Refused

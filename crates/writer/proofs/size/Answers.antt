@@ -2,7 +2,6 @@
 -- alone. Assumes nothing.
 use Rattle.entry.specs.EntryLaws.{code_judged}
 use Rattle.writer.specs.Writes.{needs_told}
-use borrow.Author.Rules.{rules}
 use Rattle.writer.proofs.size.Goals as goal
 
 pub told-requires : goal.told-requires

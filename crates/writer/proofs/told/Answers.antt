@@ -1,6 +1,5 @@
 -- `writer::told` meets its contract: the answer of the rows, handed on. Assumes nothing.
 use mathlib.Core.Path.{sym, ◌∙◌}
-use borrow.Author.Rules.{rules}
 use Rattle.writer.proofs.told.Goals as goal
 
 pub returns-in-Refused : goal.returns-in-Refused

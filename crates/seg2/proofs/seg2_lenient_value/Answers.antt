@@ -1,0 +1,8 @@
+-- `seg2::seg2_lenient_value` meets its contract: the promise of the function that it calls. Assumes nothing.
+use mir.Syntax.{w32}
+use mir.Facts.{to_z-of_z}
+use Rattle.seg2.proofs.seg2_lenient_value.Goals as goal
+
+pub returns : goal.returns
+returns c =
+    rw (to_z-of_z {w = w32} c.ranges.part) at c.value.ensures
