@@ -3,4 +3,3 @@
 // on `writer`.
 // The rules in words: docs/FORMAT.md, "What we write".
 #![tactic(auto)]
-

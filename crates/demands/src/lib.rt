@@ -3,4 +3,3 @@
 // `demands_samples`. Stands on `afresh`, `growth`, `ignored`, `reader`, `writer`.
 // The rules in words: docs/FORMAT.md, "What a caller may rely on".
 #![tactic(auto)]
-

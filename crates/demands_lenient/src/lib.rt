@@ -2,4 +2,3 @@
 // the promises cite (docs/DEMANDS.md). Stands on `lenient`, `demands_rows`, `face_lenient`.
 // The rules in words: docs/FORMAT.md, "Older recorders: a lenient reading".
 #![tactic(auto)]
-

@@ -2,4 +2,3 @@
 // that the promises cite (docs/DEMANDS.md). Stands on `shortcut`, `demands_rows`, `quick`, `face`, `face_values`.
 // The rules in words: docs/FORMAT.md, "One trace, quickly".
 #![tactic(auto)]
-

@@ -2,4 +2,3 @@
 // definitions that the promises cite (docs/DEMANDS.md). Stands on `demands_rows`, `writer`, `start`.
 // The rules in words: docs/FORMAT.md, "What we write".
 #![tactic(auto)]
-

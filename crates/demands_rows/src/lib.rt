@@ -3,4 +3,3 @@
 // `reader`, `writer`, `numeral`, `face`, `face_values`.
 // The rules in words: docs/FORMAT.md, "What a caller may rely on".
 #![tactic(auto)]
-

@@ -3,4 +3,3 @@
 // `ignored`, `reader`, `encode`, `decode`.
 // The rules in words: docs/FORMAT.md, "What a caller may rely on".
 #![tactic(auto)]
-

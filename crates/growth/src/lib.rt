@@ -3,4 +3,3 @@
 // (ReadsLast, TraceReads). Stands on `reader` and `writer`.
 // The rules in words: docs/FORMAT.md, "What we write".
 #![tactic(auto)]
-

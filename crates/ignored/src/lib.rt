@@ -3,4 +3,3 @@
 // the strings, Images the check, Reads the questions. Stands on `reader`.
 // The rules in words: docs/FORMAT.md, "The file block", "The trace block", "Strings".
 #![tactic(auto)]
-

@@ -3,4 +3,3 @@
 // 02 names (Forgiven, Never). Stands on `reader` and what it stands on.
 // The rules in words: docs/FORMAT.md, "Older recorders: a lenient reading".
 #![tactic(auto)]
-

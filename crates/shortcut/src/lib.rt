@@ -3,4 +3,3 @@
 // alike on them get the same answer, refusals and places included. Stands on `quick`, and on `ignored` for laws.
 // The rules in words: docs/FORMAT.md, "One trace, quickly".
 #![tactic(auto)]
-

@@ -33,5 +33,8 @@ put_head-requires c =
 
 pub returns : goal.returns
 returns c =
-    let b = told c.requires c.file_block-b.ensures.0 in record { place = (rw c.room.ensures.0, b.high); left = front_put _ _ _ _ _ b.high b.string_end_lem b.line_end_lem c.round_up-at.ensures
-          c.zeros.ensures c.put_head.ensures }
+    let b = told c.requires c.file_block-b.ensures.0 in record {
+      place = (rw c.room.ensures.0, b.high);
+      left = front_put _ _ _ _ _ b.high b.string_end_lem b.line_end_lem c.round_up-at.ensures
+          c.zeros.ensures c.put_head.ensures;
+    }

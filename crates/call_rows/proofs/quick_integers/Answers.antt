@@ -7,5 +7,8 @@ use Rattle.call_rows.proofs.quick_integers.Goals as goal
 
 pub returns : goal.returns
 returns c =
-    record { answer = c.told.ensures ∙ ap as_verdict (rw (to_z-of_z {w = w32} c.ranges.trace) at c.integers.ensures.answer); row = rw (to_z-of_z {w = w32}
-          c.ranges.trace) at c.integers.ensures.row }
+    record {
+      answer = c.told.ensures ∙ ap as_verdict (rw (to_z-of_z {w = w32} c.ranges.trace) at c.integers.ensures.answer);
+      row = rw (to_z-of_z {w = w32}
+          c.ranges.trace) at c.integers.ensures.row;
+    }

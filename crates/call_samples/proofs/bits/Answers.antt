@@ -7,5 +7,9 @@ use Rattle.call_samples.proofs.bits.Goals as goal
 
 pub returns : goal.returns
 returns c =
-    record { answer = c.told.ensures ∙ ap as_verdict (rw (to_z-of_z {w = w32} c.ranges.trace) at c.bits.ensures.answer); row = rw (to_z-of_z {w = w32}
-            c.ranges.trace) at c.bits.ensures.row; classes = rw (to_z-of_z {w = w32} c.ranges.trace) at c.bits.ensures.classes }
+    record {
+      answer = c.told.ensures ∙ ap as_verdict (rw (to_z-of_z {w = w32} c.ranges.trace) at c.bits.ensures.answer);
+      row = rw (to_z-of_z {w = w32}
+          c.ranges.trace) at c.bits.ensures.row;
+      classes = rw (to_z-of_z {w = w32} c.ranges.trace) at c.bits.ensures.classes;
+    }

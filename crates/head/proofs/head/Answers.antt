@@ -40,15 +40,14 @@ bad_file-requires-then-revision-ne1 c =
 
 pub returns-then-revision-ne1 : goal.returns-then-revision-ne1
 unfolding head_of head_answer
-returns-then-revision-ne1 c =
-    (
-      c.bad_file-then-revision-ne1.ensures ∙ rw (
-        sym c.is_known.ensures ∙ c.if-not-is_known.false,
-        block_revision _ c.file_block-x.ensures.0 _ c.word2-revision.ensures.0,
-        ne_eqb _ _ c.if-revision-ne1.true,
-      ),
-      rw c.bad_file-then-revision-ne1.ensures tt,
-    )
+returns-then-revision-ne1 c = (
+  c.bad_file-then-revision-ne1.ensures ∙ rw (
+    sym c.is_known.ensures ∙ c.if-not-is_known.false,
+    block_revision _ c.file_block-x.ensures.0 _ c.word2-revision.ensures.0,
+    ne_eqb _ _ c.if-revision-ne1.true,
+  ),
+  rw c.bad_file-then-revision-ne1.ensures tt,
+)
 
 pub is_bad_room-requires : goal.is_bad_room-requires
 unfolding head_of head_answer
@@ -62,17 +61,16 @@ bad_file-requires-then-is_bad_room c =
 
 pub returns-then-is_bad_room : goal.returns-then-is_bad_room
 unfolding head_of head_answer
-returns-then-is_bad_room c =
-    (
-      c.bad_file-then-is_bad_room.ensures ∙ rw (
-        sym c.is_known.ensures ∙ c.if-not-is_known.false,
-        block_revision _ c.file_block-x.ensures.0 _ c.word2-revision.ensures.0,
-        eq-eqb _ _ c.if-revision-ne1.false,
-        block_room _ c.file_block-x.ensures.0,
-        sym c.is_bad_room.ensures ∙ c.if-is_bad_room.true,
-      ),
-      rw c.bad_file-then-is_bad_room.ensures tt,
-    )
+returns-then-is_bad_room c = (
+  c.bad_file-then-is_bad_room.ensures ∙ rw (
+    sym c.is_known.ensures ∙ c.if-not-is_known.false,
+    block_revision _ c.file_block-x.ensures.0 _ c.word2-revision.ensures.0,
+    eq-eqb _ _ c.if-revision-ne1.false,
+    block_room _ c.file_block-x.ensures.0,
+    sym c.is_bad_room.ensures ∙ c.if-is_bad_room.true,
+  ),
+  rw c.bad_file-then-is_bad_room.ensures tt,
+)
 
 pub is_bad_count-requires : goal.is_bad_count-requires
 unfolding head_of head_answer
@@ -86,19 +84,18 @@ bad_file-requires-then-is_bad_count c =
 
 pub returns-then-is_bad_count : goal.returns-then-is_bad_count
 unfolding head_of head_answer
-returns-then-is_bad_count c =
-    (
-      c.bad_file-then-is_bad_count.ensures ∙ rw (
-        sym c.is_known.ensures ∙ c.if-not-is_known.false,
-        block_revision _ c.file_block-x.ensures.0 _ c.word2-revision.ensures.0,
-        eq-eqb _ _ c.if-revision-ne1.false,
-        block_room _ c.file_block-x.ensures.0,
-        sym c.is_bad_room.ensures ∙ c.if-is_bad_room.false,
-        block_count _ c.file_block-x.ensures.0,
-        sym c.is_bad_count.ensures ∙ c.if-is_bad_count.true,
-      ),
-      rw c.bad_file-then-is_bad_count.ensures tt,
-    )
+returns-then-is_bad_count c = (
+  c.bad_file-then-is_bad_count.ensures ∙ rw (
+    sym c.is_known.ensures ∙ c.if-not-is_known.false,
+    block_revision _ c.file_block-x.ensures.0 _ c.word2-revision.ensures.0,
+    eq-eqb _ _ c.if-revision-ne1.false,
+    block_room _ c.file_block-x.ensures.0,
+    sym c.is_bad_room.ensures ∙ c.if-is_bad_room.false,
+    block_count _ c.file_block-x.ensures.0,
+    sym c.is_bad_count.ensures ∙ c.if-is_bad_count.true,
+  ),
+  rw c.bad_file-then-is_bad_count.ensures tt,
+)
 
 pub is_good-requires : goal.is_good-requires
 unfolding head_of head_answer
@@ -112,20 +109,19 @@ bad_file-requires-then-not-is_good c =
 
 pub returns-then-not-is_good : goal.returns-then-not-is_good
 unfolding head_of head_answer
-returns-then-not-is_good c =
-    (
-      c.bad_file-then-not-is_good.ensures ∙ rw (
-        sym c.is_known.ensures ∙ c.if-not-is_known.false,
-        block_revision _ c.file_block-x.ensures.0 _ c.word2-revision.ensures.0,
-        eq-eqb _ _ c.if-revision-ne1.false,
-        block_room _ c.file_block-x.ensures.0,
-        sym c.is_bad_room.ensures ∙ c.if-is_bad_room.false,
-        block_count _ c.file_block-x.ensures.0,
-        sym c.is_bad_count.ensures ∙ c.if-is_bad_count.false,
-        sym c.is_good.ensures ∙ c.if-not-is_good.true,
-      ),
-      rw c.bad_file-then-not-is_good.ensures tt,
-    )
+returns-then-not-is_good c = (
+  c.bad_file-then-not-is_good.ensures ∙ rw (
+    sym c.is_known.ensures ∙ c.if-not-is_known.false,
+    block_revision _ c.file_block-x.ensures.0 _ c.word2-revision.ensures.0,
+    eq-eqb _ _ c.if-revision-ne1.false,
+    block_room _ c.file_block-x.ensures.0,
+    sym c.is_bad_room.ensures ∙ c.if-is_bad_room.false,
+    block_count _ c.file_block-x.ensures.0,
+    sym c.is_bad_count.ensures ∙ c.if-is_bad_count.false,
+    sym c.is_good.ensures ∙ c.if-not-is_good.true,
+  ),
+  rw c.bad_file-then-not-is_good.ensures tt,
+)
 
 pub is_bad_lines-requires : goal.is_bad_lines-requires
 unfolding head_of head_answer
@@ -139,21 +135,20 @@ bad_file-requires-then-is_bad_lines c =
 
 pub returns-then-is_bad_lines : goal.returns-then-is_bad_lines
 unfolding head_of head_answer
-returns-then-is_bad_lines c =
-    (
-      c.bad_file-then-is_bad_lines.ensures ∙ rw (
-        sym c.is_known.ensures ∙ c.if-not-is_known.false,
-        block_revision _ c.file_block-x.ensures.0 _ c.word2-revision.ensures.0,
-        eq-eqb _ _ c.if-revision-ne1.false,
-        block_room _ c.file_block-x.ensures.0,
-        sym c.is_bad_room.ensures ∙ c.if-is_bad_room.false,
-        block_count _ c.file_block-x.ensures.0,
-        sym c.is_bad_count.ensures ∙ c.if-is_bad_count.false,
-        sym c.is_good.ensures ∙ c.if-not-is_good.false,
-        sym c.is_bad_lines.ensures ∙ c.if-is_bad_lines.true,
-      ),
-      rw c.bad_file-then-is_bad_lines.ensures tt,
-    )
+returns-then-is_bad_lines c = (
+  c.bad_file-then-is_bad_lines.ensures ∙ rw (
+    sym c.is_known.ensures ∙ c.if-not-is_known.false,
+    block_revision _ c.file_block-x.ensures.0 _ c.word2-revision.ensures.0,
+    eq-eqb _ _ c.if-revision-ne1.false,
+    block_room _ c.file_block-x.ensures.0,
+    sym c.is_bad_room.ensures ∙ c.if-is_bad_room.false,
+    block_count _ c.file_block-x.ensures.0,
+    sym c.is_bad_count.ensures ∙ c.if-is_bad_count.false,
+    sym c.is_good.ensures ∙ c.if-not-is_good.false,
+    sym c.is_bad_lines.ensures ∙ c.if-is_bad_lines.true,
+  ),
+  rw c.bad_file-then-is_bad_lines.ensures tt,
+)
 
 pub overflow_add-x : goal.overflow_add-x
 unfolding head_of head_answer
@@ -167,38 +162,36 @@ bad_file-requires-then-end-x c =
 
 pub returns-then-end-x : goal.returns-then-end-x
 unfolding head_of head_answer
-returns-then-end-x c =
-    (
-      c.bad_file-then-end-x.ensures ∙ rw (
-        sym c.is_known.ensures ∙ c.if-not-is_known.false,
-        block_revision _ c.file_block-x.ensures.0 _ c.word2-revision.ensures.0,
-        eq-eqb _ _ c.if-revision-ne1.false,
-        block_room _ c.file_block-x.ensures.0,
-        sym c.is_bad_room.ensures ∙ c.if-is_bad_room.false,
-        block_count _ c.file_block-x.ensures.0,
-        sym c.is_bad_count.ensures ∙ c.if-is_bad_count.false,
-        sym c.is_good.ensures ∙ c.if-not-is_good.false,
-        sym c.is_bad_lines.ensures ∙ c.if-is_bad_lines.false,
-        lt-ltb _ _ c.if-end-x.true,
-      ),
-      rw c.bad_file-then-end-x.ensures tt,
-    )
+returns-then-end-x c = (
+  c.bad_file-then-end-x.ensures ∙ rw (
+    sym c.is_known.ensures ∙ c.if-not-is_known.false,
+    block_revision _ c.file_block-x.ensures.0 _ c.word2-revision.ensures.0,
+    eq-eqb _ _ c.if-revision-ne1.false,
+    block_room _ c.file_block-x.ensures.0,
+    sym c.is_bad_room.ensures ∙ c.if-is_bad_room.false,
+    block_count _ c.file_block-x.ensures.0,
+    sym c.is_bad_count.ensures ∙ c.if-is_bad_count.false,
+    sym c.is_good.ensures ∙ c.if-not-is_good.false,
+    sym c.is_bad_lines.ensures ∙ c.if-is_bad_lines.false,
+    lt-ltb _ _ c.if-end-x.true,
+  ),
+  rw c.bad_file-then-end-x.ensures tt,
+)
 
 pub returns : goal.returns
 unfolding head_of head_answer
-returns c =
-    (
-      ap file.Is c.file_block-x.ensures.0 ∙ rw (
-        sym c.is_known.ensures ∙ c.if-not-is_known.false,
-        block_revision _ c.file_block-x.ensures.0 _ c.word2-revision.ensures.0,
-        eq-eqb _ _ c.if-revision-ne1.false,
-        block_room _ c.file_block-x.ensures.0,
-        sym c.is_bad_room.ensures ∙ c.if-is_bad_room.false,
-        block_count _ c.file_block-x.ensures.0,
-        sym c.is_bad_count.ensures ∙ c.if-is_bad_count.false,
-        sym c.is_good.ensures ∙ c.if-not-is_good.false,
-        sym c.is_bad_lines.ensures ∙ c.if-is_bad_lines.false,
-        le-ltb _ _ c.if-end-x.false,
-      ),
-      (c.file_block-x.ensures.1, c.file_block-x.ensures.2),
-    )
+returns c = (
+  ap file.Is c.file_block-x.ensures.0 ∙ rw (
+    sym c.is_known.ensures ∙ c.if-not-is_known.false,
+    block_revision _ c.file_block-x.ensures.0 _ c.word2-revision.ensures.0,
+    eq-eqb _ _ c.if-revision-ne1.false,
+    block_room _ c.file_block-x.ensures.0,
+    sym c.is_bad_room.ensures ∙ c.if-is_bad_room.false,
+    block_count _ c.file_block-x.ensures.0,
+    sym c.is_bad_count.ensures ∙ c.if-is_bad_count.false,
+    sym c.is_good.ensures ∙ c.if-not-is_good.false,
+    sym c.is_bad_lines.ensures ∙ c.if-is_bad_lines.false,
+    le-ltb _ _ c.if-end-x.false,
+  ),
+  (c.file_block-x.ensures.1, c.file_block-x.ensures.2),
+)

@@ -21,12 +21,11 @@ returns-then-raised-k c =
     ∙ c.loop-i.invariant.1
 
 pub loop-i-preserved : goal.loop-i-preserved
-loop-i-preserved c =
-    (
-      search rules,
-      raised_next _ _ _ c.loop-i-test.true c.if-k-i.false (rw (← c.raised.ensures) (eq-eqb _ _ c.if-raised-k.false))
-          ∙ c.loop-i.invariant.1,
-    )
+loop-i-preserved c = (
+  search rules,
+  raised_next _ _ _ c.loop-i-test.true c.if-k-i.false (rw (← c.raised.ensures) (eq-eqb _ _ c.if-raised-k.false))
+      ∙ c.loop-i.invariant.1,
+)
 
 pub returns-then-i-k : goal.returns-then-i-k
 returns-then-i-k c =

@@ -48,20 +48,19 @@ put_place-requires c =
 
 pub returns : goal.returns
 unfolding refusal_line
-returns c =
-    (
-      (joined _ _ _ _ _ _ _ _ c.put_bytes-a.ensures (joined _ _ _ _ _ _ _ _ c.put_rule-b.ensures.0
-          (joined _ _ _ _ _ _ _ _ c.put_part-c.ensures.0 (joined _ _ _ _ _ _ _ _ c.put_byte-d.ensures
-          c.put_place.ensures.0)))),
-      omega (
-        arith,
-        c.put_bytes-a.ensures.0,
-        c.put_rule-b.ensures.0.0,
-        c.put_rule-b.ensures.1,
-        c.put_part-c.ensures.0.0,
-        c.put_part-c.ensures.1,
-        c.put_byte-d.ensures.0,
-        c.put_place.ensures.0.0,
-        c.put_place.ensures.1,
-      ),
-    )
+returns c = (
+  (joined _ _ _ _ _ _ _ _ c.put_bytes-a.ensures (joined _ _ _ _ _ _ _ _ c.put_rule-b.ensures.0
+      (joined _ _ _ _ _ _ _ _ c.put_part-c.ensures.0 (joined _ _ _ _ _ _ _ _ c.put_byte-d.ensures
+      c.put_place.ensures.0)))),
+  omega (
+    arith,
+    c.put_bytes-a.ensures.0,
+    c.put_rule-b.ensures.0.0,
+    c.put_rule-b.ensures.1,
+    c.put_part-c.ensures.0.0,
+    c.put_part-c.ensures.1,
+    c.put_byte-d.ensures.0,
+    c.put_place.ensures.0.0,
+    c.put_place.ensures.1,
+  ),
+)

@@ -22,13 +22,12 @@ bounds-out-at c =
     let l = length_spaced c.args.v.now in omega (arith, c.loop-i.invariant.1)
 
 pub loop-i-preserved : goal.loop-i-preserved
-loop-i-preserved c =
-    (
-      search rules,
-      simp length-set c.loop-i.invariant.1,
-      spaced_turn _ _ c.loop-i.out _ c.loop-i.i c.loop-i.invariant.2 _
-          c.loop-i-test.true c.spaced_byte.ensures,
-    )
+loop-i-preserved c = (
+  search rules,
+  simp length-set c.loop-i.invariant.1,
+  spaced_turn _ _ c.loop-i.out _ c.loop-i.i c.loop-i.invariant.2 _
+      c.loop-i-test.true c.spaced_byte.ensures,
+)
 
 pub overflow_add-result : goal.overflow_add-result
 overflow_add-result c =

@@ -18,12 +18,11 @@ returns-then-is_start c =
     c.loop-i.invariant.1
 
 pub loop-i-preserved : goal.loop-i-preserved
-loop-i-preserved c =
-    (
-      search rules,
-      line_on _ _ _ c.loop-i-test.true ((rw part_rest at (sym c.is_start.ensures)) ∙ c.if-is_start.false) ∙
-          c.loop-i.invariant.1,
-    )
+loop-i-preserved c = (
+  search rules,
+  line_on _ _ _ c.loop-i-test.true ((rw part_rest at (sym c.is_start.ensures)) ∙ c.if-is_start.false) ∙
+      c.loop-i.invariant.1,
+)
 
 pub returns : goal.returns
 returns c =

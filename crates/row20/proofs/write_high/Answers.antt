@@ -78,12 +78,11 @@ loop-k-smaller c =
 
 pub loop-k-preserved : goal.loop-k-preserved
 unfolding room needed
-loop-k-preserved c =
-    (
-      omega arith,
-      pair_turn _ c.loop-k.invariant.1 (omega arith) c.group_of-p.ensures c.group_of-q.ensures c.put_front.ensures
-          c.put_back.ensures,
-    )
+loop-k-preserved c = (
+  omega arith,
+  pair_turn _ c.loop-k.invariant.1 (omega arith) c.group_of-p.ensures c.group_of-q.ensures c.put_front.ensures
+      c.put_back.ensures,
+)
 
 pub shape_of-part : goal.shape_of-part
 unfolding room needed

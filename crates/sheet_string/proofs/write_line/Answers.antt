@@ -17,9 +17,8 @@ copy-requires c =
     omega (arith, length-take-le args.w args.l.now (omega arith))
 
 pub returns : goal.returns
-returns c =
-    (
-      search rules,
-      string_written _ _ _ _ _ _ _ _ _ _ _ c.requires.0 _ _ _ _ _ refl refl refl refl refl c.put2.ensures
-          c.copy.ensures c.copy-2.ensures (rw part_rest at c.copy-3.ensures) c.copy-4.ensures,
-    )
+returns c = (
+  search rules,
+  string_written _ _ _ _ _ _ _ _ _ _ _ c.requires.0 _ _ _ _ _ refl refl refl refl refl c.put2.ensures
+      c.copy.ensures c.copy-2.ensures (rw part_rest at c.copy-3.ensures) c.copy-4.ensures,
+)

@@ -39,12 +39,11 @@ loop-i-smaller c =
 
 pub loop-i-preserved : goal.loop-i-preserved
 unfolding apart
-loop-i-preserved c =
-    (
-      search rules,
-      all_more (lacks _) _ _ c.loop-i-test.true (sym c.is_lacking.ensures ∙ c.if-not-is_lacking.false) ∙
-          c.loop-i.invariant.1,
-    )
+loop-i-preserved c = (
+  search rules,
+  all_more (lacks _) _ _ c.loop-i-test.true (sym c.is_lacking.ensures ∙ c.if-not-is_lacking.false) ∙
+      c.loop-i.invariant.1,
+)
 
 pub returns : goal.returns
 unfolding apart
