@@ -1,6 +1,6 @@
 # Sourced by tools/native-archive and tools/platform-archives: how a proved crate becomes an archive for another machine or system than Linux on x86-64.
 #
-# The LLVM module that the kit made of the proved crate is kept while `rt staticlib` runs, and the kit's own clang compiles the same module for another
+# The LLVM module that the kit made of the proved crate is kept while `rt lib` runs, and the kit's own clang compiles the same module for another
 # triple. Only the triple, the data layout and the processor's name are changed. Why the module means the same everywhere, and so what the tests
 # below end the script for: docs/DECISIONS.md, "The archive for the machine at hand".
 #
@@ -11,15 +11,13 @@ die() {
     exit 1
 }
 
-# The kit, found as rt finds itself. Sets kit, machine, tools and clang.
+# The kit, found as rt finds itself. Sets kit, tools and clang.
 find_kit() {
-    kit=${RATTLE_HOME:-$(dirname "$(readlink -f "$(command -v rt)")")/..}
-    kit=$(cd "$kit" && pwd -P)
-    machine=$(uname -m)
-    tools=$kit/on/$machine/toolchain
+    kit=$(cd "$(dirname "$(readlink -f "$(command -v rt)")")/.." && pwd -P)
+    tools=$kit/toolchain
     clang=$tools/bin/clang
     for tool in clang llvm-ar ld.lld; do
-        [ -x "$tools/bin/$tool" ] || die "the kit at $kit has no $tool for $machine"
+        [ -x "$tools/bin/$tool" ] || die "the kit at $kit has no $tool"
     done
 }
 
@@ -31,55 +29,58 @@ below() {
             for (k = 1; k <= m; k++) if (a[k] in deps && !(a[k] in seen)) { seen[a[k]] = 1; print a[k]; reach(a[k]) }
         }
         { sub(/#.*/, "") }
-        /:/ { n = $0; sub(/:.*/, "", n); gsub(/[ \t]/, "", n); sub(/^[^:]*:/, ""); deps[n] = $0 }
+        /:/ { n = $0; sub(/[ \t:].*/, "", n); sub(/^[^:]*:/, ""); deps[n] = $0 }
         END { reach(name) }' crates.txt
 }
 
-# prove_below NAME WORK: proves what the crate stands on, four at a time, and tells how far it is. `rt staticlib` would prove the same one by one and
-# without a word. What was proved before and has not changed is passed over.
-prove_below() {
-    names=$(below "$1")
-    [ -n "$names" ] || return 0
-    all=$(($(printf '%s\n' "$names" | wc -l) + 1))
+# built NAME WORK RT: has rt prove the crate and what it stands on, the lowest first, and tells how far it is. What was proved before and has not changed
+# is passed over. The archive stands in crates/NAME/out/libNAME.a then.
+built() {
+    all=$(($(below "$1" | wc -l) + 1))
     # rt's own end comes through a file: a pipe has the end of its last command only
-    # shellcheck disable=SC2086
     {
         ended=0
-        TMPDIR=$(scratch) RT_JOBS=${RT_JOBS:-4} rt check $names 2>&1 || ended=$?
+        (cd "crates/$1" && TMPDIR=$(scratch) "$3" lib 2>&1) || ended=$?
         echo "$ended" >"$2/ended"
-    } | tee "$2/below.out" | {
+    } | tee "$2/rt.out" | {
         # no awk: Debian's waits for more lines than one
         n=0
         while IFS= read -r line; do
             case $line in
-            "rt: "*" proved (unchanged"*) n=$((n + 1)) ;;
-            "rt: "*" proved ("*)
+            "crate "*": modules loaded="*)
                 n=$((n + 1))
-                printf '%s: crate %d of %d: %s\n' "$me" "$n" "$all" "${line#rt: }"
+                crate=${line#crate }
+                printf '%s: crate %d of %d: %s\n' "$me" "$n" "$all" "${crate%%:*}"
                 ;;
             esac
         done
     }
     [ "$(cat "$2/ended")" = 0 ] || {
-        grep -vE '^rt: [a-z0-9_]+ proved ' "$2/below.out" | tail -n 40 >&2
-        die "not all is proved that $1 stands on, so nothing is built"
+        tail -n 40 "$2/rt.out" >&2
+        die "$1 is not proved, or something that it stands on, so nothing is built"
     }
 }
 
-links() { # FROM TO EXCEPT: in TO a link to each entry of FROM but one
-    mkdir -p "$2"
-    for entry in "$1"/*; do
-        [ "$(basename "$entry")" = "$3" ] || ln -s "$entry" "$2/"
+links() { # FROM TO EXCEPT..: in TO a link to each entry of FROM but those
+    from=$1
+    to=$2
+    shift 2
+    mkdir -p "$to"
+    for entry in "$from"/*; do
+        case " $* " in
+        *" $(basename "$entry") "*) ;;
+        *) ln -s "$entry" "$to/" ;;
+        esac
     done
 }
 
 # sources_sum: what the crates, the kit and this file are.
 sources_sum() {
-    { rt version && find crates crates.txt tools/lib-archive.sh -type f | LC_ALL=C sort | tr '\n' '\0' | xargs -0 sha256sum; } | sha256sum | cut -d ' ' -f 1
+    { rt version && find crates crates.txt tools/lib-archive.sh -name out -prune -o -type f -print | LC_ALL=C sort | tr '\n' '\0' | xargs -0 sha256sum; } | sha256sum | cut -d ' ' -f 1
 }
 
 # prove_module NAME: proves the crate and leaves the kit's archive of it in target/module/NAME/libNAME.a, and the module without what is x86-64's as text
-# in plain.ll. What stands there is taken where it was made of the same sources by the same kit: `rt staticlib` proves the crate itself each time.
+# in plain.ll. What stands there is taken where it was made of the same sources by the same kit.
 prove_module() {
     find_kit
     sum=$(sources_sum)
@@ -90,20 +91,21 @@ prove_module() {
     rm -rf "$module"
     mkdir -p "$module"
     module_of "$1" "$module"
-    cp "target/staticlib/lib$1.a" "$module/lib$1.a"
+    cp "crates/$1/out/lib$1.a" "$module/lib$1.a"
     echo "$sum" >"$module/sum"
 }
 
 # module_of NAME WORK: proves the crate and leaves its module, for x86-64, as text in WORK/x86.ll. WORK is an absolute path to an empty folder.
 module_of() {
     # A folder of links that is the kit but for its clang: a script that keeps the module that it is given, and then compiles it as asked. So
-    # `rt staticlib` itself proves, and no word of its command is repeated here.
+    # `rt lib` itself proves, and no word of its command is repeated here. rt finds its kit by where its own file is, so that file is a copy.
     shadow=$2/kit
-    links "$kit" "$shadow" on
-    links "$kit/on/$machine" "$shadow/on/$machine" toolchain
-    links "$tools" "$shadow/on/$machine/toolchain" bin
-    links "$tools/bin" "$shadow/on/$machine/toolchain/bin" clang
-    cat >"$shadow/on/$machine/toolchain/bin/clang" <<WRAPPER
+    links "$kit" "$shadow" bin toolchain
+    links "$kit/bin" "$shadow/bin" rt rtlib.py
+    cp "$kit/bin/rt" "$kit/bin/rtlib.py" "$shadow/bin/"
+    links "$tools" "$shadow/toolchain" bin
+    links "$tools/bin" "$shadow/toolchain/bin" clang
+    cat >"$shadow/toolchain/bin/clang" <<WRAPPER
 #!/bin/sh
 # Keeps the LLVM module among the arguments, then compiles it as asked.
 set -eu
@@ -117,12 +119,11 @@ for word in "\$@"; do
 done
 exec '$clang' "\$@"
 WRAPPER
-    chmod +x "$shadow/on/$machine/toolchain/bin/clang"
-    TMPDIR=$(scratch) RATTLE_HOME=$shadow rt staticlib "$1" >"$2/rt.out" 2>&1 || {
-        cat "$2/rt.out" >&2
-        die "$1 is not proved, so nothing is built"
-    }
-    grep -q '^logic=proved ' "$2/rt.out" || die "rt staticlib did not say that $1 is proved"
+    chmod +x "$shadow/toolchain/bin/clang"
+    # an archive that is there already would be taken as it is, and no module made
+    rm -f "crates/$1/out/lib$1.a"
+    built "$1" "$2" "$shadow/bin/rt"
+    grep -q '^logic=proved ' "$2/rt.out" || die "rt lib did not say that $1 is proved"
     [ -s "$2/module.bc" ] || die "the kit's compiler was given no module"
 
     x86_triple=x86_64-unknown-linux-gnu
@@ -259,9 +260,9 @@ uses_18() { grep -nwE '[wx]18' "$1" >&2; }
 
 # stale_archive PLATFORM: its archive is missing, or older than what it is made of.
 stale_archive() {
-    made_of='crates crates.txt include/seg2.h tools/lib-archive.sh tools/platform-archives tools/platform/objects.py'
+    made_of='include/seg2.h tools/lib-archive.sh tools/platform-archives tools/platform/objects.py'
     # shellcheck disable=SC2086
-    [ ! -f "archives/$1/libseg2.a" ] || [ -n "$(find $made_of -newer "archives/$1/libseg2.a" -print -quit)" ]
+    [ ! -f "archives/$1/libseg2.a" ] || [ -n "$(newer "$root/archives/$1/libseg2.a" "$root" $made_of)" ]
 }
 
 # The functions that the header declares: each stands at the start of a line, behind what it returns.

@@ -42,6 +42,18 @@ scratch() (
     echo /tmp
 )
 
+# newer FILE ROOT [PATH..]: a source of the crates below ROOT, or one of the paths there, that is newer than the file; nothing where none is. What rt makes
+# stands in a crate's out/, beside its sources, so neither that folder nor the crate's own tells anything.
+newer() (
+    cd "$2" || return 0
+    file=$1
+    shift 2
+    {
+        find crates -mindepth 2 -name out -prune -o -newer "$file" -print -quit
+        find crates.txt "$@" -newer "$file" -print -quit
+    } | head -n 1
+)
+
 # need COMMAND PACKAGE..: installs the Debian packages where the command is missing. Fails, and says so, where the command is missing still.
 need() (
     command -v "$1" >/dev/null && return 0
