@@ -15,7 +15,7 @@ use Rattle.text.specs.declared.Manner.TheVariants.{Strict}
 use Rattle.word.specs.Tests.{never}
 use Rattle.sheet.specs.Lines.{sheet_lines}
 use Rattle.sheet.specs.Area.{area_size, measured_of}
-use Rattle.channel.specs.Count.{counts}
+use Rattle.channel.proofs.CountLaws.{counts}
 use Rattle.channel.specs.Channel.{channel_number}
 use Rattle.channel_line.specs.ChannelLine.{value_of_line}
 use Rattle.sheet_channel.specs.Meant.{keeps_sheet}

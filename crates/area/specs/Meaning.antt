@@ -7,7 +7,8 @@ use Rattle.std.proofs.Common.{ap}
 use Rattle.chars.specs.Chars.{note}
 use Rattle.chars.specs.Runs.{same, same_eq, same_refl}
 use Rattle.note.specs.Note as Note
-use Rattle.note.specs.Note.{with_ends, LineEnd, lines_once}
+use Rattle.note.specs.Note.{with_ends, LineEnd}
+use Rattle.note.proofs.Note.{lines_once}
 use Rattle.strings.specs.Spelled.{Str}
 use Rattle.sheet.specs.Lines.{Line}
 use Rattle.sheet.specs.Area.{str_of, values, note_of, joined}

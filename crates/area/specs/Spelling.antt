@@ -18,7 +18,7 @@ use Rattle.chars.specs.Chars.{blank, value_char, control, note, blank_value}
 use Rattle.chars.specs.Runs.{all, same, same_eq, same_not, Stops, all_weaker}
 use Rattle.note.specs.Note.{with_ends, Each, Characters, LineEnd, control_ends, characters_are_lines}
 use Rattle.strings.specs.Strings as Strings
-use Rattle.strings.specs.Paper.{spelled_accepted}
+use Rattle.strings.proofs.Paper.{spelled_accepted}
 use Rattle.strings.specs.Spelled.{GoodString, Rising, size_of, Ends.mark, Spells, Spells.full}
 use Rattle.sheet.specs.declared.Measured as measured
 use Rattle.sheet.specs.declared.Measured.TheVariants.{Size}

@@ -77,20 +77,10 @@ unfolding all
 each_digit [] h = tt
 each_digit (b ∷ bs) h = let a = both (digit b) (all digit bs) h in (a.0, each_digit bs a.1)
 
-all_digits : (v : List ℕ) → All digit v → all digit v ≡ true
-unfolding all
-all_digits [] h = refl
-all_digits (b ∷ bs) h = rw h.0 (all_digits bs h.1)
-
 digit_pointless : (b : ℕ) → digit b ≡ true → pointless b ≡ true
 digit_pointless b h =
     let d = worth_digit b h in
     rw (ne_eqb b 46 (λ (e : b ≡ 46). omega (arith, d.1)), ne_eqb b 69 (λ (e : b ≡ 69). omega (arith, d.2)))
-
-behind_pointless : (xs ys : List ℕ) → all pointless (xs ++ ys) ≡ true → all pointless ys ≡ true
-unfolding all
-behind_pointless [] ys h = h
-behind_pointless (x ∷ xs) ys h = behind_pointless xs ys (both (pointless x) (all pointless (xs ++ ys)) h).1
 
 -- a text of digits is written from its digits alone
 abbrev alone : List ℕ → Parts
@@ -129,43 +119,3 @@ counted v n h e =
       least = h;
       most = omega arith;
     }
-
--- no point, no E and no minus leave the digits alone
-no_fraction : {ds f : List ℕ} → Fraction ds f → (r : List ℕ) → all pointless (f ++ r) ≡ true → (f ≡ []) × (ds ≡ [])
-unfolding all
-no_fraction no_point r h = (refl, refl)
-no_fraction (point d) r h = let z : ◌≡◌ {A = ℕ} 0 1 = cc in absurd (omega arith)
-
-no_exponent : {down : Bool} {es e : List ℕ} → Power down es e → all pointless e ≡ true → e ≡ []
-unfolding all
-no_exponent no_power h = refl
-no_exponent (power s d) h = let z : ◌≡◌ {A = ℕ} 0 1 = cc in absurd (omega arith)
-
-no_sign : {m : Bool} {s : List ℕ} → Sign m s → m ≡ false → s ≡ []
-no_sign dash h = let z : ◌≡◌ {A = ℕ} 0 1 = cc in absurd (omega arith)
-no_sign nothing h = refl
-
-no_minus : (m : Bool) (k : ℕ) → 0 < k → false ≡ (m && ltb 0 k) → m ≡ false
-no_minus true k h e = let t = lt-ltb 0 k h in let z : ◌≡◌ {A = ℕ} 0 1 = cc in absurd (omega arith)
-no_minus false k h e = refl
-
-pub counts : (v : List ℕ) (n : ℕ) → Counts v n → count_in v ≡ n
-unfolding decimal_of value
-counts v n c =
-    let w = (is_number v (wholly n)).0 c.number in
-    let p = w.0 in
-    let h = w.1 in
-    let worth : n ≡ value (value 0 p.whole) p.decimals = ap (λ (d : Decimal). d.coefficient) w.3 in
-    let minus : false ≡ (p.minus && ltb 0 (value (value 0 p.whole) p.decimals)) = ap (λ (d : Decimal). d.minus) w.3 in
-    let text = h.text in
-    let kept : all pointless (h.s ++ (p.whole ++ (h.f ++ h.e))) ≡ true = rw text at c.without in
-    let rest = behind_pointless p.whole (h.f ++ h.e) (behind_pointless h.s (p.whole ++ (h.f ++ h.e)) kept) in
-    let f = no_fraction h.fraction h.e rest in
-    let e = no_exponent h.power (behind_pointless h.f h.e rest) in
-    let s = no_sign h.sign (no_minus p.minus (value (value 0 p.whole) p.decimals) (rw worth at c.least) minus) in
-    alone_counts p.whole n (text ∙ rw (s, f.0, e, append-nil p.whole)) (worth ∙ ap (λ (ds : List ℕ). value (value 0 p.whole) ds) f.1)
-    (omega (arith, w.2.before)) h.whole.each c.most
-  where
-    alone_counts : (ds : List ℕ) (k : ℕ) → v ≡ ds → k ≡ value 0 ds → length ds ≤ 18 → All digit ds → k ≤ count_most → count_in v ≡ k
-    alone_counts ds k is worth few each most =
-        ap count_in is ∙ sym (worth ∙ count_is ds few (all_digits ds each) (omega arith))

@@ -22,7 +22,8 @@ use Rattle.text.specs.declared.Manner.TheVariants.{Strict}
 use Rattle.head_limits.specs.declared.Purpose.TheVariants.{Read}
 use Rattle.strings.specs.Spelled.{Str, has_key}
 use Rattle.decimal_parts.specs.declared.NumberAnswer.TheVariants.{Is}
-use Rattle.channel.specs.Count.{count_most, count_in, wholly, pointless, Counts, counted, counts}
+use Rattle.channel.specs.Count.{count_most, count_in, wholly, pointless, Counts, counted}
+use Rattle.channel.proofs.CountLaws.{counts}
 use Rattle.channel.specs.Channel.{channel_number}
 use Rattle.chars.specs.Runs.{all}
 use Rattle.sheet.specs.Lines.{sheet_lines}

@@ -8,8 +8,9 @@ use Rattle.head_limits.specs.declared.Purpose.TheVariants.{Read}
 use Rattle.text.specs.declared.Manner.TheVariants.{Strict}
 use Rattle.refusal.specs.declared.Verdict.TheVariants.{Accepted}
 use Rattle.chars.specs.Chars.{note}
-use Rattle.note.specs.Note.{lines_of, with_ends, Each, Characters, Lacks, LineEnd, Lines, lines_back}
-use Rattle.note.specs.Note.{no_line_holds_an_end, lines_are_of_characters, lines_once}
+use Rattle.note.specs.Note.{lines_of, with_ends, Each, Characters, Lacks, LineEnd, Lines}
+use Rattle.note.proofs.Note.{lines_back}
+use Rattle.note.proofs.Note.{no_line_holds_an_end, lines_are_of_characters, lines_once}
 use Rattle.strings.specs.Spelled.{Str, nth_str, GoodString, Rising, Spells, Spells.empty, Spells.full}
 use Rattle.terminators.specs.Terminators.{line_end}
 use Rattle.terminators.specs.TerminatorLaws.{good_ends}

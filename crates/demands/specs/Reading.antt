@@ -28,7 +28,8 @@ use Rattle.location.specs.Location.{location_of}
 use Rattle.decimal.specs.Meaning.{Means, number_means}
 use Rattle.decimal.specs.Agreed.{parts_unique, is_number, no_number_lem, too_long_lem}
 use Rattle.decimal.specs.Marks.{comma}
-use Rattle.location.specs.LocationMarks.{comma_double, comma_location}
+use Rattle.location.specs.LocationMarks.{comma_double}
+use Rattle.location.proofs.LocationMarks.{comma_location}
 use Rattle.double.specs.Rounded.{text_rounded_once}
 use Rattle.sheet.specs.declared.Measured.TheVariants.{Size}
 use Rattle.sheet.specs.Lines.{Line, sheet_lines}

@@ -10,7 +10,8 @@ use Rattle.word.specs.Tests.{never}
 use Rattle.text.specs.declared.Manner.TheVariants.{Strict}
 use Rattle.chars.specs.Chars.{key_char, note}
 use Rattle.chars.specs.Runs.{run, all, same}
-use Rattle.key_order.specs.Order.{before, receiver_geometry, source_geometry, rises, repeats_two, rises_again, rises_so}
+use Rattle.key_order.specs.Order.{before, receiver_geometry, source_geometry, rises, repeats_two, rises_so}
+use Rattle.key_order.proofs.Order.{rises_again}
 use Rattle.key_order.specs.Order.{rises_later, rises_first}
 use Rattle.note.specs.Note.{Each}
 use Rattle.strings.specs.Spelled.{Str, nth_str, value_of_key}

@@ -29,8 +29,10 @@ use Rattle.digits.specs.LastDigits.{last_digits}
 use Rattle.numeral_text.specs.NumeralText.{unless_zero}
 use Rattle.numeral.specs.Numeral.{parts_for, numeral_of, numeral_answer, numeral_left}
 use Rattle.numeral.specs.Answers.{count_many, count_large, count_few, after_many, after_few}
-use Rattle.numeral.specs.Plain.{Plain, Shows, shown_exactly}
-use Rattle.numeral.specs.Returned.{reads_back, one_text_one_number, text_there, refused_stays, given_written, typed_stays, longest}
+use Rattle.numeral.specs.Plain.{Plain, Shows}
+use Rattle.numeral.proofs.Plain.{shown_exactly}
+use Rattle.numeral.specs.Returned.{reads_back, one_text_one_number, text_there, refused_stays, given_written, longest}
+use Rattle.numeral.proofs.Returned.{typed_stays}
 use Rattle.numeral.specs.Returned.{longest_given, least_room}
 use Rattle.face.specs.Face.{flag}
 use Rattle.face_values.specs.FaceValues.{as_given}

@@ -13,7 +13,8 @@ use Rattle.sample.specs.Needed.{needed, width}
 use Rattle.sample.specs.Run.{values_from}
 use Rattle.sample_bits.specs.SampleBits.{exponent_in}
 use Rattle.decode.specs.Sample.{pattern_of, group_sample, sample_of, class_by, class_of}
-use Rattle.sample_bits.specs.BitLaws.{twos_plus, twos_minus, scaled_plus, scaled_minus}
+use Rattle.sample_bits.specs.BitLaws.{twos_plus, twos_minus, scaled_plus}
+use Rattle.sample_bits.proofs.BitLaws.{scaled_minus}
 use Rattle.patterns.specs.Classes.{value_class, code_of, class_ieee}
 use Rattle.head_words.specs.HeadWords.{high_first}
 use Rattle.block.specs.Block.{pointer_of, block_size_of, data_size_of, sample_count_of, format_code_of, trace_block_of}

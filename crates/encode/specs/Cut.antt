@@ -12,7 +12,8 @@ use Rattle.word.specs.WordLaws.{word_drop, word_small}
 use Rattle.sample.specs.Run.{values_from, run_same, run_map, run_of}
 use Rattle.sample_bits.specs.SampleBits.{exponent_in, ones, scaled}
 use Rattle.decode.specs.Sample.{group_sample, sample_of, integers_there, integers_read}
-use Rattle.sample_bits.specs.BitLaws.{minus_times, scaled_plus, scaled_minus}
+use Rattle.sample_bits.specs.BitLaws.{minus_times, scaled_plus}
+use Rattle.sample_bits.proofs.BitLaws.{scaled_minus}
 use Rattle.decode.specs.SampleLaws.{in_group, all_read}
 use Rattle.fit.specs.Unfit.{unfit_integers}
 use Rattle.float20.specs.Float20.{mantissa_most, smallest, exponent_of, mantissa_of, ones_bits}

@@ -119,11 +119,6 @@ pub record Coded (z : ℤ) (e m : ℕ) : Type 0 where
   pub small : e < 16
   pub mantissa : m ≡ ones_bits (mantissa_of z)
 
-pub coded_minus : (z : ℤ) (e m : ℕ) → nat_abs z < 1073741824 → lt_z z (pos 0) ≡ true → Told (nat_abs z) e → m ≡ 65535 - nat_abs z / 2 ^ e → Coded z e m
-unfolding exponent_of
-coded_minus z e m h t r q =
-    record { exponent = r.is; small = r.small; mantissa = q ∙ ap (λ (k : ℕ). 65535 - nat_abs z / 2 ^ k) r.is ∙ sym (mantissa_minus z h t) }
-
 pub coded_plus : (z : ℤ) (e m : ℕ) → lt_z z (pos 0) ≡ false → Told (nat_abs z) e → m ≡ nat_abs z / 2 ^ e → Coded z e m
 unfolding exponent_of
 coded_plus z e m t r q =

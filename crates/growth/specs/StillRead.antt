@@ -18,7 +18,7 @@ use Rattle.strings.specs.declared.Place.{Place}
 use Rattle.chars.specs.Runs.{same}
 use Rattle.strings.specs.Strings.{places_of, find_of, key_in, value_found}
 use Rattle.strings.specs.Spelled.{Str, Spells, nth_str, strs_in}
-use Rattle.strings.specs.Paper.{spelled_places, spelled_value}
+use Rattle.strings.proofs.Paper.{spelled_places, spelled_value}
 use Rattle.head_words.specs.HeadWords.{file_block_of, high_first, room_of, count_of}
 use Rattle.terminators.specs.Terminators.{string_end, line_end}
 use Rattle.block.specs.Block.{block_size_of, data_size_of, data_at, trace_block_of}

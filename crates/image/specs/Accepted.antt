@@ -23,8 +23,9 @@ use Rattle.note.specs.Note.{LineEnd}
 use Rattle.strings.specs.declared.Found.{Found}
 use Rattle.strings.specs.Strings.{found, value_found}
 use Rattle.strings.specs.Spelled.{Str, Spells, value_of_key, has_key}
-use Rattle.strings.specs.Paper.{spelled_accepted, accepted_spelled, spelled_value}
-use Rattle.channel.specs.Count.{count_in, counted, counts}
+use Rattle.strings.proofs.Paper.{spelled_accepted, accepted_spelled, spelled_value}
+use Rattle.channel.specs.Count.{count_in, counted}
+use Rattle.channel.proofs.CountLaws.{counts}
 use Rattle.channel.specs.Channel.{channel_number, bad_channel, keeps_channel, channel_kept}
 use Rattle.head_limits.specs.HeadLimits.{known}
 use Rattle.head_words.specs.HeadWords.{high_first, room_of, count_of}

@@ -77,34 +77,6 @@ less_transitive (x ∷ a) (y ∷ b) (z ∷ c) h k =
     let m : y ≤ z = q.0 in
     cons_less x z a c (omega arith) (λ n. less_transitive a b c (p.1 (omega arith)) (q.1 (omega arith)))
 
--- a keyword does not come before itself
-before_irreflexive : (k : List ℕ) → before k k ≡ false
-unfolding before
-before_irreflexive k = go (same k note)
-  where
-    go : (w : Bool) → pick w false (pick w true (less k k)) ≡ false
-    go true = refl
-    go false = less_irreflexive k
-
-before_transitive : (a b c : List ℕ) → before a b ≡ true → before b c ≡ true → before a c ≡ true
-unfolding before
-before_transitive a b c h k = go (same a note) (same b note) (same c note) h k
-  where
-    go : (u v w : Bool) → pick u false (pick v true (less a b)) ≡ true → pick v false (pick w true (less b c)) ≡ true
-        → pick u false (pick w true (less a c)) ≡ true
-    go true v w p q = p
-    go false true w p q = let z : ◌≡◌ {A = ℕ} 0 1 = cc in absurd (omega arith)
-    go false false true p q = refl
-    go false false false p q = less_transitive a b c p q
-
--- what comes before a keyword is another
-pub before_other : (a b : List ℕ) → before a b ≡ true → same b a ≡ false
-before_other a b h = go (same b a) refl
-  where
-    go : (w : Bool) → same b a ≡ w → w ≡ false
-    go true e = never (sym (before_irreflexive a) ∙ rw (same_eq b a e) at h)
-    go false e = refl
-
 -- the two may repeat, and no other
 pub repeats_two : (k : List ℕ) → (repeats k ≡ true) ↔ ((k ≡ receiver_geometry) ⊎ (k ≡ source_geometry))
 unfolding repeats same
@@ -113,11 +85,6 @@ repeats_two k = (λ h. go (same k receiver_geometry) refl h, ⊎_elim (λ e. rw 
     go : (w : Bool) → same k receiver_geometry ≡ w → (w || same k source_geometry) ≡ true → (k ≡ receiver_geometry) ⊎ (k ≡ source_geometry)
     go true e h = inl (same_eq k receiver_geometry e)
     go false e h = inr (same_eq k source_geometry h)
-
--- a keyword follows itself exactly where it may repeat
-pub rises_again : (k : List ℕ) → rises k k ≡ repeats k
-unfolding rises
-rises_again k = rw (before_irreflexive k, same_refl k)
 
 -- what follows comes later, or is the same again where that may be
 pub rises_so : (p k : List ℕ) → rises p k ≡ true → (before p k ≡ true) ⊎ ((p ≡ k) × (repeats k ≡ true))
@@ -151,26 +118,6 @@ rises_first (x ∷ xs) h = rises_later [] (x ∷ xs) (go (same (x ∷ xs) note))
     go : (w : Bool) → pick w true true ≡ true
     go true = refl
     go false = refl
-
--- what follows a follower follows
-pub rises_transitive : (a b c : List ℕ) → rises a b ≡ true → rises b c ≡ true → rises a c ≡ true
-rises_transitive a b c h k =
-    ⊎_elim
-    (λ x. ⊎_elim (λ y. rises_later a c (before_transitive a b c x y)) (λ y. rw (← y.0) h) (rises_so b c k))
-    (λ x. rw x.0 k)
-    (rises_so a b h)
-
--- and what comes before a keyword comes before its followers
-pub before_rises : (a b c : List ℕ) → before a b ≡ true → rises b c ≡ true → before a c ≡ true
-before_rises a b c h k = ⊎_elim (λ x. before_transitive a b c h x) (λ x. rw (← x.0) h) (rises_so b c k)
-
--- of two that follow each other both are the same
-pub rises_both : (a b : List ℕ) → rises a b ≡ true → rises b a ≡ true → a ≡ b
-rises_both a b h k =
-    ⊎_elim
-    (λ x. ⊎_elim (λ y. never (sym (before_irreflexive a) ∙ before_transitive a b a x y)) (λ y. sym y.0) (rises_so b a k))
-    (λ x. x.0)
-    (rises_so a b h)
 
 -- ---- turns of the loops that compare
 module _ (p k : List ℕ) (i : ℕ) where

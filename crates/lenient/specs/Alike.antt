@@ -26,8 +26,10 @@ use Rattle.strings.specs.declared.Place.{Place}
 use Rattle.strings.specs.declared.Found.{Found}
 use Rattle.strings.specs.declared.Found.TheVariants.{Nothing, Is}
 use Rattle.strings.specs.Strings.{body, key_of, frame_of, step_of, strings_from, strings_of, on_text, place_of, places_from, places_of, key_in, find_of}
-use Rattle.strings.specs.Walks.{place_over, walk_start, walk_none}
-use Rattle.strings.specs.Followed.{followed, no_fuel, not_bad, none_left}
+use Rattle.strings.specs.Walks.{walk_start, walk_none}
+use Rattle.strings.proofs.Walks.{place_over}
+use Rattle.strings.specs.Followed.{no_fuel, not_bad, none_left}
+use Rattle.strings.proofs.Followed.{followed}
 use Rattle.lenient.specs.Forgiven.{frame_any}
 
 -- ---- where the strings stand

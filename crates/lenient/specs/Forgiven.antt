@@ -34,7 +34,8 @@ use Rattle.strings.specs.declared.Step.{Step}
 use Rattle.strings.specs.Strings.{offset, body, key_len, key_of, value_of, cut, frame_of, judged_of, on_judged, on_frame, step_of, on_step}
 use Rattle.strings.specs.Strings.{strings_from, strings_of}
 use Rattle.strings.specs.Frames.{cut_two}
-use Rattle.strings.specs.Walks.{InFrame, in_frame, walk_over}
+use Rattle.strings.specs.Walks.{InFrame, in_frame}
+use Rattle.strings.proofs.Walks.{walk_over}
 use Rattle.head_limits.specs.declared.Purpose.{Purpose}
 use Rattle.head_words.specs.HeadWords.{high_first, room_of, count_of}
 use Rattle.head.specs.Head.{head_of, refused}

@@ -4,7 +4,7 @@ use Rattle.std.specs.Prelude.{◌≡◌, List, ℕ, ◌≤◌, length}
 use Rattle.text.specs.declared.Manner.TheVariants.{Strict}
 use Rattle.word.specs.Part.{part}
 use Rattle.strings.specs.Spelled.{Str, Spells}
-use Rattle.strings.specs.Paper.{spelled_places}
+use Rattle.strings.proofs.Paper.{spelled_places}
 use Rattle.head_words.specs.HeadWords.{high_first}
 use Rattle.terminators.specs.Terminators.{string_end, line_end}
 use Rattle.file_lines.specs.FileLines.{strings_in}

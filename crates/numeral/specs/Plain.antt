@@ -135,17 +135,13 @@ unless_none : (k : ℕ) → unless_zero k ≡ [] → k ≡ 0
 unless_none zero h = refl
 unless_none (suc k) h = let l = ap length h in absurd (omega (arith, digits_some (suc k)))
 
-unless_leading : (k : ℕ) → (unless_zero k ≡ []) ⊎ (48 < get_or (unless_zero k) 0 0)
-unless_leading zero = inl refl
-unless_leading (suc k) = inr (digits_first (suc k) (omega arith))
-
 -- ---- from the digits to the grammar: the text of a number is written from parts whose number it is
 
 same_decimal : (n : Decimal) (m : Bool) (c : ℕ) (p : ℤ) (d : ℕ) → m ≡ n.minus → c ≡ n.coefficient → p ≡ n.power → d ≡ n.decimals
     → n ≡ record { minus = m; coefficient = c; power = p; decimals = d }
 same_decimal n m c p d a b e f = rw (a, b, e, f)
 
-coefficient_of : (n : Decimal) → value (value 0 (digits (n.coefficient / 10 ^ n.decimals))) (last_digits n.decimals n.coefficient) ≡ n.coefficient
+pub coefficient_of : (n : Decimal) → value (value 0 (digits (n.coefficient / 10 ^ n.decimals))) (last_digits n.decimals n.coefficient) ≡ n.coefficient
 coefficient_of n = rw (digits_mean (n.coefficient / 10 ^ n.decimals)) (last_mean n.decimals n.coefficient)
 
 power_of_lem : (n : Decimal)
@@ -161,9 +157,6 @@ sign_kept : (m : Bool) (c : ℕ) → m && eqb c 0 ≡ false → m && ltb 0 c ≡
 sign_kept false c h = refl
 sign_kept true c h = let z = eqb-false c 0 h in lt-ltb 0 c (omega arith)
 
-sign_plain : (m : Bool) (c : ℕ) → m && eqb c 0 ≡ false → m ≡ true → 0 < c
-sign_plain m c h e = let k : eqb c 0 ≡ false = rw e at h in let z = eqb-false c 0 k in omega arith
-
 pub parts_number : (n : Decimal) → n.minus && eqb n.coefficient 0 ≡ false → n ≡ decimal_of (parts_for n)
 unfolding decimal_of parts_for
 parts_number n h =
@@ -176,14 +169,6 @@ parts_write n =
     let z = raised n.power n.decimals in
     text_writes _ (record { some = digits_some _; each = each_digit _ }) (last_digits_lem _ _) (unless_digits (nat_abs z))
     (λ e. not_down z (unless_none (nat_abs z) e))
-
-pub parts_plain : (n : Decimal) → n.minus && eqb n.coefficient 0 ≡ false → Plain (parts_for n)
-unfolding parts_for
-parts_plain n h = record {
-  sign = λ e. rw (coefficient_of n) (sign_plain n.minus n.coefficient h e);
-  whole = digits_leading _;
-  exponent = unless_leading (nat_abs (raised n.power n.decimals));
-}
 
 -- ---- from the grammar to the digits: plain parts are those of their number
 
@@ -215,7 +200,7 @@ exponent_none : (ds : List ℕ) → All digit ds → (ds ≡ []) ⊎ (48 < get_o
 exponent_none ds h (inl e) z = e
 exponent_none ds h (inr f) z = let l = first_value ds h f in absurd (omega arith)
 
-sign_back : (m : Bool) (c : ℕ) → (m ≡ true → 0 < c) → m && ltb 0 c ≡ m
+pub sign_back : (m : Bool) (c : ℕ) → (m ≡ true → 0 < c) → m && ltb 0 c ≡ m
 sign_back false c h = refl
 sign_back true c h = lt-ltb 0 c (h refl)
 
@@ -271,45 +256,3 @@ rows_to room n c l = through (numeral_rows n) (fitted room (numeral_of n)) c ∙
 
 pub rows_short : (n : Decimal) → Clear (numeral_rows n) → Short (parts_for n)
 rows_short n c = record { before = ltb-false 18 _ c.1.0; after = ltb-false 2 _ c.1.1.0 }
-
-sign_clear : (m : Bool) (c : ℕ) → (m ≡ true → 0 < c) → m && eqb c 0 ≡ false
-sign_clear false c h = refl
-sign_clear true c h = let l = h refl in ne_eqb c 0 (omega arith)
-
-shown_parts : (n : Decimal) (t : List ℕ) (s : Shows n t) → parts_for n ≡ s.parts
-shown_parts n t s = ap parts_for s.number ∙ parts_kept s.parts t s.writes s.plain
-
-shown_text : (n : Decimal) (t : List ℕ) → Shows n t → numeral_of n ≡ t
-unfolding numeral_of
-shown_text n t s = ap spelling (shown_parts n t s) ∙ sym (one_text s.parts t s.writes)
-
-shown_clear : (n : Decimal) (t : List ℕ) → Shows n t → Clear (numeral_rows n)
-unfolding decimal_of
-shown_clear n t s =
-    let p = s.parts in
-    let e = shown_parts n t s in
-    let m : n.minus && eqb n.coefficient 0 ≡ false =
-    rw s.number (sign_clear (p.minus && ltb 0 (value (value 0 p.whole) p.decimals)) (value (value 0 p.whole) p.decimals)
-    (λ k. s.plain.sign (sym (sign_back p.minus _ s.plain.sign) ∙ k))) in
-    (m, (rw e (le-ltb 18 _ s.short.before), (rw e (le-ltb 2 _ s.short.after), tt)))
-
--- a number is written, in so much room, as exactly the text that shows it
-pub shown_exactly : (room : ℕ) (n : Decimal) (t : List ℕ)
-    → ((numeral_answer room n ≡ To (length t)) × (numeral_of n ≡ t)) ↔ (Shows n t × (length t ≤ room))
-shown_exactly room n t = (
-  λ w. (
-      let r = rows_from room n (length t) w.0 in
-      let e = w.1 in (
-        record {
-          parts = parts_for n;
-          writes = subst (λ (s : List ℕ). Writes (parts_for n) s) e (parts_write n);
-          short = rows_short n r.0;
-          plain = parts_plain n r.0.0;
-          number = parts_number n r.0.0;
-        },
-        rw e at r.1,
-      )),
-  λ s. (
-      let e = shown_text n t s.0 in
-      (rows_to room n (shown_clear n t s.0) (rw e s.1) ∙ ap (λ (q : List ℕ). To (length q)) e, e)),
-)

@@ -24,7 +24,7 @@ use Rattle.numeral.specs.Numeral.{raised, parts_for, numeral_of}
 use Rattle.numeral.specs.Numeral.{numeral_rows, numeral_answer, numeral_left}
 use Rattle.numeral.specs.Answers.{text_most, after_few}
 use Rattle.numeral.specs.Plain.{Plain, rows_from, rows_to, rows_short, parts_number, parts_write, raised_back}
-use Rattle.numeral.specs.Plain.{whole_back, far_of, shown_exactly}
+use Rattle.numeral.specs.Plain.{whole_back, far_of}
 
 -- ---- what is written is a number of document 01, and the one that was given
 
@@ -35,7 +35,7 @@ pub reads_back : (room : ℕ) (n : Decimal) (size : ℕ) → numeral_answer room
 reads_back room n size e = rows_back n (rows_from room n size e).0
 
 -- two answers with one text are one answer
-same_is : {n m : Decimal} → Is n ≡ Is m → n ≡ m
+pub same_is : {n m : Decimal} → Is n ≡ Is m → n ≡ m
 same_is e = cc
 
 pub one_text_one_number : (room rest : ℕ) (n m : Decimal) (size long : ℕ) → numeral_answer room n ≡ To size → numeral_answer rest m ≡ To long
@@ -103,14 +103,6 @@ given_written t n e room h =
     let c = given_clear t n e in
     let l = text_most (parts_for n) (rows_short n c) in
     (rows_to room n c (omega arith), rows_back n c)
-
--- ---- a text as a surveyor types it stays as it is: "0.250" stays "0.250"
-
-pub typed_stays : (t : List ℕ) (n : Decimal) (p : Parts) → Writes p t → Short p → Plain p → number_in t ≡ Is n → numeral_of n ≡ t
-typed_stays t n p w s q e =
-    let m = (is_number t (decimal_of p)).1 (p, w, s, refl) in
-    let k : n ≡ decimal_of p = same_is (sym e ∙ m) in
-    ((shown_exactly (length t) n t).1 (record { parts = p; writes = w; short = s; plain = q; number = k }, omega arith)).1
 
 -- ---- and 24 bytes are the least: "-1.23456789012345678E-99" has as many
 

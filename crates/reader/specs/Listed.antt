@@ -14,7 +14,8 @@ use Rattle.strings.specs.declared.Found.{Found}
 use Rattle.strings.specs.declared.Found.TheVariants.{Nothing, Is}
 use Rattle.strings.specs.Strings.{places_of, key_in, value_in, nth_of, find_of, found, key_found, value_found}
 use Rattle.strings.specs.Spelled.{Str, Spells, nth_str, value_of_key, has_key}
-use Rattle.strings.specs.Paper.{spelled_once, spelled_places, spelled_count, spelled_nth, spelled_value, find_first}
+use Rattle.strings.specs.Paper.{find_first}
+use Rattle.strings.proofs.Paper.{spelled_once, spelled_places, spelled_count, spelled_nth, spelled_value}
 use Rattle.head_words.specs.HeadWords.{high_first, room_of, count_of}
 use Rattle.terminators.specs.Terminators.{string_end, line_end}
 use Rattle.block.specs.Block.{data_at}

@@ -10,7 +10,7 @@ use mir.Syntax.{w16, w32}
 use mir.Val.{to_z, of_z}
 use mir.Facts.{to_z-neg}
 use Rattle.sample_bits.specs.SampleBits.{ones, scaled}
-use Rattle.sample_bits.specs.BitLaws.{ones_small}
+use Rattle.sample_bits.proofs.BitLaws.{ones_small}
 use Rattle.word.specs.Signed.{shifts}
 
 -- `!k` of a k that is not negative

@@ -12,7 +12,7 @@ pub twos_plus : (half n : ℕ) → n < half → twos half n ≡ pos n
 unfolding twos
 twos_plus half n h = simp (lt-ltb n half h)
 
-minus_more : (n m : ℕ) → n < m → pos n -ℤ pos m ≡ negsuc (m - 1 - n)
+pub minus_more : (n m : ℕ) → n < m → pos n -ℤ pos m ≡ negsuc (m - 1 - n)
 minus_more n zero h = absurd (omega arith)
 minus_more n (suc m) h = let e : suc m - suc n ≡ suc m - 1 - n = omega arith in simp (lt-ltb n (suc m) h) (ap negsuc e)
 
@@ -31,25 +31,6 @@ pub ones_minus : (m : ℕ) → 32768 ≤ m → ones m ≡ neg_ℤ (pos (65535 - 
 unfolding ones
 ones_minus m h = rw (le-ltb m 32768 h)
 
--- which is 65535 less than its bits say
-pub ones_less : (m : ℕ) → 32768 ≤ m → m < 65536 → pos m -ℤ pos 65535 ≡ ones m
-ones_less m h l = rw (ones_minus m h) (elim (dec_le 65535 m) [
-  | yes k ↦ (let e : m ≡ 65535 = omega arith in rw e)
-  | no k ↦ (let e : 65535 - m ≡ suc (65535 - 1 - m) = omega (arith, lt_of_not-le k) in rw e (minus_more m 65535 (lt_of_not-le k)))
-])
-
--- 15 bits are left of it
-pub ones_small : (m : ℕ) → nat_abs (ones m) < 32768
-ones_small m =
-    elim (dec_le 32768 m) [
-      | yes h ↦ rw (ones_minus m h) (size (65535 - m) (omega arith))
-      | no h ↦ (let l = lt_of_not-le h in rw (ones_plus m l) l)
-    ]
-  where
-    size : (n : ℕ) → n < 32768 → nat_abs (neg_ℤ (pos n)) < 32768
-    size zero h = h
-    size (suc n) h = h
-
 pub scaled_plus : (e m : ℕ) → m < 32768 → scaled e m ≡ pos (m * 2 ^ e)
 unfolding scaled
 scaled_plus e m h = rw (ones_plus m h) (pos-*ℤ-pos m (2 ^ e))
@@ -57,7 +38,3 @@ scaled_plus e m h = rw (ones_plus m h) (pos-*ℤ-pos m (2 ^ e))
 pub minus_times : (a b : ℕ) → neg_ℤ (pos a) *ℤ pos b ≡ neg_ℤ (pos (a * b))
 minus_times zero b = zero-*ℤ (pos b) ∙ ap (λ (n : ℕ). neg_ℤ (pos n)) (sym (zero-mul b))
 minus_times (suc a) b = negsuc-*ℤ-pos a b
-
-pub scaled_minus : (e m : ℕ) → 32768 ≤ m → scaled e m ≡ neg_ℤ (pos ((65535 - m) * 2 ^ e))
-unfolding scaled
-scaled_minus e m h = rw (ones_minus m h) (minus_times (65535 - m) (2 ^ e))

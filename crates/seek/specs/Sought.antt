@@ -26,8 +26,10 @@ use Rattle.text.specs.Manner.{named}
 use Rattle.chars.specs.Runs.{same}
 use Rattle.strings.specs.Strings.{step_of, place_of, on_text, entry_of, places_from, places_of}
 use Rattle.strings.specs.Strings.{strings_of, find_of, found, value_found}
-use Rattle.strings.specs.Walks.{next_fits, done_frame, place_next, place_stop, place_over, walk_none}
-use Rattle.strings.specs.Passed.{seen_place, Lies, seen_lies, seen_place_lem}
+use Rattle.strings.specs.Walks.{next_fits, done_frame, place_next, place_stop, walk_none}
+use Rattle.strings.proofs.Walks.{place_over}
+use Rattle.strings.specs.Passed.{seen_place, Lies}
+use Rattle.strings.proofs.Passed.{seen_lies, seen_place_lem}
 
 -- what is told of a string: whether it is there, and where its value begins and ends
 unfoldable pub value_from : Found → ℕ

@@ -21,7 +21,8 @@ use Rattle.refusal.specs.declared.Refusal.{Refusal}
 use Rattle.refusal.specs.declared.Verdict.{Verdict}
 use Rattle.refusal.specs.declared.Verdict.TheVariants.{Accepted, Refused}
 use Rattle.text.specs.declared.Manner.TheVariants.{Strict}
-use Rattle.key_order.specs.Order.{before, rises, before_other, before_rises}
+use Rattle.key_order.specs.Order.{before, rises}
+use Rattle.key_order.proofs.Order.{before_other, before_rises}
 use Rattle.chars.specs.Runs.{same}
 use Rattle.strings.specs.declared.Frame.TheVariants.{Text}
 use Rattle.strings.specs.declared.Judged.TheVariants.{Keyword}
@@ -32,8 +33,9 @@ use Rattle.strings.specs.declared.Found.{Found}
 use Rattle.strings.specs.declared.Found.TheVariants.{Nothing, Is}
 use Rattle.strings.specs.Strings.{body, key_len, key_of, frame_of, judged_of, step_of, strings_from, strings_of, on_text, place_of}
 use Rattle.strings.specs.Strings.{places_from, places_of, key_in, nth_of, find_of}
-use Rattle.strings.specs.Passed.{seen_key}
-use Rattle.strings.specs.Followed.{Followed, followed, no_fuel, not_bad, none_left}
+use Rattle.strings.proofs.Passed.{seen_key}
+use Rattle.strings.specs.Followed.{Followed, no_fuel, not_bad, none_left}
+use Rattle.strings.proofs.Followed.{followed}
 use Rattle.until.specs.declared.Turn.{Turn}
 use Rattle.until.specs.declared.Turn.TheVariants.{Here, Gone, On}
 use Rattle.until.specs.declared.Walked.{Walked}

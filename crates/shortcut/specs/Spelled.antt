@@ -17,7 +17,7 @@ use Rattle.text.specs.declared.Manner.TheVariants.{Strict}
 use Rattle.note.specs.Note.{LineEnd}
 use Rattle.strings.specs.Strings.{offset, on_frame, step_of}
 use Rattle.strings.specs.Spelled.{Str, text_of, size_of, Rising, texts, Ends, mark, none, Spells, empty, full}
-use Rattle.strings.specs.Paper.{frame_of_lem, steps, end_frame}
+use Rattle.strings.proofs.Paper.{frame_of_lem, steps, end_frame}
 use Rattle.until.specs.declared.Turn.{Turn}
 use Rattle.until.specs.Until.{on_turn, on_step}
 use Rattle.shortcut.specs.Read.{reaches, string_read, read_from, read_of}

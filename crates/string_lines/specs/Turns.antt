@@ -145,4 +145,4 @@ module _ (p : Part) (u f : List ℕ) (high : Bool) (t : List ℕ) (e at m : ℕ)
 pub strings_over : (p : Part) (u f : List ℕ) (high : Bool) (t : List ℕ) (e at m : ℕ) → e ≤ at → text_from p u f high t e at m ≡ []
 unfolding strings_text
 strings_over p u f high t e at m h = ap (λ (ps : List Place). strings_text p u (strs_in f ps))
-    (sym (Rattle.strings.specs.Walks.place_over Strict high t f e at m h))
+    (sym (Rattle.strings.proofs.Walks.place_over Strict high t f e at m h))

@@ -19,7 +19,6 @@ use Rattle.text.specs.declared.Manner.{Manner}
 use Rattle.text.specs.declared.Manner.TheVariants.{Strict}
 use Rattle.strings.specs.Strings.{body, key_len, key_of, frame_of, text_rows, judged_of, step_of, strings_from, on_text, place_of, places_from, key_in}
 use Rattle.strings.specs.Walks.{in_frame, next_fits, done_frame, judged_clear, length_body, key_len_le}
-use Rattle.strings.specs.Passed.{seen_key}
 
 -- a string of o bytes at `at`, its keyword n bytes long
 pub record Followed (how : Manner) (high : Bool) (t u : List ℕ) (p : Part) (f : List ℕ) (e m at : ℕ) (prev : List ℕ) (o n : ℕ) : Type 0 where
@@ -32,38 +31,11 @@ pub record Followed (how : Manner) (high : Bool) (t u : List ℕ) (p : Part) (f 
 
 module _ (how : Manner) (high : Bool) (t u : List ℕ) (p : Part) (f : List ℕ) (e : ℕ) where
   module _ (fits : e ≤ length f) (m at : ℕ) (prev : List ℕ) (o n : ℕ) (h : step_of how high t u p prev (part at e f) at ≡ Next o n) where
-    abbrev l : List ℕ
+    abbrev pub l : List ℕ
     l = part at e f
 
-    abbrev b : List ℕ
+    abbrev pub b : List ℕ
     b = body t o l
-
-    clears : (frame_of how high t l ≡ Text o) × (judged_of how u prev b ≡ Keyword n)
-    clears = next_fits how high t u p prev l at o n h
-
-    long : key_len b ≡ n
-    long = (judged_clear how u prev b n clears.1).1
-
-    own : key_of b ≡ part (at + 2) (at + 2 + n) f
-    unfolding body
-    own =
-        let i = in_frame how high t l o clears.0 in
-        let s = length_body t o l i.low i.fit in
-        let k = key_len_le b in
-        let g = long in
-        ap (λ (j : ℕ). take j b) long ∙ take-take n (o - length t - 2) (drop 2 l) (omega (arith, i.low)) ∙ seen_key how high t u p prev f e at o n fits h
-
-    pub followed : strings_from how (suc m) high t u p prev l at ≡ Accepted → Followed how high t u p f e m at prev o n
-    unfolding strings_from places_from on_text
-    followed q =
-        let y = seen_key how high t u p prev f e at o n fits h in
-        record {
-          rest = rw (h, y, part_drop o at e f) at q;
-          places = rw (clears.0, part_drop o at e f);
-          own_key = rw long;
-          key = own;
-          clear = (judged_clear how u prev b n clears.1).0;
-        }
 
   -- an area that was let through has no string that is refused
   pub not_bad : (m at : ℕ) (prev : List ℕ) (r : Refusal) → step_of how high t u p prev (part at e f) at ≡ Bad r

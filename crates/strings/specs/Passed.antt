@@ -11,7 +11,7 @@ use Rattle.strings.specs.declared.Step.TheVariants.{Next}
 use Rattle.strings.specs.declared.Place.{Place}
 use Rattle.text.specs.declared.Manner.{Manner}
 use Rattle.strings.specs.Strings.{body, key_len, gap_len, frame_of, step_of, place_of}
-use Rattle.strings.specs.Walks.{in_frame, next_fits, next_bounds, judged_clear, place_fits}
+use Rattle.strings.specs.Walks.{in_frame, next_fits, judged_clear, place_fits}
 
 -- the string of `size` bytes that was seen at `hit`, its keyword up to `gap`
 abbrev pub seen_place : List ℕ → List ℕ → ℕ → ℕ → ℕ → Place
@@ -22,38 +22,3 @@ seen_place t f hit gap size =
 -- a string that was seen lies in the area; the terminator has so many bytes
 abbrev pub Lies : ℕ → ℕ → ℕ → ℕ → ℕ → Type 0
 Lies lt e hit gap size = (lt ≤ size) × (hit + 2 ≤ gap) × (gap ≤ hit + (size - lt)) × (hit + (size - lt) ≤ e)
-
-module _ (how : Manner) (high : Bool) (t u : List ℕ) (p : Part) (prev f : List ℕ) (e at o n : ℕ) (fits : e ≤ length f)
-    (h : step_of how high t u p prev (part at e f) at ≡ Next o n) where
-  frame : frame_of how high t (part at e f) ≡ Text o
-  frame = (next_fits how high t u p prev (part at e f) at o n h).0
-
-  long : key_len (body t o (part at e f)) ≡ n
-  long = (judged_clear how u prev (body t o (part at e f)) n (next_fits how high t u p prev (part at e f) at o n h).1).1
-
-  pub seen_lies : Lies (length t) e at (at + 2 + n) o
-  seen_lies =
-      let i = in_frame how high t (part at e f) o frame in
-      let b = place_fits how high t (part at e f) at o frame in
-      let w = length_part at e f fits in
-      let k = long in
-      let v = b.inside in
-      (omega (arith, i.low), omega arith, omega (arith, v.1, v.2), omega (arith, i.fit))
-
-  pub seen_key : take n (drop 2 (part at e f)) ≡ part (at + 2) (at + 2 + n) f
-  seen_key =
-      let b = next_bounds how high t u p prev (part at e f) at o n h in
-      let w : length (part at e f) ≡ e - at = length_part at e f fits in
-      let s : at + (2 + n) ≡ at + 2 + n = omega arith in
-      let r : 2 + n - 2 ≡ n = omega arith in
-      ap (λ (j : ℕ). take j (drop 2 (part at e f))) (sym r) ∙ part_part 2 (2 + n) at e f (omega (arith, b.1, b.2))
-      ∙ ap (λ (j : ℕ). part (at + 2) j f) s
-
-  pub seen_place_lem : place_of t o (part at e f) at ≡ seen_place t f at (at + 2 + n) o
-  unfolding body
-  seen_place_lem =
-      let l = seen_lies in
-      let b : part 2 (o - length t) (part at e f) ≡ part (at + 2) (at + (o - length t)) f = part_part 2 (o - length t) at e f (omega (arith, l.3)) in
-      let k : key_len (part (at + 2) (at + (o - length t)) f) ≡ n = rw b at long in
-      let d : drop n (part (at + 2) (at + (o - length t)) f) ≡ part (at + 2 + n) (at + (o - length t)) f = part_drop n (at + 2) (at + (o - length t)) f in
-      rw (b, k, d)

@@ -121,20 +121,10 @@ pub gap_len_le : (r : List ℕ) → gap_len r ≤ length r
 unfolding gap_len
 gap_len_le r = run_le blank r
 
-pub next_bounds : (how : Manner) (high : Bool) (t u : List ℕ) (p : Part) (prev l : List ℕ) (at o n : ℕ) → step_of how high t u p prev l at ≡ Next o n
-    → (0 < o) × (o ≤ length l) × (2 + n ≤ o)
-next_bounds how high t u p prev l at o n e =
-    let b = next_fits how high t u p prev l at o n e in
-    let i = in_frame how high t l o b.0 in
-    let k : key_len (body t o l) ≡ n = (judged_clear how u prev (body t o l) n b.1).1 in
-    let m = key_len_le (body t o l) in
-    let s = length_body t o l i.low i.fit in
-    (omega (arith, i.low), i.fit, omega (arith, i.low))
-
 abbrev Walk : Manner → ℕ → Bool → List ℕ → List ℕ → Part → List ℕ → List ℕ → ℕ → Verdict
 Walk how m high t u p prev l at = on_step (step_of how high t u p prev l at) (λ o n. strings_from how (m - 1) high t u p (take n (drop 2 l)) (drop o l) (at + o))
 
-walk_step : (how : Manner) (m : ℕ) (high : Bool) (t u : List ℕ) (p : Part) (prev l : List ℕ) (at : ℕ) → 0 < m
+pub walk_step : (how : Manner) (m : ℕ) (high : Bool) (t u : List ℕ) (p : Part) (prev l : List ℕ) (at : ℕ) → 0 < m
     → strings_from how m high t u p prev l at ≡ Walk how m high t u p prev l at
 unfolding strings_from
 walk_step how zero high t u p prev l at h = absurd (omega arith)
@@ -142,24 +132,6 @@ walk_step how (suc m) high t u p prev l at h = let q : suc m - 1 ≡ m = omega a
 
 -- a turn of the check: the keyword before is the part from k to g of the file
 module _ (how : Manner) (high : Bool) (t u : List ℕ) (p : Part) (f : List ℕ) (e at k g m : ℕ) (low : at < e) (fits : e ≤ length f) (enough : e - at ≤ m) where
-  pub turn_fits : (o n : ℕ) → step_of how high t u p (part k g f) (part at e f) at ≡ Next o n → (0 < o) × (at + o ≤ e) × (at + 2 + n ≤ e)
-  turn_fits o n h =
-      let b = next_bounds how high t u p (part k g f) (part at e f) at o n h in
-      let w : length (part at e f) ≡ e - at = length_part at e f fits in
-      (b.0, omega (arith, b.1), omega (arith, b.1, b.2))
-
-  pub turn_next : (o n : ℕ) → step_of how high t u p (part k g f) (part at e f) at ≡ Next o n
-      → strings_from how (m - 1) high t u p (part (at + 2) (at + 2 + n) f) (part (at + o) e f) (at + o) ≡ strings_from how m high t u p (part k g f)
-      (part at e f) at
-  turn_next o n h =
-      let b = turn_fits o n h in
-      let x : drop o (part at e f) ≡ part (at + o) e f = part_drop o at e f in
-      let s : at + (2 + n) ≡ at + 2 + n = omega arith in
-      let r : 2 + n - 2 ≡ n = omega arith in
-      let y : take n (drop 2 (part at e f)) ≡ part (at + 2) (at + 2 + n) f =
-      ap (λ (j : ℕ). take j (drop 2 (part at e f))) (sym r) ∙ part_part 2 (2 + n) at e f (omega (arith, b.2)) ∙ ap (λ (j : ℕ). part (at + 2) j f) s in
-      sym (walk_step how m high t u p (part k g f) (part at e f) at (omega arith) ∙ rw (h, x, y))
-
   pub turn_bad : (r : Refusal) → step_of how high t u p (part k g f) (part at e f) at ≡ Bad r
       → Refused r ≡ strings_from how m high t u p (part k g f) (part at e f) at
   turn_bad r h = sym (walk_step how m high t u p (part k g f) (part at e f) at (omega arith) ∙ rw h)
@@ -182,26 +154,6 @@ walk_none how high t u p f a e h = rw (part_none a e f h)
 -- the area that ended: no offset is left, and the list ends where the manner of reading lets it
 unfoldable pub over_of : Manner → Frame
 over_of how = pick (open_end how) End (Broken StringOffset)
-
-no_frame : (how : Manner) (high : Bool) (t : List ℕ) → frame_of how high t [] ≡ over_of how
-unfolding frame_of over_of
-no_frame how high t = rw (no_offset high [] refl) (go (open_end how))
-  where
-    go : (w : Bool) → pick (pick w (eqb 0 1) (ltb 0 2)) (Broken StringOffset) End ≡ pick w End (Broken StringOffset)
-    go true = refl
-    go false = refl
-
-pub walk_over : (how : Manner) (high : Bool) (t u : List ℕ) (p : Part) (prev f : List ℕ) (e at m : ℕ) → e ≤ at
-    → pick (open_end how) Accepted (Refused (refusal StringOffset p at)) ≡ strings_from how m high t u p prev (part at e f) at
-unfolding strings_from step_of on_frame over_of
-walk_over how high t u p prev f e at zero h = refl
-walk_over how high t u p prev f e at (suc m) h = rw (part_none at e f h, no_frame how high t) (go (open_end how))
-  where
-    go : (w : Bool) → pick w Accepted (Refused (refusal StringOffset p at))
-        ≡ on_step (on_frame how (pick w End (Broken StringOffset)) t u prev [] p at)
-        (λ o n. strings_from how m high t u p (take n (drop 2 [])) (drop o []) (at + o))
-    go true = refl
-    go false = refl
 
 -- ---- the questions
 
@@ -272,12 +224,3 @@ module _ (how : Manner) (high : Bool) (t f : List ℕ) (e at m : ℕ) (low : at 
       let w : length (part at e f) ≡ e - at = length_part at e f fits in
       let i = b.inside in
       (b.some, omega (arith, b.within), (i.0, i.1, i.2, omega (arith, b.within, i.3)))
-
-pub place_over : (how : Manner) (high : Bool) (t f : List ℕ) (e at m : ℕ) → e ≤ at → [] ≡ places_from how m high t (part at e f) at
-unfolding places_from on_text over_of
-place_over how high t f e at zero h = refl
-place_over how high t f e at (suc m) h = rw (part_none at e f h, no_frame how high t) (go (open_end how))
-  where
-    go : (w : Bool) → [] ≡ on_text (pick w End (Broken StringOffset)) [] (λ o. place_of t o [] at ∷ places_from how m high t (drop o []) (at + o))
-    go true = refl
-    go false = refl

@@ -21,8 +21,10 @@ use Rattle.strings.specs.declared.Step.TheVariants.{Next, Done, Bad}
 use Rattle.strings.specs.declared.Place.{Place}
 use Rattle.strings.specs.Strings.{on_frame, step_of, place_of, PlaceIn}
 use Rattle.strings.specs.Frames.{frame_short}
-use Rattle.strings.specs.Walks.{next_fits, next_bounds, place_fits}
-use Rattle.strings.specs.Passed.{seen_place, seen_key, seen_place_lem}
+use Rattle.strings.specs.Walks.{next_fits, place_fits}
+use Rattle.strings.proofs.Walks.{next_bounds}
+use Rattle.strings.specs.Passed.{seen_place}
+use Rattle.strings.proofs.Passed.{seen_key, seen_place_lem}
 use Rattle.until.specs.declared.Turn.{Turn}
 use Rattle.until.specs.declared.Turn.TheVariants.{Here, Gone, On}
 use Rattle.until.specs.declared.Walked.{Walked}

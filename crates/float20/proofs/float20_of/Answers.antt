@@ -3,7 +3,8 @@ use mathlib.Core.Path.{◌≡◌, ap, ◌∙◌}
 use native.Mathlib.Omega.{arith}
 use lib.IntN.{nat_abs}
 use mir.Syntax.{w32}
-use Rattle.float20.specs.Float20Laws.{coded_minus, coded_plus}
+use Rattle.float20.specs.Float20Laws.{coded_plus}
+use Rattle.float20.proofs.Float20Laws.{coded_minus}
 use Rattle.word.specs.Signed.{kept, sign}
 use Rattle.float20.proofs.float20_of.Goals as goal
 

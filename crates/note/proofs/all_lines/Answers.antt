@@ -4,7 +4,8 @@ use lib.ListN.{length}
 use lib.Dec.{leb, eqb}
 use borrow.Author.Tests.{eqb-true}
 use Rattle.word.specs.Tests.{both}
-use Rattle.note.specs.Note.{lines_one, lines_two}
+use Rattle.note.specs.Note.{lines_one}
+use Rattle.note.proofs.Note.{lines_two}
 use Rattle.note.proofs.all_lines.Goals as goal
 
 pub returns-then-u-eq1 : goal.returns-then-u-eq1

@@ -4,7 +4,8 @@ use mathlib.Core.Path.{refl, sym, ◌∙◌}
 use Prim.Native.Nat.{◌-◌}
 use native.Mathlib.Omega.{arith}
 use Rattle.word.specs.Part.{part_rest}
-use Rattle.note.specs.Note.{lines_start, lines_apart, lines_char, lines_bad, lines_over}
+use Rattle.note.specs.Note.{lines_apart, lines_char, lines_bad, lines_over}
+use Rattle.note.proofs.Note.{lines_start}
 use borrow.Author.Rules.{rules}
 use Rattle.note.proofs.walk_lines.Goals as goal
 

@@ -9,7 +9,8 @@ use mir.Val.{to_z}
 use mir.Facts.{to_z_pos}
 use Rattle.word.specs.Signed.{kept}
 use Rattle.sample_bits.specs.SampleBits.{ones}
-use Rattle.sample_bits.specs.BitLaws.{ones_plus, ones_less, ones_small}
+use Rattle.sample_bits.specs.BitLaws.{ones_plus}
+use Rattle.sample_bits.proofs.BitLaws.{ones_less, ones_small}
 use Rattle.sample_bits.proofs.ones.Goals as goal
 
 small : (z : ℤ) → nat_abs z < 32768 → mag z < 2147483648

@@ -9,8 +9,8 @@ use Rattle.word.specs.Part.{part, length_part}
 use Rattle.text.specs.declared.Manner.TheVariants.{Strict}
 use Rattle.strings.specs.declared.Step.TheVariants.{Next}
 use Rattle.strings.specs.Strings.{step_of}
-use Rattle.strings.specs.Walks.{turn_fits}
-use Rattle.strings.specs.Passed.{seen_lies}
+use Rattle.strings.proofs.Walks.{turn_fits}
+use Rattle.strings.proofs.Passed.{seen_lies}
 use Rattle.until.specs.declared.Walked.TheVariants as walked
 use Rattle.until.specs.Turns.{walk_start, walk_none, walk_past, walk_bad, walk_done, walk_here, walk_gone, walk_on}
 use borrow.Author.Rules.{rules}

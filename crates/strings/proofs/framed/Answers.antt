@@ -1,6 +1,7 @@
 -- `strings::framed` meets its contract. Each answer has its law. Assumes nothing.
 use mathlib.Core.Path.{sym, ◌∙◌}
-use Rattle.strings.specs.Frames.{frame_short, frame_none, frame_end, frame_small, frame_past, frame_open}
+use Rattle.strings.specs.Frames.{frame_short, frame_end, frame_small, frame_past, frame_open}
+use Rattle.strings.proofs.Frames.{frame_none}
 use Rattle.strings.specs.Frames.{frame_text}
 use native.Mathlib.Omega.{arith}
 use Rattle.strings.proofs.framed.Goals as goal

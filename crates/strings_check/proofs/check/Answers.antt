@@ -5,7 +5,8 @@ use Prim.Native.Nat.{◌≤◌, ◌-◌, ◌+◌, ◌<◌}
 use native.Mathlib.Nat.{le_of_eq}
 use lib.ListN.{length}
 use Rattle.word.specs.Part.{part, length_part}
-use Rattle.strings.specs.Walks.{turn_fits, turn_next, turn_bad, turn_done, walk_start, walk_over}
+use Rattle.strings.specs.Walks.{turn_bad, turn_done, walk_start}
+use Rattle.strings.proofs.Walks.{turn_fits, turn_next, walk_over}
 use Rattle.seek.specs.Sought.{sought_start, sought_done, sought_over, sought_next}
 use Rattle.seek.specs.Sought.{checked_bad, checked_seen, checked_none}
 use borrow.Author.Rules.{rules}

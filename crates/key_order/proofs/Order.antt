@@ -1,0 +1,62 @@
+-- Theorems on what specs/Order defines. They stand here, as a wrong definition there is to be refused and not to be unread.
+-- Assumes nothing.
+use Rattle.std.specs.Prelude.{◌≡◌, refl, Bool, true, false, List, ◌⊎◌, ℕ}
+use Rattle.std.proofs.Common.{sym, ◌∙◌, ⊎_elim, arith}
+use Rattle.word.specs.Tests.{never}
+use Rattle.refusal.specs.Rows.{pick}
+use Rattle.chars.specs.Chars.{note}
+use Rattle.chars.specs.Runs.{same, same_eq, same_refl}
+use Rattle.key_order.specs.Order.{before, less, less_irreflexive, less_transitive, repeats, rises, rises_later, rises_so}
+
+-- a keyword does not come before itself
+before_irreflexive : (k : List ℕ) → before k k ≡ false
+unfolding before
+before_irreflexive k = go (same k note)
+  where
+    go : (w : Bool) → pick w false (pick w true (less k k)) ≡ false
+    go true = refl
+    go false = less_irreflexive k
+
+before_transitive : (a b c : List ℕ) → before a b ≡ true → before b c ≡ true → before a c ≡ true
+unfolding before
+before_transitive a b c h k = go (same a note) (same b note) (same c note) h k
+  where
+    go : (u v w : Bool) → pick u false (pick v true (less a b)) ≡ true → pick v false (pick w true (less b c)) ≡ true
+        → pick u false (pick w true (less a c)) ≡ true
+    go true v w p q = p
+    go false true w p q = let z : ◌≡◌ {A = ℕ} 0 1 = cc in absurd (omega arith)
+    go false false true p q = refl
+    go false false false p q = less_transitive a b c p q
+
+-- what comes before a keyword is another
+pub before_other : (a b : List ℕ) → before a b ≡ true → same b a ≡ false
+before_other a b h = go (same b a) refl
+  where
+    go : (w : Bool) → same b a ≡ w → w ≡ false
+    go true e = never (sym (before_irreflexive a) ∙ rw (same_eq b a e) at h)
+    go false e = refl
+
+-- a keyword follows itself exactly where it may repeat
+pub rises_again : (k : List ℕ) → rises k k ≡ repeats k
+unfolding rises
+rises_again k = rw (before_irreflexive k, same_refl k)
+
+-- what follows a follower follows
+pub rises_transitive : (a b c : List ℕ) → rises a b ≡ true → rises b c ≡ true → rises a c ≡ true
+rises_transitive a b c h k =
+    ⊎_elim
+    (λ x. ⊎_elim (λ y. rises_later a c (before_transitive a b c x y)) (λ y. rw (← y.0) h) (rises_so b c k))
+    (λ x. rw x.0 k)
+    (rises_so a b h)
+
+-- and what comes before a keyword comes before its followers
+pub before_rises : (a b c : List ℕ) → before a b ≡ true → rises b c ≡ true → before a c ≡ true
+before_rises a b c h k = ⊎_elim (λ x. before_transitive a b c h x) (λ x. rw (← x.0) h) (rises_so b c k)
+
+-- of two that follow each other both are the same
+pub rises_both : (a b : List ℕ) → rises a b ≡ true → rises b a ≡ true → a ≡ b
+rises_both a b h k =
+    ⊎_elim
+    (λ x. ⊎_elim (λ y. never (sym (before_irreflexive a) ∙ before_transitive a b a x y)) (λ y. sym y.0) (rises_so b a k))
+    (λ x. x.0)
+    (rises_so a b h)

@@ -1,0 +1,5 @@
+pub mod Followed
+pub mod Frames
+pub mod Paper
+pub mod Passed
+pub mod Walks
