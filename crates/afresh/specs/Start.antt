@@ -25,33 +25,3 @@ use Rattle.layout.specs.Layout.{nul, line_feed}
 use Rattle.start.specs.Start.{start_answer, start_left}
 use Rattle.start.specs.StartShown.{started}
 use Rattle.afresh.specs.FileLaws.{size_low, file_fronted}
-use Rattle.afresh.specs.Step.{start_afresh}
-use Rattle.afresh.specs.Kept.{file_accepted}
-
-no_file : (f : List ℕ) → ((get_or f 0 0 ≡ 85) × (get_or f 1 0 ≡ 58)) ⊎ ((get_or f 0 0 ≡ 58) × (get_or f 1 0 ≡ 85)) → revision_of f ≡ 1 → bad_room (room_of f) ≡ false
-    → count_of f ≡ 0 → image_of Strict Read f ≡ Refused (refusal TraceCount File 6)
-unfolding image_of head_of and_then
-no_file f a b c d =
-    let k : known f ≡ true = ⊎_elim (λ e. rw (e.0, e.1)) (λ e. rw (e.0, e.1)) a in
-    rw (own_known f, own_revision f, own_room f, own_count f, k, b, c, d)
-
-module _ (xs : List ℕ) (order slots : ℕ) (sheet : List ℕ) (e : ℕ) (to : start_answer xs order slots sheet ≡ To e) where
-  pub start_accepted : check_of Strict Grow (start_left xs order slots sheet) e ≡ Accepted
-  start_accepted =
-      let s = started xs order slots sheet e to in
-      file_accepted Grow (eqb order 1) slots sheet [] (start_left xs order slots sheet) e (start_afresh xs order slots sheet e to) s.some
-      (area_size nul line_feed sheet, s.sized) s.in_maximum (λ z. refl)
-
-  pub start_refused : check_of Strict Read (start_left xs order slots sheet) e ≡ Refused (refusal TraceCount File 6)
-  unfolding check_of
-  start_refused =
-      let s = started xs order slots sheet e to in
-      let is = start_afresh xs order slots sheet e to in
-      let k = file_fronted (eqb order 1) slots sheet [] s.few is.slotted in
-      let low = size_low slots sheet [] in
-      let size = is.size in
-      let some = s.some in
-      let room : bad_room (4 * slots) ≡ false =
-      join_neither (ltb (4 * slots) 4) (not (eqb (4 * slots % 4) 0)) (le-ltb (4 * slots) 4 (omega arith)) (ap not (eq-eqb (4 * slots % 4) 0 (omega arith))) in
-      rw (length_accepts (length (start_left xs order slots sheet)) e (omega arith) s.in_maximum is.fits, is.image)
-      (no_file _ k.first k.revision (rw k.room room) k.count)

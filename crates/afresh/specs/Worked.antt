@@ -62,18 +62,3 @@ worked_good =
     let s = rises_first (83 ∷ 84 ∷ 65 ∷ 67 ∷ 75 ∷ []) (omega arith) in
     let without : has_channel shot ≡ true → ⊥ = λ e. never (sym shot_without ∙ e) in
     ((20, rw u), ((record { measures = (12, rw s); channel = λ e. absurd (without e); kind = refl; held = refl }, tt), inr (shot_without, tt)))
-
--- so it is written, and no call refused, into every buffer of 108 bytes or more (`written_afresh`, `none_refused`)
-pub worked_writable : (xs : List ℕ) → 108 ≤ length xs → Writable xs 0 1 units (shot ∷ [])
-worked_writable xs h =
-    let s = worked_sizes.3 in
-    record {
-      either = omega arith;
-      some = omega arith;
-      few = omega arith;
-      measures = worked_good.0;
-      good = worked_good.1;
-      slotted = omega arith;
-      fits = omega arith;
-      most = omega arith;
-    }

@@ -33,7 +33,8 @@ use Rattle.head_words.specs.HeadWords.{high_first, count_of}
 use Rattle.block.specs.Block.{data_at}
 use Rattle.image.specs.Image.{check_of}
 use Rattle.image.specs.Keeps.{trace_at, Keeps}
-use Rattle.image.specs.Accepted.{with_of, as_first, accepted_keeps}
+use Rattle.image.specs.Accepted.{with_of, as_first}
+use Rattle.image.proofs.Accepted.{accepted_keeps}
 use Rattle.reader.specs.declared.KeywordAnswer.TheVariants.{Yes, No}
 use Rattle.reader.specs.Questions.{keyword_answer, value_answer, number_answer}
 use Rattle.reader.specs.Listed.{Lists, trace_area, listed_keyword, listed_value, listed_number}
@@ -42,7 +43,8 @@ use Rattle.opening.specs.Opening.{wrong_channel}
 use Rattle.writer.specs.Answers.{add_answer, add_left}
 use Rattle.writer.specs.Shown.{added, add_left_lem}
 use Rattle.growth.specs.Grows.{grown_grows}
-use Rattle.growth.specs.StillKeeps.{grown_accepted, grown_numbered}
+use Rattle.growth.specs.StillKeeps.{grown_numbered}
+use Rattle.growth.proofs.StillKeeps.{grown_accepted}
 use Rattle.afresh.specs.FileOf.{has_channel, EachHas}
 use Rattle.demands.specs.GoodLists.{GoodList, good_is_writable}
 

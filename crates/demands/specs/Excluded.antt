@@ -35,12 +35,16 @@ use Rattle.growth.specs.Frame.{lies, grown_count}
 use Rattle.growth.specs.Grows.{grown_grows}
 use Rattle.growth.specs.Kept.{count_grown}
 use Rattle.afresh.specs.FileOf.{sizes, file_size}
-use Rattle.afresh.specs.Calls.{after, answers_of, accepted_of, start_grows, calls_afresh}
-use Rattle.afresh.specs.Stands.{empty_trace, file_traces}
+use Rattle.afresh.specs.Calls.{after, answers_of, accepted_of}
+use Rattle.afresh.proofs.Calls.{start_grows, calls_afresh}
+use Rattle.afresh.specs.Stands.{empty_trace}
+use Rattle.afresh.proofs.Stands.{file_traces}
 use Rattle.afresh.specs.FileLaws.{file_fronted}
-use Rattle.afresh.specs.Afresh.{lengths, start_accepted, none_refused, written_afresh, afresh_accepted}
-use Rattle.afresh.specs.Afresh.{accepted_writable}
-use Rattle.afresh.specs.Worked.{units, shot, worked_sizes, worked_good, worked_writable, shot_without}
+use Rattle.afresh.specs.Afresh.{lengths}
+use Rattle.afresh.proofs.Afresh.{start_accepted, none_refused, written_afresh, afresh_accepted}
+use Rattle.afresh.proofs.Afresh.{accepted_writable}
+use Rattle.afresh.specs.Worked.{units, shot, worked_sizes, worked_good, shot_without}
+use Rattle.afresh.proofs.Worked.{worked_writable}
 use Rattle.demands.specs.ListReads.{list_file_block}
 use Rattle.demands.specs.GoodLists.{GoodList, writable_is_good, good_is_writable}
 

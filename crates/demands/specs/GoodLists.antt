@@ -25,7 +25,7 @@ use Rattle.area.specs.Spelling.{measured_size, good_measured}
 use Rattle.layout.specs.Layout.{slots_most, nul, line_feed, Trace, Samples, Samples.integers, Samples.patterns, fitting}
 use Rattle.layout.specs.Layout.{unfit}
 use Rattle.afresh.specs.FileOf.{file_of, Measures, Good, EachGood, EachHas, Together}
-use Rattle.afresh.specs.FileLaws.{length_file}
+use Rattle.afresh.proofs.FileLaws.{length_file}
 use Rattle.afresh.specs.Afresh.{Writable}
 use Rattle.head.specs.Head.{maximum}
 

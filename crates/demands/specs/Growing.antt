@@ -36,14 +36,17 @@ use Rattle.growth.specs.Answered.{AnswersBy}
 use Rattle.growth.specs.Frame.{length_grown, grown_byte, grown_new, grown_count, grown_pointer}
 use Rattle.growth.specs.Grows.{grown_grows}
 use Rattle.growth.specs.Kept.{count_grown}
-use Rattle.growth.specs.StillKeeps.{grown_accepted}
-use Rattle.growth.specs.StillRead as still
-use Rattle.growth.specs.AllBytes.{grown_are_bytes, start_are_bytes}
+use Rattle.growth.proofs.StillKeeps.{grown_accepted}
+use Rattle.growth.proofs.StillRead as still
+use Rattle.growth.specs.AllBytes.{start_are_bytes}
+use Rattle.growth.proofs.AllBytes.{grown_are_bytes}
 use Rattle.afresh.specs.FileOf.{file_of, file_size, AllGood, Holds}
-use Rattle.afresh.specs.Step.{start_afresh, add_afresh}
-use Rattle.afresh.specs.Calls.{after, answers_of, accepted_of, after_to, after_refused, after_accepted, start_grows}
-use Rattle.afresh.specs.Calls.{calls_afresh}
-use Rattle.afresh.specs.Afresh.{lengths, none_refused, image_afresh, accepted_writable}
+use Rattle.afresh.proofs.Step.{start_afresh, add_afresh}
+use Rattle.afresh.specs.Calls.{after, answers_of, accepted_of, after_to, after_refused}
+use Rattle.afresh.proofs.Calls.{after_accepted, start_grows}
+use Rattle.afresh.proofs.Calls.{calls_afresh}
+use Rattle.afresh.specs.Afresh.{lengths}
+use Rattle.afresh.proofs.Afresh.{none_refused, image_afresh, accepted_writable}
 use Rattle.demands.specs.GoodLists.{GoodList, writable_is_good, good_is_writable}
 
 -- ---- "after each accepted addition the file is, byte for byte, the one that the whole list of accepted traces defines

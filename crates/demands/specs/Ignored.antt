@@ -10,7 +10,7 @@ use Rattle.text.specs.declared.Manner.TheVariants.{Strict}
 use Rattle.image.specs.Image.{check_of}
 use Rattle.reader.specs.Questions.{file_answer}
 use Rattle.ignored.specs.Images.{Alike}
-use Rattle.ignored.specs.Reads as reads
+use Rattle.ignored.proofs.ReadsLaws as reads
 use Rattle.demands.specs.Growing.{AnsweredAlike}
 
 module _ (xs ys : List ℕ) (n : ℕ) (fx : n ≤ length xs) (fy : n ≤ length ys) (a : Alike (take n xs) (take n ys)) where

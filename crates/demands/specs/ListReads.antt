@@ -23,8 +23,10 @@ use Rattle.growth.specs.Answered.{AnswersBy, answered}
 use Rattle.growth.specs.TraceReads.{Standing, ReadsAs, reads_as}
 use Rattle.afresh.specs.FileOf.{file_of, file_size, Measures, EachGood, Holds}
 use Rattle.afresh.specs.FileLaws.{size_none, file_fronted}
-use Rattle.afresh.specs.Stands.{empty_trace, file_traces}
-use Rattle.afresh.specs.Kept.{feed_ends, file_strings, file_accepted}
+use Rattle.afresh.specs.Stands.{empty_trace}
+use Rattle.afresh.proofs.Stands.{file_traces}
+use Rattle.afresh.specs.Kept.{feed_ends}
+use Rattle.afresh.proofs.Kept.{file_strings, file_accepted}
 
 -- trace k stands in the file of a list
 file_standing : (high : Bool) (slots : ℕ) (sheet : List ℕ) (ts : List Trace) (k : ℕ) → slots ≤ slots_most → length ts ≤ slots → EachGood ts

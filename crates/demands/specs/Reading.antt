@@ -42,7 +42,7 @@ use Rattle.head_words.specs.HeadWords.{count_of}
 use Rattle.head.specs.Head.{maximum}
 use Rattle.image.specs.Image.{check_of}
 use Rattle.image.specs.Keeps.{Keeps}
-use Rattle.image.specs.Accepted.{accepted_keeps, keeps_accepted}
+use Rattle.image.proofs.Accepted.{accepted_keeps, keeps_accepted}
 use Rattle.head.specs.declared.FileAnswer.TheVariants as file
 use Rattle.reader.specs.Questions.{file_answer, code_at, count_at, of_integers, of_bits, samples_of, patterns_of, classes_of}
 use Rattle.reader.specs.Questions.{integers_answer, bits_answer, integers_left, patterns_left, classes_left, number_answer}
@@ -57,11 +57,12 @@ use Rattle.start.specs.StartShown.{started}
 use Rattle.writer.specs.Shown.{added, add_left_lem}
 use Rattle.growth.specs.Answered.{AnswersBy, answered}
 use Rattle.growth.specs.TraceReads.{ReadsAs}
-use Rattle.growth.specs.ReadsLast.{reads_last}
+use Rattle.growth.proofs.ReadsLast.{reads_last}
 use Rattle.afresh.specs.FileOf.{file_size}
-use Rattle.afresh.specs.Calls.{after, accepted_of, start_grows}
+use Rattle.afresh.specs.Calls.{after, accepted_of}
+use Rattle.afresh.proofs.Calls.{start_grows}
 use Rattle.afresh.specs.Stands.{empty_trace}
-use Rattle.afresh.specs.Afresh.{accepted_writable}
+use Rattle.afresh.proofs.Afresh.{accepted_writable}
 use Rattle.demands.specs.ListReads.{list_reads, list_file_block, list_file_strings}
 
 -- ---- "a file is accepted exactly when it keeps those rules": for every buffer of bytes and every length. Rules out a

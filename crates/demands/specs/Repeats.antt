@@ -39,7 +39,8 @@ use Rattle.start.specs.Start.{start_answer, start_left}
 use Rattle.growth.specs.Answered.{AnswersBy}
 use Rattle.afresh.specs.FileOf.{sizes, file_of, file_size, has_channel}
 use Rattle.afresh.specs.Calls.{answers_of}
-use Rattle.afresh.specs.Afresh.{Writable, lengths, start_accepted, none_refused, written_afresh}
+use Rattle.afresh.specs.Afresh.{Writable, lengths}
+use Rattle.afresh.proofs.Afresh.{start_accepted, none_refused, written_afresh}
 use Rattle.afresh.specs.Worked.{units, shot, worked_sizes, worked_good}
 use Rattle.demands.specs.ListReads.{list_reads}
 use Rattle.demands.specs.Reading.{lines_are_let_through}

@@ -28,7 +28,7 @@ use Rattle.head_words.specs.HeadWords.{count_of}
 use Rattle.strings.specs.Spelled.{Str}
 use Rattle.image.specs.Image.{check_of}
 use Rattle.image.specs.Keeps.{Keeps}
-use Rattle.image.specs.Accepted.{accepted_keeps, keeps_accepted}
+use Rattle.image.proofs.Accepted.{accepted_keeps, keeps_accepted}
 use Rattle.reader.specs.Listed.{Lists, file_lists, trace_lists, lists_once}
 use Rattle.reader.specs.Answers.{integers_kept, bits_kept}
 use Rattle.reader.specs.Questions.{file_answer, trace_answer, count_answer, nth_answer, find_answer, keyword_answer, strings_answer, strings_left}
@@ -42,10 +42,11 @@ use Rattle.face.specs.declared.Seg2Verdict.{Seg2Verdict}
 use Rattle.face.specs.Face.{as_verdict}
 use Rattle.face_lenient.specs.FaceLenient.{lenient_verdict, lenient_file, lenient_trace, lenient_count, lenient_string, lenient_keyword}
 use Rattle.face_lenient.specs.FaceLenient.{lenient_value, lenient_number, lenient_double, lenient_location}
-use Rattle.lenient.specs.Forgiven.{ForgivenIn, strict_lenient, refused_or_forgiven}
-use Rattle.lenient.specs.Never.{never_order}
-use Rattle.lenient.specs.Answers.{file_alike, trace_alike, count_alike, nth_alike, find_alike, keyword_alike, number_alike, double_alike}
-use Rattle.lenient.specs.Answers.{location_alike, strings_alike, integers_alike, bits_alike}
+use Rattle.lenient.specs.Forgiven.{ForgivenIn}
+use Rattle.lenient.proofs.Forgiven.{strict_lenient, refused_or_forgiven}
+use Rattle.lenient.proofs.Never.{never_order}
+use Rattle.lenient.proofs.Answers.{file_alike, trace_alike, count_alike, nth_alike, find_alike, keyword_alike, number_alike, double_alike}
+use Rattle.lenient.proofs.Answers.{location_alike, strings_alike, integers_alike, bits_alike}
 use Rattle.demands_rows.specs.FileRows.{check_rows, check_answers_first}
 use Rattle.demands_rows.specs.QuestionRows.{strings_asked_rows, strings_answer_first, integers_asked_rows, integers_answer_first, bits_asked_rows, bits_answer_first}
 

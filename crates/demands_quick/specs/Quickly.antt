@@ -74,17 +74,21 @@ use Rattle.quick.specs.Quick.{quickly, walk_in, told_by, counted_by, quick_walk,
 use Rattle.quick.specs.Quick.{quick_keyword, quick_value, quick_span, quick_read, quick_number, quick_double, quick_location}
 use Rattle.quick.specs.Quick.{quick_integers, quick_integers_left, quick_bits, quick_patterns_left, quick_classes_left}
 use Rattle.shortcut.specs.Read.{read_in, block_read, strings_read, integers_read, bits_read, bytes_read, Agree}
-use Rattle.shortcut.specs.Spelled.{list_read, read_listed}
-use Rattle.shortcut.specs.Full.{block_full, count_full, nth_full, strings_full, find_full, keyword_full, value_full}
-use Rattle.shortcut.specs.Full.{number_full, double_full, location_full, integers_full, bits_full}
-use Rattle.shortcut.specs.Same.{block_same_answer, count_same, nth_same, strings_same_answer, strings_same_left, find_same, keyword_same}
-use Rattle.shortcut.specs.Same.{value_same, span_same, number_same, double_same, location_same, integers_same, bits_same}
-use Rattle.shortcut.specs.Same.{AllNamed, block_named, strings_named, integers_named, bits_named, found_is_last}
+use Rattle.shortcut.specs.Spelled.{list_read}
+use Rattle.shortcut.proofs.Spelled.{read_listed}
+use Rattle.shortcut.specs.Full.{block_full}
+use Rattle.shortcut.proofs.Full.{count_full, nth_full, strings_full, find_full, keyword_full, value_full}
+use Rattle.shortcut.specs.Full.{integers_full, bits_full}
+use Rattle.shortcut.proofs.Full.{number_full, double_full, location_full}
+use Rattle.shortcut.proofs.Same.{block_same_answer, count_same, nth_same, strings_same_answer, strings_same_left, find_same, keyword_same}
+use Rattle.shortcut.proofs.Same.{value_same, span_same, number_same, double_same, location_same, integers_same, bits_same}
+use Rattle.shortcut.specs.Same.{AllNamed}
+use Rattle.shortcut.proofs.Same.{block_named, strings_named, integers_named, bits_named, found_is_last}
 use Rattle.face.specs.Face.{as_verdict, as_trace, as_count}
 use Rattle.face_values.specs.FaceValues.{as_string, as_keyword, as_value, as_number, as_double, as_location}
 use Rattle.demands_rows.specs.FileRows.{text_first, ends_first, pick_first, pointer_test, block_first, head_first}
 use Rattle.demands_rows.specs.QuestionRows.{four_in, ruled_rows}
-use Rattle.shortcut.specs.Row.{row_holds}
+use Rattle.shortcut.proofs.Row.{row_holds}
 
 -- ---- "On every file that the full check accepts, the answer equals the full one": every question, as it crosses, and each
 -- lent row, of every trace number from 0 on (those past the last are 18 in both). Rules out a walk that ends too early or

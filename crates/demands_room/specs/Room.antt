@@ -30,11 +30,13 @@ use Rattle.file_length.specs.FileLength.{length_accepts}
 use Rattle.layout.specs.Layout.{nul, line_feed, start_image, start_size, Trace, count}
 use Rattle.layout.specs.LayoutLaws.{length_start_image}
 use Rattle.start.specs.Start.{within, roomed, on_measured, bad_start, start_into, start_answer, start_needs, start_left}
-use Rattle.start.specs.StartShown.{not_refused, from_measured, from_within, needed, within_roomed, start_roomed, start_left_lem}
+use Rattle.start.specs.StartShown.{not_refused, from_measured, from_within, needed, within_roomed, start_left_lem}
+use Rattle.start.proofs.StartShown.{start_roomed}
 use Rattle.start.specs.StartWrites.{needs_bad, needs_sheet, needs_sized}
 use Rattle.append.specs.Grown.{length_for}
 use Rattle.opening.specs.Opening.{area_answer}
-use Rattle.opening.specs.OpeningLaws.{opened, placed}
+use Rattle.opening.specs.OpeningLaws.{placed}
+use Rattle.opening.proofs.OpeningLaws.{opened}
 use Rattle.entry.specs.Entry.{samples_verdict, code_verdict}
 use Rattle.entry.specs.EntryLaws.{code_of_samples, code_refused}
 use Rattle.writer.specs.Answers.{add_into, add_answer, add_needs}

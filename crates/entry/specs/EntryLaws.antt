@@ -88,9 +88,6 @@ coded code s e = go (integers_asked code s) (bits_asked code) refl refl e
     go false true h k e = (bits_kinded code s k).0
     go false false h k e = absurd (refused_not _ e)
 
-pub code_judged : {code s : ℕ} {v : Verdict} → v ≡ code_verdict code s → v ≡ verdict.Accepted → Kinded code s
-code_judged {code} {s} e h = coded code s (sym e ∙ h)
-
 -- samples that are accepted have an accepted code
 pub code_of_samples : (code : ℕ) (x : Samples) → samples_verdict code x ≡ verdict.Accepted → code_verdict code (count x) ≡ verdict.Accepted
 unfolding code_verdict fitting count

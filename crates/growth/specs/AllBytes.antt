@@ -91,7 +91,7 @@ texts_bytes high t u prev (s ∷ ss) end bt bu br g =
     (bytes_append (text_of s) (t ++ texts high t ss end) (text_bytes bu g.0)
     (bytes_append t (texts high t ss end) bt (texts_bytes high t u s.key ss end bt bu br g.2)))
 
-zeros_bytes : (n : ℕ) → Bytes (replicate n 0)
+pub zeros_bytes : (n : ℕ) → Bytes (replicate n 0)
 zeros_bytes zero = tt
 zeros_bytes (suc n) = (omega arith, zeros_bytes n)
 
@@ -202,17 +202,6 @@ file_block_bytes high m n =
     bytes_append (order_mark high) _ (order_bytes high)
     (bytes_append (bytes_of 2 high 1) _ (bytes_of_bytes 2 high 1)
     (bytes_append (bytes_of 2 high m) _ (bytes_of_bytes 2 high m) (bytes_append (bytes_of 2 high n) plain_ends (bytes_of_bytes 2 high n) plain_bytes)))
-
--- ---- the buffer after an addition, and after a start
-
-new_bytes_lem : {f g : List ℕ} {x : Trace} (n : ℕ) → Grows f g x → Bytes (new_bytes f n x)
-unfolding new_bytes
-new_bytes_lem {f} {g} {x} n w =
-    bytes_append (replicate (round4 n - n) 0) (trace_bytes (high_first f) (string_end f) (line_end f) x) (zeros_bytes (round4 n - n))
-    (trace_bytes_lem (high_first f) (string_end f) (line_end f) x (area_size (string_end f) (line_end f) x.sheet) (keeps_terminators w.old) w.sized w.kind)
-
-pub grown_are_bytes : {xs : List ℕ} {n : ℕ} {x : Trace} {end : ℕ} → Bytes xs → Added xs n x end → Bytes (grown xs n x)
-grown_are_bytes {xs} {n} {x} {end} by h = grown_bytes h by (new_bytes_lem n (grown_grows by h))
 
 plain_pair : Terminators nul line_feed
 unfolding all

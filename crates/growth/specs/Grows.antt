@@ -20,7 +20,7 @@ use Rattle.head_words.specs.HeadWords.{high_first, room_of, count_of}
 use Rattle.head.specs.Head.{maximum}
 use Rattle.terminators.specs.Terminators.{string_end, line_end}
 use Rattle.image.specs.Keeps.{Keeps}
-use Rattle.image.specs.Accepted.{accepted_keeps}
+use Rattle.image.proofs.Accepted.{accepted_keeps}
 use Rattle.layout.specs.Layout.{Trace, fitting, unfit, trace_size, trace_bytes}
 use Rattle.append.specs.Grown.{new_bytes, new_length, grown}
 use Rattle.opening.specs.Opening.{wrong_channel}

@@ -16,23 +16,4 @@ use Rattle.growth.specs.Frame.{lies}
 use Rattle.growth.specs.Grows.{Grows, grown_grows}
 use Rattle.growth.specs.Kept.{high_kept, string_end_kept, line_end_kept, count_grown, trace_at_new}
 use Rattle.growth.specs.NewTrace.{stands_new}
-use Rattle.growth.specs.StillKeeps.{grown_accepted}
 use Rattle.growth.specs.TraceReads.{Standing, ReadsAs, reads_as}
-
-last_standing : {f g : List ℕ} {x : Trace} → Grows f g x → Standing g (count_of f) (round4 (length f)) x
-last_standing {f} {g} {x} w =
-    record {
-      low = omega (arith, count_grown w);
-      pointer = trace_at_new w;
-      stands = rw (high_kept w, string_end_kept w, line_end_kept w) (stands_new w);
-      size = area_size (string_end f) (line_end f) x.sheet;
-      sized = rw (string_end_kept w, line_end_kept w) w.sized;
-      ends = rw (line_end_kept w) (kept_ends w.old);
-      kind = w.kind;
-      held = w.held;
-    }
-
-pub reads_last : {xs : List ℕ} {n : ℕ} {x : Trace} {end : ℕ} → Bytes xs → Added xs n x end → ReadsAs (grown xs n x) end (count_of (take n xs)) (round4 n) x
-reads_last {xs} {n} {x} {end} by h =
-    let l : length (take n xs) ≡ n = length-take-le n xs (lies h).in_buffer in
-    reads_as (grown_accepted Read by h) (rw l at (last_standing (grown_grows by h)))

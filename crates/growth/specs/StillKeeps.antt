@@ -31,7 +31,8 @@ use Rattle.terminators.specs.Terminators.{string_end, line_end}
 use Rattle.block.specs.Block.{data_size_of, data_at, end_at}
 use Rattle.image.specs.Image.{check_of}
 use Rattle.image.specs.Keeps.{trace_at, end_before, strings_end, GoodChannel, KeepsTrace, Keeps}
-use Rattle.image.specs.Accepted.{with_of, channel_spelled, all_or_none, as_first, keeps_accepted, kept_ends}
+use Rattle.image.specs.Accepted.{with_of, channel_spelled, all_or_none, as_first, kept_ends}
+use Rattle.image.proofs.Accepted.{keeps_accepted}
 use Rattle.layout.specs.Layout.{Trace, count}
 use Rattle.append.specs.Grown.{grown}
 use Rattle.opening.specs.Opening.{wrong_channel}
@@ -292,12 +293,3 @@ keeps_any purpose h =
       traces = h.traces;
       channels = h.channels;
     }
-
-pub grown_kept : {xs : List ℕ} {n : ℕ} {x : Trace} {end : ℕ} → Bytes xs → Added xs n x end → Keeps Strict Read (take end (grown xs n x))
-grown_kept by h = grows_keeps (grown_grows by h)
-
--- so the reader accepts it, and the next addition
-pub grown_accepted : (purpose : Purpose) {xs : List ℕ} {n : ℕ} {x : Trace} {end : ℕ} → Bytes xs → Added xs n x end
-    → check_of Strict purpose (grown xs n x) end ≡ Accepted
-grown_accepted purpose {xs} {n} {x} {end} by h =
-    keeps_accepted Strict purpose (grown xs n x) end (rw (length_grown h) h.in_buffer) (keeps_any purpose (grown_kept by h))

@@ -38,24 +38,6 @@ use Rattle.image.specs.ImageLaws.{long_enough}
 use Rattle.image.specs.Accepted.{image_headed, image_traced, traced_places}
 use Rattle.opening.specs.Opening.{no_slot, wrong_channel, with_row, taken_of, area_answer}
 
--- ---- from an answer back through the rows
-
-not_size : (r : Refusal) (b : ℕ) → measured.Refused r ≡ measured.Size b → ⊥
-not_size r b e = let z : ◌≡◌ {A = ℕ} 0 1 = cc in omega arith
-
-from_verdict : (v : Verdict) (m : Measured) (b : ℕ) → asked measured.Refused v m ≡ measured.Size b → (v ≡ verdict.Accepted) × (m ≡ measured.Size b)
-from_verdict verdict.Accepted m b e = (refl, e)
-from_verdict (verdict.Refused r) m b e = absurd (not_size r b e)
-
-from_slot : (w : Bool) (r : Refusal) (m : Measured) (b : ℕ) → pick w (measured.Refused r) m ≡ measured.Size b → (w ≡ false) × (m ≡ measured.Size b)
-from_slot true r m b e = absurd (not_size r b e)
-from_slot false r m b e = (refl, e)
-
-from_row : (w : Bool) (m : Measured) (b : ℕ) → with_row w m ≡ measured.Size b → (w ≡ false) × (m ≡ measured.Size b)
-from_row true (measured.Size a) b e = absurd (not_size _ b e)
-from_row false (measured.Size a) b e = (refl, e)
-from_row w (measured.Refused r) b e = absurd (not_size r b e)
-
 -- ---- what each step has shown
 
 -- M is a number of two bytes
@@ -81,21 +63,6 @@ pub record Opened (xs : List ℕ) (n : ℕ) (sheet : List ℕ) (size : ℕ) : Ty
   pub slot : 4 * count_of (take n xs) + 4 ≤ room_of (take n xs)
   pub measured : measured_of (string_end (take n xs)) (line_end (take n xs)) sheet ≡ measured.Size size
   pub channel : wrong_channel (take n xs) sheet ≡ false
-
-pub opened : (xs : List ℕ) (n : ℕ) (sheet : List ℕ) (size : ℕ) → area_answer xs n sheet ≡ measured.Size size → Opened xs n sheet size
-unfolding area_answer taken_of
-opened xs n sheet size e =
-    let f : List ℕ = take n xs in
-    let v = from_verdict (check_of Strict Grow xs n) _ size e in
-    let s = from_slot (no_slot (room_of f) (count_of f)) (refusal NoSlot File 0) (taken_of f sheet) size v.1 in
-    let m = from_row (wrong_channel f sheet) (measured_of (string_end f) (line_end f) sheet) size s.1 in
-    record {
-      accepted = v.0;
-      most = (placed Grow xs n v.0).0.1;
-      slot = ltb-false (room_of f) (4 * count_of f + 4) s.0;
-      measured = m.1;
-      channel = m.0;
-    }
 
 -- ---- rows 1 to 17, 34 and 24 as the code tests them; b is the file block that it read
 

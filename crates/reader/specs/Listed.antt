@@ -21,7 +21,7 @@ use Rattle.terminators.specs.Terminators.{string_end, line_end}
 use Rattle.block.specs.Block.{data_at}
 use Rattle.image.specs.Image.{check_of}
 use Rattle.image.specs.Keeps.{trace_at, strings_end, Strings}
-use Rattle.image.specs.Accepted.{accepted_keeps}
+use Rattle.image.proofs.Accepted.{accepted_keeps}
 use Rattle.decimal_parts.specs.declared.NumberAnswer.TheVariants as number
 use Rattle.double.specs.declared.DoubleAnswer.TheVariants as double
 use Rattle.location.specs.declared.LocationAnswer.TheVariants as location

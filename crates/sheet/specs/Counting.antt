@@ -94,18 +94,6 @@ pub record Counted (t u s : List ℕ) (at k g n : ℕ) : Type 0 where
   pub told : n ≡ capped exact
   pub whole : exact + costs t u (same (part k g s) note) (sheet_lines_from fuel (drop at s)) ≡ text_size t (sheet_strings u s)
 
-pub counted_start : (t u s : List ℕ) → Counted t u s 0 0 0 2
-unfolding lines_verdict sheet_strings sheet_lines same
-counted_start t u s =
-    record {
-      fuel = length s;
-      enough = omega arith;
-      checked = refl;
-      exact = 2;
-      told = refl;
-      whole = joined_size t u (sheet_lines_from (length s) s);
-    }
-
 pub turn_fits : (prev s : List ℕ) (at o w : ℕ) → at < length s → line_step prev (drop at s) at ≡ Next o w → (w < o) × (at + o < length s)
 turn_fits prev s at o w low h =
     let b = next_told prev (drop at s) at o w h in

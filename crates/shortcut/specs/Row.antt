@@ -37,72 +37,17 @@ use Rattle.one_trace.specs.Alone.{alone_of}
 use Rattle.one_trace.specs.AloneLaws.{alone_passed}
 use Rattle.quick.specs.Quick.{walk_in, told_by, counted_by, quick_walk, quick_nth, quick_count, quick_strings, quick_strings_left}
 use Rattle.quick.specs.QuickLaws.{never_string}
-use Rattle.shortcut.specs.Full.{walk_places, area_walk, by_index_lem}
-
--- a walk along all strings that met no row has accepted their list
-module _ (high : Bool) (t u : List ℕ) (p : Part) where
-  from_over : (m j : ℕ) (prev l : List ℕ) (at c : ℕ) → walk_from to_end m high t u p j prev l at ≡ walked.Over c
-      → strings_from Strict m high t u p prev l at ≡ Accepted
-  unfolding walk_from strings_from
-  from_over zero j prev l at c w = let z : ◌≡◌ {A = ℕ} 0 1 = cc in absurd (omega arith)
-  from_over (suc m) j prev l at c w =
-      go (step_of Strict high t u p prev l at) w (λ o n. from_over m (j + 1) (take n (drop 2 l)) (drop o l) (at + o) c)
-    where
-      go : (st : Step) → on_step st walked.Bad (walked.Over j) (λ o n. walk_from to_end m high t u p (j + 1) (take n (drop 2 l)) (drop o l) (at + o))
-          ≡ walked.Over c
-          → ((o n : ℕ) → walk_from to_end m high t u p (j + 1) (take n (drop 2 l)) (drop o l) (at + o) ≡ walked.Over c
-          → strings_from Strict m high t u p (take n (drop 2 l)) (drop o l) (at + o) ≡ Accepted)
-          → Rattle.strings.specs.Strings.on_step st (λ o n. strings_from Strict m high t u p (take n (drop 2 l)) (drop o l) (at + o)) ≡ Accepted
-      go Done h again = refl
-      go (Bad r) h again = let z : ◌≡◌ {A = ℕ} 0 1 = cc in absurd (omega arith)
-      go (Next o n) h again = again o n h
-
-  over_accepted : (l : List ℕ) (at c : ℕ) → walk_of to_end high t u p l at ≡ walked.Over c → strings_of Strict high t u p l at ≡ Accepted
-  unfolding walk_of strings_of
-  over_accepted l at c w = go (eqb (length l) 0) w
-    where
-      go : (v : Bool) → pick v (walked.Over 0) (walk_from to_end (length l) high t u p 0 [] l at) ≡ walked.Over c
-          → pick v Accepted (strings_from Strict (length l) high t u p [] l at) ≡ Accepted
-      go true h = refl
-      go false h = from_over (length l) 0 [] l at c h
+use Rattle.shortcut.specs.Full.{walk_places, by_index_lem}
 
 module _ (xs : List ℕ) (n : ℕ) (z : ℤ) where
-  abbrev f : List ℕ
+  abbrev pub f : List ℕ
   f = take n xs
 
-  abbrev k : ℕ
+  abbrev pub k : ℕ
   k = trace_number z
 
-  abbrev a : ℕ
+  abbrev pub a : ℕ
   a = trace_at f k + 32
 
-  abbrev e : ℕ
+  abbrev pub e : ℕ
   e = data_at (high_first f) f (trace_at f k)
-
-  -- the i-th string of a list that was counted is its i-th place
-  nth_of_all : (c i : ℕ) → alone_of xs n z ≡ Accepted → walk_in to_end f k ≡ walked.Over c
-      → told_by (walk_in (by_index i) f k) ≡ there (nth_of (places_in Strict f a e) i)
-  unfolding walk_in places_in
-  nth_of_all c i ok w =
-      let fits = (alone_passed xs n z ok).blocked.fits in
-      let q = over_accepted (high_first f) (string_end f) (line_end f) (Trace k) (part a e f) a c w in
-      let y : i - 0 ≡ i = omega arith in
-      ap told_by (area_walk (high_first f) (string_end f) (line_end f) (Trace k) f a e fits q (by_index i))
-      ∙ (rw y at (by_index_lem f i 0 (places_in Strict f a e) (omega arith)))
-
-  pub row_holds : (row : List ℕ) (i : ℕ) (s : Place) → quick_strings xs n z (length row) ≡ Accepted → quick_nth xs n z i ≡ string.There s
-      → part (4 * i) (4 * i + 4) (quick_strings_left xs n z row) ≡ four_of s
-  unfolding quick_strings quick_count quick_nth quick_walk quick_strings_left numbers_in area_named
-  row_holds row i s v h = rw v (numbers_nth (places_in Strict f a e) i s (go (alone_of xs n z) refl (walk_in to_end f k) refl v h))
-    where
-      found : (y : Found) → there y ≡ string.There s → y ≡ Is s
-      found Nothing q = let z : ◌≡◌ {A = ℕ} 0 1 = cc in absurd (omega arith)
-      found (Is p) q = let y : p ≡ s = cc in ap Is y
-
-      go : (b : Verdict) → alone_of xs n z ≡ b → (w : Walked) → walk_in to_end f k ≡ w
-          → strings_verdict (counted_by (asked walked.Bad b w)) (length row) ≡ Accepted
-          → told_by (asked walked.Bad b (walk_in (by_index i) f k)) ≡ string.There s → nth_of (places_in Strict f a e) i ≡ Is s
-      go (Refused r) o w d q x = absurd (refused_not r q)
-      go Accepted o (walked.Bad r) d q x = absurd (refused_not r q)
-      go Accepted o (walked.At p) d q x = absurd (never_string f k p d)
-      go Accepted o (walked.Over c) d q x = found (nth_of (places_in Strict f a e) i) (sym (nth_of_all c i o d) ∙ x)

@@ -108,20 +108,6 @@ within_roomed space end = go (ltb space end) (ltb maximum end) refl
     go true false e = rw (← e)
     go false false e = rw (← e)
 
--- so a start is the question for its room, and then row 30
-pub start_roomed : (xs : List ℕ) (order slots : ℕ) (sheet : List ℕ) → start_answer xs order slots sheet ≡ roomed (length xs) (start_needs order slots sheet)
-unfolding start_answer start_needs start_into
-start_roomed xs order slots sheet = go (bad_start order slots) (measured_of nul line_feed sheet)
-  where
-    end : ℕ
-    end = start_size slots sheet
-
-    go : (w : Bool) (m : Measured) → pick w (refuse StartValues 0) (on_measured m (within (length xs) end))
-        ≡ roomed (length xs) (pick w (refuse StartValues 0) (on_measured m (within maximum end)))
-    go true m = refl
-    go false (measured.Size b) = within_roomed (length xs) end
-    go false (measured.Refused r) = refl
-
 pub start_left_lem : (xs : List ℕ) (order slots : ℕ) (sheet : List ℕ) (end : ℕ) → start_answer xs order slots sheet ≡ To end
     → start_left xs order slots sheet ≡ put xs 0 (start_image (eqb order 1) slots sheet)
 unfolding start_left

@@ -38,7 +38,7 @@ block_read (Refused q) y x e = let z : ◌≡◌ {A = ℕ} 0 1 = cc in absurd (o
 
 -- x is the block that the rows hand on
 module _ (high : Bool) (f : List ℕ) (k p : ℕ) (x : TraceBlock) (e : block_answer high (head_at f p) (length f) k p ≡ trace.Is x) where
-  rows_passed : (block_of high (head_at f p) (length f) k p ≡ Accepted) × (x ≡ block_in high (head_at f p) p)
+  pub rows_passed : (block_of high (head_at f p) (length f) k p ≡ Accepted) × (x ≡ block_in high (head_at f p) p)
   unfolding block_answer
   rows_passed = block_read _ _ x e
 
@@ -70,26 +70,6 @@ module _ (how : Manner) (high : Bool) (t u f : List ℕ) (with : Bool) (k p : �
       sym (rw v)
 
   module _ (x : TraceBlock) (e : block_answer high (head_at f p) (length f) k p ≡ trace.Is x) where
-    strings_next : first_of (block_checks how high t u f with k p)
-        ≡ and_then (area_verdict how high t u f (Trace k) (p + 32) (p + x.b)) (channel_verdict how with f k p (channel_at how high t f p))
-    unfolding and_then
-    strings_next = first_next _ _ ∙ rw ((rows_passed high f k p x e).0, rows_size high f k p x e) (first_two _ _)
-
-    pub strings_bad : (r : Refusal) → area_verdict how high t u f (Trace k) (p + 32) (p + x.b) ≡ Refused r → Not r ≡ traced how high t u f with k p
-    unfolding and_then
-    strings_bad r h = sym (rw (strings_next, h))
-
-    -- its strings were passed
-    strings_past : area_verdict how high t u f (Trace k) (p + 32) (p + x.b) ≡ Accepted
-        → asked Not (channel_verdict how with f k p (channel_at how high t f p)) (Through (p + x.b + x.d) with) ≡ traced how high t u f with k p
-    unfolding end_at and_then
-    strings_past h = sym (rw (strings_next, h, rows_size high f k p x e, rows_data high f k p x e))
-
-    -- what the check of them found is its channel number, whose value lies in the file
-    channel_sought : find_of how f (places_of how high t (part (p + 32) (p + x.b) f) (p + 32)) channel_number ≡ channel_at how high t f p
-    unfolding channel_at
-    channel_sought = rw (rows_size high f k p x e)
-
     pub channel_in : {has : Bool} {from to : ℕ}
         → Told (find_of how f (places_of how high t (part (p + 32) (p + x.b) f) (p + 32)) channel_number) has from to → (from ≤ to) × (to ≤ length f)
     channel_in h =
@@ -97,21 +77,6 @@ module _ (how : Manner) (high : Bool) (t u f : List ℕ) (with : Bool) (k p : �
         let z = rows_size high f k p x e in
         let i = sought_in how high t f (p + 32) (p + x.b) channel_number _ (omega (arith, q.least)) (omega (arith, q.fits)) refl in
         rw (h.from_is, h.to_is) at i
-
--- so the trace is as row 34 says, with what was chosen at it
-pub strings_through : (how : Manner) (high : Bool) (t u f : List ℕ) (with : Bool) (k p : ℕ) (x : TraceBlock)
-    → block_answer high (head_at f p) (length f) k p ≡ trace.Is x → {has : Bool} {from to : ℕ} {r : Traced}
-    → area_verdict how high t u f (Trace k) (p + 32) (p + x.b) ≡ Accepted
-    → Told (find_of how f (places_of how high t (part (p + 32) (p + x.b) f) (p + 32)) channel_number) has from to
-    → r ≡ asked Not (channel_row how (chosen_by with k has) k p has (part from to f)) (Through (p + x.b + x.d) (chosen_by with k has))
-    → r ≡ traced how high t u f (chosen_at how high t f with k p) k p
-strings_through how high t u f with k p x e h c q =
-    let s : Found = channel_at how high t f p in
-    let t' = rw (channel_sought how high t u f with k p x e) at c in
-    let v = value_told f s in
-    q
-    ∙ rw (← t'.is, ← t'.from_is, ← t'.to_is, ← v)
-    (strings_past how high t u f (chosen_at how high t f with k p) k p x e h)
 
 -- ---- what an answer tells
 

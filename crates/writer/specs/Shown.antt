@@ -23,7 +23,7 @@ use Rattle.layout.specs.Layout.{Trace, fitting, unfit}
 use Rattle.start.specs.Start.{within}
 use Rattle.append.specs.Grown.{new_length, grown}
 use Rattle.opening.specs.Opening.{wrong_channel, taken_of, area_answer}
-use Rattle.opening.specs.OpeningLaws.{opened}
+use Rattle.opening.proofs.OpeningLaws.{opened}
 use Rattle.entry.specs.Entry.{samples_verdict}
 use Rattle.entry.specs.EntryLaws.{samples_fit}
 use Rattle.writer.specs.Answers.{add_into, add_answer, add_left}

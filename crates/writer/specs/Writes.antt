@@ -28,7 +28,8 @@ use Rattle.layout.specs.Stores.{Held}
 use Rattle.append.specs.Grown.{new_length, grown}
 use Rattle.append.specs.GrownLaws.{Begins}
 use Rattle.opening.specs.Opening.{area_answer}
-use Rattle.opening.specs.OpeningLaws.{room_small, opened, accepted}
+use Rattle.opening.specs.OpeningLaws.{room_small, accepted}
+use Rattle.opening.proofs.OpeningLaws.{opened}
 use Rattle.entry.specs.Entry.{samples_verdict, code_verdict}
 use Rattle.writer.specs.Answers.{add_into, add_answer, add_needs, add_left}
 use Rattle.writer.specs.Shown.{added, add_left_lem, add_refused}
@@ -67,15 +68,12 @@ too_many len n size code s k h =
 
 module _ (xs : List ℕ) (n : ℕ) (x : Trace) {fit : Verdict} {w : Written} (e : fit ≡ samples_verdict x.code x.samples)
     (h : w ≡ add_into (length xs) xs n x.sheet x.code (count x.samples) fit) where
-  answer : w ≡ add_answer xs n x
+  pub answer : w ≡ add_answer xs n x
   unfolding add_answer
   answer = rw (← e) h
 
   pub kept_left : {r : Refusal} → w ≡ Refused r → (Refused r ≡ add_answer xs n x) × (xs ≡ add_left xs n x)
   kept_left {r} g = (sym g ∙ answer, sym (add_refused xs n x r (sym answer ∙ g)))
-
-  pub grown_left : {end : ℕ} {ys : List ℕ} → w ≡ To end → ys ≡ grown xs n x → (To end ≡ add_answer xs n x) × (ys ≡ add_left xs n x)
-  grown_left {end} g l = (sym g ∙ answer, l ∙ sym (add_left_lem xs n x end (sym answer ∙ g)))
 
   -- what has been shown before the first store
   pub begins : {end : ℕ} → Bytes xs → w ≡ To end → Begins xs n x.sheet end x.code (count x.samples) × Held x.code x.samples

@@ -2,7 +2,8 @@
 -- Assumes nothing.
 use mathlib.Core.Path.{◌∙◌}
 use Rattle.layout.specs.Layout.{patterns, count}
-use Rattle.append.specs.GrownLaws.{samples_room, still_slotted, grown_put}
+use Rattle.append.specs.GrownLaws.{samples_room}
+use Rattle.append.proofs.GrownLaws.{still_slotted, grown_put}
 use borrow.Author.Rules.{rules}
 use Rattle.append.proofs.grow_bits.Goals as goal
 

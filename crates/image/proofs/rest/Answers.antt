@@ -1,7 +1,7 @@
 -- `image::rest` meets its contract. Each part is asked only where the ones before it were accepted. Assumes nothing.
 use mathlib.Core.Path.{sym, ◌∙◌}
 use Rattle.traces.specs.Walk.{next_stands, next_within}
-use Rattle.image.specs.Rest.{rest_pointer, rest_strings, rest_traces}
+use Rattle.image.proofs.RestLaws.{rest_pointer, rest_strings, rest_traces}
 use native.Mathlib.Omega.{arith}
 use Rattle.image.proofs.rest.Goals as goal
 

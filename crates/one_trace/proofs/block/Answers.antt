@@ -10,7 +10,8 @@ use Rattle.block.specs.declared.TraceAnswer.TheVariants as trace
 use Rattle.file_length.specs.FileLength.{long_enough}
 use Rattle.image.specs.ImageLaws.{in_words, head_shown, head_room, head_count}
 use Rattle.one_trace.specs.Alone.{named_of}
-use Rattle.one_trace.specs.AloneLaws.{alone_length, alone_head, alone_named}
+use Rattle.one_trace.specs.AloneLaws.{alone_length}
+use Rattle.one_trace.proofs.AloneLaws.{alone_head, alone_named}
 use Rattle.one_trace.proofs.block.Goals as goal
 
 pub returns-then-is_bad_length : goal.returns-then-is_bad_length

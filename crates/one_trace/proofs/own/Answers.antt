@@ -3,7 +3,7 @@
 use mathlib.Core.Path.{sym, ◌∙◌}
 use native.Mathlib.Omega.{arith}
 use Rattle.block.specs.BlockLaws.{pointed}
-use Rattle.one_trace.specs.AloneLaws.{own_bad, own_rows_lem}
+use Rattle.one_trace.proofs.AloneLaws.{own_bad, own_rows_lem}
 use Rattle.one_trace.proofs.own.Goals as goal
 
 pub slice_bounds-block_rows-end : goal.slice_bounds-block_rows-end

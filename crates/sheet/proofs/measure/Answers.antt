@@ -4,7 +4,8 @@ use mathlib.Core.Path.{sym, ◌∙◌}
 use Prim.Native.Nat.{◌+◌, ◌-◌, ◌<◌}
 use lib.ListN.{length}
 use Rattle.word.specs.Part.{part_rest}
-use Rattle.sheet.specs.Counting.{counted_start, turn_fits, counted_turn, counted_bad, counted_large}
+use Rattle.sheet.specs.Counting.{turn_fits, counted_turn, counted_bad, counted_large}
+use Rattle.sheet.proofs.Counting.{counted_start}
 use Rattle.sheet.specs.Counting.{counted_size}
 use borrow.Author.Rules.{rules}
 use native.Mathlib.Omega.{arith}

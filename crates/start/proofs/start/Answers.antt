@@ -1,6 +1,7 @@
 -- `start::start` meets its contract. The question for its room, then row 30, then the image. Assumes nothing.
 use mathlib.Core.Path.{◌∙◌}
-use Rattle.start.specs.StartWrites.{start_kept, start_full, start_put, start_writable}
+use Rattle.start.specs.StartWrites.{start_writable}
+use Rattle.start.proofs.StartWrites.{start_kept, start_full, start_put}
 use Rattle.start.proofs.start.Goals as goal
 
 pub returns-then-buffer-end : goal.returns-then-buffer-end

@@ -5,7 +5,8 @@ use Prim.Native.Nat.{◌+◌, ◌≤◌}
 use lib.ListN.{length}
 use Rattle.seek.specs.Sought.{checked_refused, checked_has}
 use Rattle.trace.specs.Trace.{area_verdict}
-use Rattle.trace.specs.TraceLaws.{rows_bad, rows_shown, rows_size, rows_data, strings_bad, channel_in, strings_through}
+use Rattle.trace.specs.TraceLaws.{rows_bad, rows_shown, rows_size, rows_data, channel_in}
+use Rattle.trace.proofs.TraceLaws.{strings_bad, strings_through}
 use borrow.Author.Rules.{rules}
 use native.Mathlib.Omega.{arith}
 use Rattle.trace_check.proofs.check.Goals as goal

@@ -2,7 +2,8 @@
 use Rattle.word.specs.Bytes.{each_bytes}
 use Rattle.layout.specs.Layout.{patterns, patterns_trace, count}
 use Rattle.entry.specs.EntryLaws.{judged}
-use Rattle.writer.specs.Writes.{begins, kept_left, grown_left}
+use Rattle.writer.specs.Writes.{begins, kept_left}
+use Rattle.writer.proofs.Writes.{grown_left}
 use borrow.Author.Rules.{rules}
 use Rattle.writer.proofs.add_bits.Goals as goal
 

@@ -1,7 +1,7 @@
 -- `writer::answered` meets its contract. The rows before the samples, then the others. Assumes nothing.
 use mathlib.Core.Path.{sym, ◌∙◌}
 use Rattle.area.specs.Spelling.{measured_size}
-use Rattle.opening.specs.OpeningLaws.{opened}
+use Rattle.opening.proofs.OpeningLaws.{opened}
 use Rattle.writer.specs.Writes.{rows_shut, rows_ended}
 use Rattle.writer.proofs.answered.Goals as goal
 

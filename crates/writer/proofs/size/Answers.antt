@@ -1,6 +1,6 @@
 -- `writer::size` meets its contract. The rows of an addition into the largest room, with what row 28 says of the code
 -- alone. Assumes nothing.
-use Rattle.entry.specs.EntryLaws.{code_judged}
+use Rattle.entry.proofs.EntryLaws.{code_judged}
 use Rattle.writer.specs.Writes.{needs_told}
 use Rattle.writer.proofs.size.Goals as goal
 

@@ -1,0 +1,4 @@
+pub mod AllBytes
+pub mod ReadsLast
+pub mod StillKeeps
+pub mod StillRead

@@ -1,0 +1,303 @@
+-- Theorems on what specs/Same defines. They stand here, as a wrong definition there is to be refused and not to be unread.
+-- Assumes nothing.
+use Rattle.std.proofs.Math.Path.{◌≡◌, refl, sym, ap}
+use Rattle.std.proofs.Common.{◌∙◌, take-take}
+use Rattle.std.specs.Prelude.{ℤ, length, drop}
+use mathlib.Core.List.{List, []}
+use Prim.Native.Nat.{ℕ, ◌+◌, ◌-◌, ◌≤◌}
+use native.Mathlib.Omega.{arith}
+use Rattle.std.proofs.Math.ListN.{take}
+use Rattle.word.specs.Part.{part, part_part, length_part}
+use Rattle.refusal.specs.Verdicts.{asked}
+use Rattle.refusal.specs.FirstRow.{row, first_of}
+use Rattle.refusal.specs.declared.Part.TheVariants.{Trace}
+use Rattle.refusal.specs.declared.Refusal.{Refusal}
+use Rattle.refusal.specs.declared.Verdict.{Verdict}
+use Rattle.refusal.specs.declared.Verdict.TheVariants.{Accepted, Refused}
+use Rattle.strings.specs.declared.Place.{Place}
+use Rattle.head_words.specs.HeadWords.{high_first}
+use Rattle.terminators.specs.Terminators.{string_end, line_end}
+use Rattle.block.specs.declared.TraceBlock.{TraceBlock}
+use Rattle.block.specs.declared.TraceAnswer.TheVariants as trace
+use Rattle.block.specs.Block.{data_at, end_at, trace_block_of}
+use Rattle.block.specs.BlockLaws.{Blocked, blocked}
+use Rattle.image.specs.Keeps.{trace_at}
+use Rattle.ignored.specs.Images.{part_long}
+use Rattle.strings.specs.Strings.{value_in}
+use Rattle.until.specs.declared.Turn.{Turn}
+use Rattle.until.specs.declared.Walked.{Walked}
+use Rattle.until.specs.declared.Walked.TheVariants as walked
+use Rattle.until.specs.Until.{by_key, by_index, to_end}
+use Rattle.reader.specs.declared.CountAnswer.{CountAnswer}
+use Rattle.reader.specs.Questions.{trace_number, area_named, places_in, numbers_in, strings_verdict, value_there, kept}
+use Rattle.reader.specs.Questions.{block_at, integers_verdict, bits_verdict, data_in, samples_in, patterns_in, classes_in}
+use Rattle.places.specs.Numbers.{numbers_of}
+use Rattle.decimal.specs.Number.{number_in}
+use Rattle.decimal_parts.specs.declared.NumberAnswer.TheVariants as number
+use Rattle.double.specs.Double.{double_of}
+use Rattle.double.specs.declared.DoubleAnswer.TheVariants as double
+use Rattle.location.specs.Location.{location_of}
+use Rattle.location.specs.declared.LocationAnswer.TheVariants as location
+use Rattle.one_trace.specs.Alone.{alone_of, block_alone}
+use Rattle.quick.specs.Quick.{quickly, walk_in, told_by, counted_by, quick_walk, quick_find, quick_nth, quick_count, quick_strings, quick_strings_left}
+use Rattle.quick.specs.Quick.{quick_keyword, quick_value, quick_span, quick_read, quick_number, quick_double, quick_location}
+use Rattle.quick.specs.Quick.{quick_integers, quick_integers_left, quick_bits, quick_patterns_left, quick_classes_left}
+use Rattle.quick.specs.QuickLaws.{never_string}
+use Rattle.shortcut.specs.Read.{read_in, behind, block_read, strings_read, data_read, integers_read, bits_read, bytes_read, Agree}
+use Rattle.shortcut.proofs.Strings.{walk_alike, places_alike, read_within, read_ends}
+use Rattle.shortcut.specs.Same.{Alike, AllNamed, Named.file_block_lem, Named.pointer, Named.samples, Named.strings, Named.trace_block_lem, a, block_check, e, f, filled, first_row, g, k, numbers, pointer_check, quickly_same, size, top_rows, x}
+
+module _ (xs ys : List ℕ) (n : ℕ) (z : ℤ) (long : length xs ≡ length ys) where
+
+  pub block_same_answer : Agree (f xs ys n z long) (g xs ys n z long) (bytes_read block_read xs n z) → block_alone xs n z ≡ block_alone ys n z
+  unfolding block_alone
+  block_same_answer agree = (quickly_same xs ys n z long) trace.Refused (λ (f xs ys n z long) i. trace.Is (block_at (f xs ys n z long) i)) block_read agree (λ (a xs ys n z long) s. ap trace.Is (a xs ys n z long).block)
+
+  module _ (look : ℕ → List ℕ → Turn) (al : Alike f g k) (agree : Agree f g (strings_read look f k)) where
+
+    x_most : (x xs ys n z long look al agree) ≤ (e xs ys n z long look al agree) - (a xs ys n z long look al agree)
+    x_most =
+        let w = read_within (high_first (f xs ys n z long)) (string_end (f xs ys n z long)) (line_end (f xs ys n z long)) (Trace (k xs ys n z long)) look (part (a xs ys n z long look al agree) (e xs ys n z long look al agree) (f xs ys n z long)) (a xs ys n z long look al agree) in
+        omega (arith, length_part (a xs ys n z long look al agree) (e xs ys n z long look al agree) (f xs ys n z long) al.own.fits)
+
+    front_part : (l : List ℕ) → take (x xs ys n z long look al agree) (part (a xs ys n z long look al agree) (e xs ys n z long look al agree) l) ≡ part (a xs ys n z long look al agree) ((a xs ys n z long look al agree) + (x xs ys n z long look al agree)) l
+    front_part l =
+        let s : (a xs ys n z long look al agree) + (x xs ys n z long look al agree) - (a xs ys n z long look al agree) ≡ (x xs ys n z long look al agree) = omega arith in
+        take-take (x xs ys n z long look al agree) ((e xs ys n z long look al agree) - (a xs ys n z long look al agree)) (drop (a xs ys n z long look al agree) l) x_most ∙ ap (λ (j : ℕ). take j (drop (a xs ys n z long look al agree) l)) (sym s)
+
+    own_bytes : part (a xs ys n z long look al agree) ((a xs ys n z long look al agree) + (x xs ys n z long look al agree)) (f xs ys n z long) ≡ part (a xs ys n z long look al agree) ((a xs ys n z long look al agree) + (x xs ys n z long look al agree)) (g xs ys n z long)
+    unfolding read_in
+    own_bytes = agree.0
+
+    fronts : take (x xs ys n z long look al agree) (part (a xs ys n z long look al agree) (e xs ys n z long look al agree) (f xs ys n z long)) ≡ take (x xs ys n z long look al agree) (part (a xs ys n z long look al agree) (e xs ys n z long look al agree) (g xs ys n z long))
+    fronts = front_part (f xs ys n z long) ∙ own_bytes ∙ sym (front_part (g xs ys n z long))
+
+    end_same_place : data_at (high_first (g xs ys n z long)) (g xs ys n z long) (trace_at (g xs ys n z long) (k xs ys n z long)) ≡ (e xs ys n z long look al agree)
+    unfolding trace_block_of
+    end_same_place = sym (ap (λ (y : TraceBlock). y.p + y.b) al.block)
+
+    strings_same : walk_in look (f xs ys n z long) (k xs ys n z long) ≡ walk_in look (g xs ys n z long) (k xs ys n z long)
+    unfolding walk_in
+    strings_same =
+        walk_alike (high_first (f xs ys n z long)) (string_end (f xs ys n z long)) (line_end (f xs ys n z long)) (Trace (k xs ys n z long)) look (part (a xs ys n z long look al agree) (e xs ys n z long look al agree) (f xs ys n z long)) (part (a xs ys n z long look al agree) (e xs ys n z long look al agree) (g xs ys n z long)) (a xs ys n z long look al agree) (part_long (a xs ys n z long look al agree) (e xs ys n z long look al agree) (f xs ys n z long) (g xs ys n z long) al.(size xs ys n z long)) fronts
+        ∙ rw (end_same_place, ← al.start, ← al.order, ← al.strings, ← al.lines)
+
+    -- the value too: what is found ends among the bytes read
+    value_part : (s : Place) → walk_in look (f xs ys n z long) (k xs ys n z long) ≡ walked.At s → value_in (f xs ys n z long) s ≡ value_in (g xs ys n z long) s
+    unfolding walk_in
+    value_part s h =
+        let i = read_ends (high_first (f xs ys n z long)) (string_end (f xs ys n z long)) (line_end (f xs ys n z long)) (Trace (k xs ys n z long)) look s (part (a xs ys n z long look al agree) (e xs ys n z long look al agree) (f xs ys n z long)) (a xs ys n z long look al agree) h in
+        let u : (a xs ys n z long look al agree) + (s.value - (a xs ys n z long look al agree)) ≡ s.value = omega (arith, i.0) in
+        let v : (a xs ys n z long look al agree) + (s.end - (a xs ys n z long look al agree)) ≡ s.end = omega (arith, i.0, i.1) in
+        let cut : (l : List ℕ) → part (s.value - (a xs ys n z long look al agree)) (s.end - (a xs ys n z long look al agree)) (part (a xs ys n z long look al agree) ((a xs ys n z long look al agree) + (x xs ys n z long look al agree)) l) ≡ part s.value s.end l =
+        λ (l : List ℕ). rw (u, v) at (part_part (s.value - (a xs ys n z long look al agree)) (s.end - (a xs ys n z long look al agree)) (a xs ys n z long look al agree) ((a xs ys n z long look al agree) + (x xs ys n z long look al agree)) l (omega (arith, i.0, i.1, i.2))) in
+        sym (cut (f xs ys n z long)) ∙ ap (part (s.value - (a xs ys n z long look al agree)) (s.end - (a xs ys n z long look al agree))) own_bytes ∙ cut (g xs ys n z long)
+
+  pub walk_same : (look : ℕ → List ℕ → Turn) → Agree (f xs ys n z long) (g xs ys n z long) (bytes_read (strings_read look) xs n z) → quick_walk look xs n z ≡ quick_walk look ys n z
+  unfolding quick_walk
+  walk_same look agree = (quickly_same xs ys n z long) walked.Bad (walk_in look) (strings_read look) agree (λ al s. strings_same look al s)
+
+  pub nth_same : (i : ℕ) → Agree (f xs ys n z long) (g xs ys n z long) (bytes_read (strings_read (by_index i)) xs n z) → quick_nth xs n z i ≡ quick_nth ys n z i
+  unfolding quick_nth
+  nth_same i agree = ap told_by (walk_same (by_index i) agree)
+
+  pub count_same : Agree (f xs ys n z long) (g xs ys n z long) (bytes_read (strings_read to_end) xs n z) → quick_count xs n z ≡ quick_count ys n z
+  unfolding quick_count
+  count_same agree = ap counted_by (walk_same to_end agree)
+
+  module _ (row : List ℕ) (agree : Agree f g (bytes_read (strings_read to_end) xs n z)) where
+
+    pub strings_same_answer : quick_strings xs n z (length row) ≡ quick_strings ys n z (length row)
+    unfolding quick_strings
+    strings_same_answer = ap (λ (c : CountAnswer). strings_verdict c (length row)) (count_same agree)
+
+    numbers_same : (al : Alike (f xs ys n z long) (g xs ys n z long) (k xs ys n z long)) (s : Agree (f xs ys n z long) (g xs ys n z long) (strings_read to_end (f xs ys n z long) (k xs ys n z long))) (c : ℕ) → walk_in to_end (f xs ys n z long) (k xs ys n z long) ≡ walked.Over c → (numbers xs ys n z long row agree) (f xs ys n z long) (k xs ys n z long) ≡ (numbers xs ys n z long row agree) (g xs ys n z long) (k xs ys n z long)
+    unfolding numbers_in area_named places_in walk_in
+    numbers_same al s c w =
+        ap numbers_of
+        (places_alike (high_first (f xs ys n z long)) (string_end (f xs ys n z long)) (line_end (f xs ys n z long)) (Trace (k xs ys n z long)) (part ((a xs ys n z long) to_end al s) ((e xs ys n z long) to_end al s) (f xs ys n z long)) (part ((a xs ys n z long) to_end al s) ((e xs ys n z long) to_end al s) (g xs ys n z long))
+        ((a xs ys n z long) to_end al s) c
+        (part_long ((a xs ys n z long) to_end al s) ((e xs ys n z long) to_end al s) (f xs ys n z long) (g xs ys n z long) al.(size xs ys n z long)) (fronts to_end al s) w)
+        ∙ rw (end_same_place to_end al s, ← al.start, ← al.order, ← al.strings)
+
+    filled_same : Alike (f xs ys n z long) (g xs ys n z long) (k xs ys n z long) → Agree (f xs ys n z long) (g xs ys n z long) (strings_read to_end (f xs ys n z long) (k xs ys n z long)) → (filled xs ys n z long row agree) (f xs ys n z long) (k xs ys n z long) ≡ (filled xs ys n z long row agree) (g xs ys n z long) (k xs ys n z long)
+    filled_same al s = go (walk_in to_end (f xs ys n z long) (k xs ys n z long)) refl
+      where
+        go : (w : Walked) → walk_in to_end (f xs ys n z long) (k xs ys n z long) ≡ w → (filled xs ys n z long row agree) (f xs ys n z long) (k xs ys n z long) ≡ (filled xs ys n z long row agree) (g xs ys n z long) (k xs ys n z long)
+        go (walked.Over c) h = rw (← strings_same to_end al s, numbers_same al s c h)
+        go (walked.At p) h = absurd (never_string (f xs ys n z long) (k xs ys n z long) p h)
+        go (walked.Bad r) h = rw (← strings_same to_end al s, h)
+
+    pub strings_same_left : quick_strings_left xs n z row ≡ quick_strings_left ys n z row
+    unfolding quick_strings_left quick_strings quick_count quick_walk
+    strings_same_left =
+        outside (alone_of xs n z) (f xs ys n z long) ∙ (quickly_same xs ys n z long) (λ r. row) (filled xs ys n z long row agree) (strings_read to_end) agree filled_same ∙ sym (outside (alone_of ys n z) (g xs ys n z long))
+      where
+        outside : (v : Verdict) (l : List ℕ)
+            → kept (strings_verdict (counted_by (asked walked.Bad v (walk_in to_end l (k xs ys n z long)))) (length row)) ((numbers xs ys n z long row agree) l (k xs ys n z long)) row ≡ asked (λ r. row) v ((filled xs ys n z long row agree) l (k xs ys n z long))
+        outside Accepted l = refl
+        outside (Refused r) l = refl
+
+  module _ (key : List ℕ) (agree : Agree f g (bytes_read (strings_read (by_key key)) xs n z)) where
+
+    pub find_same : quick_find xs n z key ≡ quick_find ys n z key
+    unfolding quick_find
+    find_same = ap told_by (walk_same (by_key key) agree)
+
+    pub keyword_same : quick_keyword xs n z key ≡ quick_keyword ys n z key
+    unfolding quick_keyword
+    keyword_same = rw find_same
+
+    pub span_same : quick_span xs n z key ≡ quick_span ys n z key
+    unfolding quick_span
+    span_same = rw find_same
+
+    -- the bytes of the value, too
+    pub value_same : quick_value xs n z key ≡ quick_value ys n z key
+    unfolding quick_value quick_find quick_walk
+    value_same =
+        outside (f xs ys n z long) (alone_of xs n z) (walk_in (by_key key) (f xs ys n z long) (k xs ys n z long))
+        ∙ (quickly_same xs ys n z long) (λ r. []) (λ l i. value_there l (told_by (walk_in (by_key key) l i))) (strings_read (by_key key)) agree made
+        ∙ sym (outside (g xs ys n z long) (alone_of ys n z) (walk_in (by_key key) (g xs ys n z long) (k xs ys n z long)))
+      where
+        outside : (l : List ℕ) (v : Verdict) (w : Walked) → value_there l (told_by (asked walked.Bad v w)) ≡ asked (λ r. []) v (value_there l (told_by w))
+        outside l Accepted w = refl
+        outside l (Refused r) w = refl
+
+        made : Alike (f xs ys n z long) (g xs ys n z long) (k xs ys n z long) → Agree (f xs ys n z long) (g xs ys n z long) (strings_read (by_key key) (f xs ys n z long) (k xs ys n z long))
+            → value_there (f xs ys n z long) (told_by (walk_in (by_key key) (f xs ys n z long) (k xs ys n z long))) ≡ value_there (g xs ys n z long) (told_by (walk_in (by_key key) (g xs ys n z long) (k xs ys n z long)))
+        made al s = rw (← strings_same (by_key key) al s) (go (walk_in (by_key key) (f xs ys n z long) (k xs ys n z long)) refl)
+          where
+            go : (w : Walked) → walk_in (by_key key) (f xs ys n z long) (k xs ys n z long) ≡ w → value_there (f xs ys n z long) (told_by w) ≡ value_there (g xs ys n z long) (told_by w)
+            go (walked.At p) h = value_part (by_key key) al s p h
+            go (walked.Over j) h = refl
+            go (walked.Bad r) h = refl
+
+    -- and whatever is made of it
+    read_same : {A : Type 0} (bad : Refusal → A) (read : List ℕ → A) → quick_read bad read xs n z key ≡ quick_read bad read ys n z key
+    read_same bad read = rw (find_same, value_same)
+
+    pub number_same : quick_number xs n z key ≡ quick_number ys n z key
+    unfolding quick_number
+    number_same = read_same number.Refused number_in
+
+    pub double_same : quick_double xs n z key ≡ quick_double ys n z key
+    unfolding quick_double
+    double_same = read_same double.Refused double_of
+
+    pub location_same : quick_location xs n z key ≡ quick_location ys n z key
+    unfolding quick_location
+    location_same = read_same location.Refused location_of
+
+  -- ---- samples: those of one block, out of the same data
+  data_same : (v : Verdict) → Alike (f xs ys n z long) (g xs ys n z long) (k xs ys n z long) → Agree (f xs ys n z long) (g xs ys n z long) (data_read v (f xs ys n z long) (k xs ys n z long)) → v ≡ Accepted → data_in (f xs ys n z long) (block_at (f xs ys n z long) (k xs ys n z long)) ≡ data_in (g xs ys n z long) (block_at (f xs ys n z long) (k xs ys n z long))
+  unfolding trace_block_of end_at
+  data_same Accepted al s h = s.0
+  data_same (Refused r) al s h = let y : ◌≡◌ {A = ℕ} 0 1 = cc in absurd (omega arith)
+
+  -- what is made of the data and the block, where no row was met
+  rows_same : {A : Type 0} (mk : List ℕ → TraceBlock → A) (verdict : TraceBlock → Verdict) (old : A)
+      → (((x xs ys n z long) : TraceBlock) → data_in (f xs ys n z long) (x xs ys n z long) ≡ data_in (g xs ys n z long) (x xs ys n z long) → high_first (f xs ys n z long) ≡ high_first (g xs ys n z long) → mk (f xs ys n z long) (x xs ys n z long) ≡ mk (g xs ys n z long) (x xs ys n z long))
+      → Alike (f xs ys n z long) (g xs ys n z long) (k xs ys n z long) → Agree (f xs ys n z long) (g xs ys n z long) (data_read (verdict (block_at (f xs ys n z long) (k xs ys n z long))) (f xs ys n z long) (k xs ys n z long))
+      → kept (verdict (block_at (f xs ys n z long) (k xs ys n z long))) (mk (f xs ys n z long) (block_at (f xs ys n z long) (k xs ys n z long))) old ≡ kept (verdict (block_at (g xs ys n z long) (k xs ys n z long))) (mk (g xs ys n z long) (block_at (g xs ys n z long) (k xs ys n z long))) old
+  rows_same mk verdict old h al s = rw (← al.block) (go (verdict (block_at (f xs ys n z long) (k xs ys n z long))) refl)
+    where
+      go : (v : Verdict) → verdict (block_at (f xs ys n z long) (k xs ys n z long)) ≡ v → kept v (mk (f xs ys n z long) (block_at (f xs ys n z long) (k xs ys n z long))) old ≡ kept v (mk (g xs ys n z long) (block_at (f xs ys n z long) (k xs ys n z long))) old
+      go Accepted (e xs ys n z long) = h (block_at (f xs ys n z long) (k xs ys n z long)) (data_same (verdict (block_at (f xs ys n z long) (k xs ys n z long))) al s (e xs ys n z long)) al.order
+      go (Refused r) (e xs ys n z long) = refl
+
+  -- a lent row at the end, and the answer
+  left_same : {A : Type 0} (mk : List ℕ → TraceBlock → A) (verdict : TraceBlock → Verdict) (old : A)
+      → (((x xs ys n z long) : TraceBlock) → data_in (f xs ys n z long) (x xs ys n z long) ≡ data_in (g xs ys n z long) (x xs ys n z long) → high_first (f xs ys n z long) ≡ high_first (g xs ys n z long) → mk (f xs ys n z long) (x xs ys n z long) ≡ mk (g xs ys n z long) (x xs ys n z long))
+      → Agree (f xs ys n z long) (g xs ys n z long) (bytes_read (λ l i. data_read (verdict (block_at l i)) l i) xs n z)
+      → kept (quickly Refused (λ l i. verdict (block_at l i)) xs n z) (mk (f xs ys n z long) (block_at (f xs ys n z long) (k xs ys n z long))) old
+      ≡ kept (quickly Refused (λ l i. verdict (block_at l i)) ys n z) (mk (g xs ys n z long) (block_at (g xs ys n z long) (k xs ys n z long))) old
+  left_same {A} mk verdict old h agree =
+      outside (alone_of xs n z) (f xs ys n z long)
+      ∙ (quickly_same xs ys n z long) (λ r. old) (λ l i. kept (verdict (block_at l i)) (mk l (block_at l i)) old) (λ l i. data_read (verdict (block_at l i)) l i) agree
+      (rows_same mk verdict old h)
+      ∙ sym (outside (alone_of ys n z) (g xs ys n z long))
+    where
+      outside : (v : Verdict) (l : List ℕ)
+          → kept (asked Refused v (verdict (block_at l (k xs ys n z long)))) (mk l (block_at l (k xs ys n z long))) old ≡ asked (λ r. old) v (kept (verdict (block_at l (k xs ys n z long))) (mk l (block_at l (k xs ys n z long))) old)
+      outside Accepted l = refl
+      outside (Refused r) l = refl
+
+  verdict_same : (verdict : TraceBlock → Verdict) → Agree (f xs ys n z long) (g xs ys n z long) (bytes_read (λ l i. data_read (verdict (block_at l i)) l i) xs n z)
+      → quickly Refused (λ l i. verdict (block_at l i)) xs n z ≡ quickly Refused (λ l i. verdict (block_at l i)) ys n z
+  verdict_same verdict agree =
+      (quickly_same xs ys n z long) Refused (λ l i. verdict (block_at l i)) (λ l i. data_read (verdict (block_at l i)) l i) agree (λ al s. ap verdict al.block)
+
+  pub integers_same : (row : List ℤ) → Agree (f xs ys n z long) (g xs ys n z long) (bytes_read (integers_read (length row)) xs n z)
+      → (quick_integers xs n z (length row) ≡ quick_integers ys n z (length row)) × (quick_integers_left xs n z row ≡ quick_integers_left ys n z row)
+  unfolding quick_integers quick_integers_left samples_in
+  integers_same row agree =
+      (verdict_same (λ (x xs ys n z long). integers_verdict (x xs ys n z long) (length row)) agree, left_same samples_in (λ (x xs ys n z long). integers_verdict (x xs ys n z long) (length row)) row (λ (x xs ys n z long) d o. rw (d, o)) agree)
+
+  pub bits_same : (row classes : List ℕ) → Agree (f xs ys n z long) (g xs ys n z long) (bytes_read (bits_read (length row) (length classes)) xs n z)
+      → (quick_bits xs n z (length row) (length classes) ≡ quick_bits ys n z (length row) (length classes))
+      × (quick_patterns_left xs n z row classes ≡ quick_patterns_left ys n z row classes)
+      × (quick_classes_left xs n z row classes ≡ quick_classes_left ys n z row classes)
+  unfolding quick_bits quick_patterns_left quick_classes_left patterns_in classes_in
+  bits_same row classes agree =
+      let v : TraceBlock → Verdict = λ (x xs ys n z long). bits_verdict (x xs ys n z long) (length row) (length classes) in
+      (verdict_same v agree, left_same patterns_in v row (λ (x xs ys n z long) d o. rw (d, o)) agree, left_same classes_in v classes (λ (x xs ys n z long) d o. rw (d, o)) agree)
+
+behind_named : (f : List ℕ) (k : ℕ) (v : Verdict) (ss : List (ℕ × ℕ)) → (v ≡ Accepted → AllNamed f k ss) → AllNamed f k (behind v ss)
+behind_named f k Accepted ss h = h refl
+behind_named f k (Refused r) ss h = tt
+
+module _ (xs : List ℕ) (n : ℕ) (z : ℤ) where
+
+  read_named : (own : List ℕ → ℕ → List (ℕ × ℕ))
+      → (Blocked (high_first (take n xs)) (take n xs) (trace_at (take n xs) (trace_number z))
+      → AllNamed (take n xs) (trace_number z) (own (take n xs) (trace_number z)))
+      → AllNamed (take n xs) (trace_number z) (bytes_read own xs n z)
+  unfolding bytes_read
+  read_named own h =
+      let f : List ℕ = take n xs in
+      let k : ℕ = trace_number z in
+      behind_named f k (first_row xs n) _ (λ c1. (
+        file_block_lem,
+        behind_named f k (first_of (top_rows f z)) _
+            (λ c2. (
+              pointer,
+              behind_named f k (pointer_check f k) _
+                  (λ c3. (trace_block_lem, behind_named f k (block_check f k) _ (λ c4. h (blocked (high_first f) f k (trace_at f k) c4)))),
+            )),
+      ))
+
+  pub block_named : AllNamed (take n xs) (trace_number z) (bytes_read block_read xs n z)
+  block_named = read_named block_read (λ b. tt)
+
+  pub strings_named : (look : ℕ → List ℕ → Turn) → AllNamed (take n xs) (trace_number z) (bytes_read (strings_read look) xs n z)
+  unfolding read_in
+  strings_named look =
+      let f : List ℕ = take n xs in
+      let k : ℕ = trace_number z in
+      let p : ℕ = trace_at f k in
+      let e : ℕ = data_at (high_first f) f p in
+      read_named (strings_read look)
+      (λ b.
+      let w = read_within (high_first f) (string_end f) (line_end f) (Trace k) look (part (p + 32) e f) (p + 32) in
+      let l = length_part (p + 32) e f b.fits in
+      (strings (read_in look f k) (omega (arith, b.least, w, l)), tt))
+
+  data_named : (v : List ℕ → ℕ → Verdict) → AllNamed (take n xs) (trace_number z) (bytes_read (λ l i. data_read (v l i) l i) xs n z)
+  data_named v =
+      read_named (λ l i. data_read (v l i) l i)
+      (λ b. behind_named (take n xs) (trace_number z) (v (take n xs) (trace_number z)) _ (λ c. (samples, tt)))
+
+  pub integers_named : (s : ℕ) → AllNamed (take n xs) (trace_number z) (bytes_read (integers_read s) xs n z)
+  integers_named s = data_named (λ l i. integers_verdict (block_at l i) s)
+
+  pub bits_named : (s c : ℕ) → AllNamed (take n xs) (trace_number z) (bytes_read (bits_read s c) xs n z)
+  bits_named s c = data_named (λ l i. bits_verdict (block_at l i) s c)
+
+-- the string that is found is the last that is read
+pub found_is_last : (look : ℕ → List ℕ → Turn) (f : List ℕ) (k : ℕ) (s : Place) → walk_in look f k ≡ walked.At s
+    → s.end + length (string_end f) ≡ trace_at f k + 32 + read_in look f k
+unfolding walk_in read_in
+found_is_last look f k s h =
+    let p : ℕ = trace_at f k in
+    (read_ends (high_first f) (string_end f) (line_end f) (Trace k) look s (part (p + 32) (data_at (high_first f) f p) f) (p + 32) h).2

@@ -1,0 +1,2 @@
+pub mod StartShown
+pub mod StartWrites
