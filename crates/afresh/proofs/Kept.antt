@@ -161,7 +161,7 @@ module _ (high : Bool) (slots : ℕ) (sheet : List ℕ) (ts : List Trace) (few :
   file_keeps some measures purpose none =
       let low = size_low slots sheet ts in
       record {
-        (file high slots sheet ts few good slotted most) = record {
+        file = record {
           extent = (omega (arith, long), omega (arith, long));
           first = front.first;
           revision = front.revision;

@@ -46,7 +46,7 @@ use Rattle.growth.specs.Grows.{grown_grows}
 use Rattle.growth.specs.StillKeeps.{grown_numbered}
 use Rattle.growth.proofs.StillKeeps.{grown_accepted}
 use Rattle.afresh.specs.FileOf.{has_channel, EachHas}
-use Rattle.demands.specs.GoodLists.{GoodList, good_is_writable}
+use Rattle.demands.specs.GoodLists.{GoodList}
 
 -- ---- "a number by document 01, 1 to 32,767, without point or E": how the code finds it, and the words. Rules out 0,
 -- 32,768, -1, 1.0, 1E0 and a text that is no number.
@@ -162,15 +162,3 @@ added_alike xs n x end by left to k l =
 abbrev pub Among : Trace → List Trace → Type 0
 Among x [] = ⊥
 Among x (y ∷ ts) = (x ≡ y) ⊎ Among x ts
-
-as_all : (w : Bool) (ts : List Trace) (x : Trace) → EachHas w ts → Among x ts → has_channel x ≡ w
-as_all w [] x h a = absurd a
-as_all w (y ∷ ts) x h a = ⊎_elim (λ e. rw e h.0) (λ m. as_all w ts x h.1 m) a
-
--- one with a trace that has a channel number and another that has none cannot be written. Rules out a file
--- of which three traces of twelve have one.
-pub mixed_is_not_written : (xs : List ℕ) (order slots : ℕ) (sheet : List ℕ) (ts : List Trace) (x y : Trace) → Among x ts → Among y ts → has_channel x ≡ true
-    → has_channel y ≡ false
-    → GoodList xs order slots sheet ts → ⊥
-mixed_is_not_written xs order slots sheet ts x y p q a b g =
-    ⊎_elim (λ h. never (sym b ∙ as_all true ts y h q)) (λ h. never (sym (as_all false ts x h p) ∙ a)) (good_is_writable g).good.1

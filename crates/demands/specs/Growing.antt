@@ -37,7 +37,8 @@ use Rattle.growth.specs.Frame.{length_grown, grown_byte, grown_new, grown_count,
 use Rattle.growth.specs.Grows.{grown_grows}
 use Rattle.growth.specs.Kept.{count_grown}
 use Rattle.growth.proofs.StillKeeps.{grown_accepted}
-use Rattle.growth.proofs.StillRead as still
+use Rattle.growth.specs.StillRead as still
+use Rattle.growth.proofs.StillRead as stays
 use Rattle.growth.specs.AllBytes.{start_are_bytes}
 use Rattle.growth.proofs.AllBytes.{grown_are_bytes}
 use Rattle.afresh.specs.FileOf.{file_of, file_size, AllGood, Holds}
@@ -47,7 +48,7 @@ use Rattle.afresh.proofs.Calls.{after_accepted, start_grows}
 use Rattle.afresh.proofs.Calls.{calls_afresh}
 use Rattle.afresh.specs.Afresh.{lengths}
 use Rattle.afresh.proofs.Afresh.{none_refused, image_afresh, accepted_writable}
-use Rattle.demands.specs.GoodLists.{GoodList, writable_is_good, good_is_writable}
+use Rattle.demands.specs.GoodLists.{GoodList}
 
 -- ---- "after each accepted addition the file is, byte for byte, the one that the whole list of accepted traces defines
 -- when written afresh": `after` are the buffer and the length that the calls leave, `accepted_of` the traces whose call
@@ -76,11 +77,11 @@ pub data Made (order slots : ℕ) (sheet : List ℕ) : List Trace → List ℕ �
       → add_answer xs (length f) x ≡ To end → Made order slots sheet (ts ++ (x ∷ [])) (take end (add_left xs (length f) x))
 
 record ImageOf (order slots : ℕ) (sheet : List ℕ) (ts : List Trace) (f : List ℕ) : Type 0 where
-  image : f ≡ file_of (eqb order 1) slots sheet ts
-  size : length f ≡ file_size slots sheet ts
-  good : AllGood ts
-  slotted : length ts ≤ slots
-  few : slots ≤ slots_most
+  pub image : f ≡ file_of (eqb order 1) slots sheet ts
+  pub size : length f ≡ file_size slots sheet ts
+  pub good : AllGood ts
+  pub slotted : length ts ≤ slots
+  pub few : slots ≤ slots_most
 
 held_image : {order slots : ℕ} {sheet : List ℕ} {ts : List Trace} {xs : List ℕ} {n : ℕ} → Holds (eqb order 1) slots sheet ts xs n
     → ImageOf order slots sheet ts (take n xs)
@@ -99,26 +100,6 @@ made_image {order} {slots} {sheet} us g (an_addition {ts} {f} m xs fits same x e
 pub byte_for_byte_in_any_buffers : (order slots : ℕ) (sheet : List ℕ) (ts : List Trace) (f : List ℕ) → Made order slots sheet ts f
     → f ≡ file_of (eqb order 1) slots sheet ts
 byte_for_byte_in_any_buffers order slots sheet ts f m = (made_image ts f m).image
-
--- "when written afresh": the accepted traces, given alone to a start in any buffer that has room for them, are all
--- accepted and leave the same image
-pub written_afresh_alone : (xs : List ℕ) (order slots : ℕ) (sheet : List ℕ) (e : ℕ) → start_answer xs order slots sheet ≡ To e → (calls : List Trace)
-    → (ys : List ℕ) → GoodList ys order slots sheet (accepted_of (start_left xs order slots sheet) e calls)
-    → (answers_of (start_left ys order slots sheet) (start_size slots sheet) (accepted_of (start_left xs order slots sheet) e calls)
-    ≡ lengths (start_size slots sheet) (accepted_of (start_left xs order slots sheet) e calls))
-    × (take (after (start_left ys order slots sheet) (start_size slots sheet) (accepted_of (start_left xs order slots sheet) e calls)).1
-    (after (start_left ys order slots sheet) (start_size slots sheet) (accepted_of (start_left xs order slots sheet) e calls)).0
-    ≡ take (after (start_left xs order slots sheet) e calls).1 (after (start_left xs order slots sheet) e calls).0)
-written_afresh_alone xs order slots sheet e to calls ys g =
-    let w = good_is_writable g in
-    let ts : List Trace = accepted_of (start_left xs order slots sheet) e calls in
-    (none_refused ys order slots sheet ts w, (image_afresh ys order slots sheet ts w).0 ∙ sym (calls_afresh xs order slots sheet e to calls).0)
-
--- they are a good list (GoodLists: document 01's words, without the writers' verdicts), and the buffer of the calls
--- itself has room for them
-pub accepted_are_writable : (xs : List ℕ) (order slots : ℕ) (sheet : List ℕ) (e : ℕ) → start_answer xs order slots sheet ≡ To e → (calls : List Trace)
-    → GoodList xs order slots sheet (accepted_of (start_left xs order slots sheet) e calls)
-accepted_are_writable xs order slots sheet e to calls = writable_is_good (accepted_writable xs order slots sheet e to calls)
 
 -- a refused call is as if it had not been made
 pub refused_calls_leave_no_trace : (calls : List Trace) (xs : List ℕ) (n : ℕ) → after xs n (accepted_of xs n calls) ≡ after xs n calls
@@ -184,20 +165,20 @@ pub earlier_read_as_before : (xs : List ℕ) (n : ℕ) (x : Trace) (end : ℕ) �
 earlier_read_as_before xs n x end to by ok z old =
     let h = added xs n x end to in
     rw (add_left_lem xs n x end to) (record {
-      block = still.trace_answer_kept by h ok z old;
-      many = still.count_answer_kept by h ok z old;
-      nth = λ i. still.nth_answer_kept by h ok z i old;
-      found = λ key. still.find_answer_kept by h ok z key old;
-      keyword = λ key. still.keyword_answer_kept by h ok z key old;
-      value = λ key. still.value_answer_kept by h ok z key old;
-      number = λ key. still.number_answer_kept by h ok z key old;
-      double = λ key. still.double_answer_kept by h ok z key old;
-      location = λ key. still.location_answer_kept by h ok z key old;
-      integers = λ s. still.integers_answer_kept by h ok z s old;
-      integers_left_lem = λ row. still.integers_left_kept by h ok z row old;
-      bits = λ s c. still.bits_answer_kept by h ok z s c old;
-      patterns_left_lem = λ row classes. still.patterns_left_kept by h ok z row classes old;
-      classes_left_lem = λ row classes. still.classes_left_kept by h ok z row classes old;
+      block = stays.trace_answer_kept by h ok z old;
+      many = stays.count_answer_kept by h ok z old;
+      nth = λ i. stays.nth_answer_kept by h ok z i old;
+      found = λ key. stays.find_answer_kept by h ok z key old;
+      keyword = λ key. stays.keyword_answer_kept by h ok z key old;
+      value = λ key. stays.value_answer_kept by h ok z key old;
+      number = λ key. stays.number_answer_kept by h ok z key old;
+      double = λ key. stays.double_answer_kept by h ok z key old;
+      location = λ key. stays.location_answer_kept by h ok z key old;
+      integers = λ s. stays.integers_answer_kept by h ok z s old;
+      integers_left_lem = λ row. stays.integers_left_kept by h ok z row old;
+      bits = λ s c. stays.bits_answer_kept by h ok z s c old;
+      patterns_left_lem = λ row classes. stays.patterns_left_kept by h ok z row classes old;
+      classes_left_lem = λ row classes. stays.classes_left_kept by h ok z row classes old;
     })
 
 -- and any further calls, refused ones in between included, leave those answers too
@@ -270,7 +251,7 @@ pub file_strings_read_as_before : (xs : List ℕ) (n : ℕ) (x : Trace) (end : �
     → Spells Strict (high_first (take n xs)) (string_end (take n xs)) (line_end (take n xs)) ss
     (part (32 + room_of (take n xs)) (strings_end (take n xs)) (take n xs))
     → AnswersBy Strict (add_left xs n x) end (negsuc 0) ss
-file_strings_read_as_before xs n x end ss to by s = rw (add_left_lem xs n x end to) (still.strings_answers_kept by (added xs n x end to) s)
+file_strings_read_as_before xs n x end ss to by s = rw (add_left_lem xs n x end to) (stays.strings_answers_kept by (added xs n x end to) s)
 
 -- ---- "and the new one reads last": there is one trace more, and the last, trace N, reads as given (Reading
 -- `new_trace_reads_back`). Rules out an addition that puts it elsewhere in the order.
@@ -285,7 +266,7 @@ pub one_trace_more : (xs : List ℕ) (n : ℕ) (x : Trace) (end : ℕ) → add_a
       strings = get_or (take n xs) 8 0;
       lines = get_or (take n xs) 11 0;
     })
-one_trace_more xs n x end to by = rw (add_left_lem xs n x end to) (still.file_answer_grown by (added xs n x end to))
+one_trace_more xs n x end to by = rw (add_left_lem xs n x end to) (stays.file_answer_grown by (added xs n x end to))
 
 -- a started buffer is one of bytes too, so that all this holds from the start on
 pub started_buffer_is_of_bytes : (xs : List ℕ) (order slots : ℕ) (sheet : List ℕ) (e : ℕ) → start_answer xs order slots sheet ≡ To e → Bytes xs

@@ -67,16 +67,6 @@ start_size_answers_first order slots sheet =
     go false b (measured.Refused r) e = sym (needs_sheet order slots sheet b r e) ∙ rw (b, e)
     go false b (measured.Size k) e = to_size _ (sym (needs_sized order slots sheet b k e)) ∙ rw (b, e)
 
-pub start_size_refuses_by_the_first : (order slots : ℕ) (sheet : List ℕ) (r : Refusal)
-    → (start_needs order slots sheet ≡ Refused r) ↔ Met (start_size_rows order slots sheet) r
-start_size_refuses_by_the_first order slots sheet =
-    (writes (start_size_rows order slots sheet) (start_size slots sheet) (start_needs order slots sheet) (start_size_answers_first order slots sheet)).0
-
-pub start_size_answers_where_none : (order slots : ℕ) (sheet : List ℕ)
-    → (start_needs order slots sheet ≡ To (start_size slots sheet)) ↔ NoneMet (start_size_rows order slots sheet)
-start_size_answers_where_none order slots sheet =
-    (writes (start_size_rows order slots sheet) (start_size slots sheet) (start_needs order slots sheet) (start_size_answers_first order slots sheet)).1
-
 -- Rules out a length that is not the file's: it is that of the image that a start writes.
 pub start_size_is_the_images : (order slots : ℕ) (sheet : List ℕ) (end : ℕ) → start_needs order slots sheet ≡ To end → (high : Bool)
     → length (start_image high slots sheet) ≡ end
@@ -116,16 +106,6 @@ pub add_size_answers_first : (xs : List ℕ) (n : ℕ) (sheet : List ℕ) (code 
 unfolding add_needs code_verdict
 add_size_answers_first xs n sheet code s =
     into_answers_first maximum xs n sheet code s _ (code_rows code s) (first_one (row (not (integers_asked code s || bits_asked code)) EntryCode File 0))
-
-pub add_size_refuses_by_the_first : (xs : List ℕ) (n : ℕ) (sheet : List ℕ) (code s : ℕ) (r : Refusal)
-    → (add_needs xs n sheet code s ≡ Refused r) ↔ Met (add_size_rows xs n sheet code s) r
-add_size_refuses_by_the_first xs n sheet code s =
-    (writes (add_size_rows xs n sheet code s) (length_for (take n xs) n sheet code s) (add_needs xs n sheet code s) (add_size_answers_first xs n sheet code s)).0
-
-pub add_size_answers_where_none : (xs : List ℕ) (n : ℕ) (sheet : List ℕ) (code s : ℕ)
-    → (add_needs xs n sheet code s ≡ To (length_for (take n xs) n sheet code s)) ↔ NoneMet (add_size_rows xs n sheet code s)
-add_size_answers_where_none xs n sheet code s =
-    (writes (add_size_rows xs n sheet code s) (length_for (take n xs) n sheet code s) (add_needs xs n sheet code s) (add_size_answers_first xs n sheet code s)).1
 
 -- of a trace that is at hand
 abbrev pub needs_of : List ℕ → ℕ → Trace → Written

@@ -24,7 +24,7 @@ use Rattle.writer.specs.Shown.{add_refused}
 use Rattle.refusal.specs.FirstRow.{NoneMet, Met, first_of, refused_by_the_first, accepted_where_none_is_met}
 use Rattle.demands_rows.specs.FileRows.{check_rows, check_answers_first}
 use Rattle.demands_rows.specs.QuestionRows.{strings_asked_rows, strings_answer_first, integers_asked_rows, bits_asked_rows, integers_answer_first, bits_answer_first}
-use Rattle.demands_rows.specs.WriterRows.{start_rows, add_rows, start_answers_first, addition_answers_first}
+use Rattle.demands_rows.specs.WriterRows.{start_rows, add_rows, start_answers_first}
 
 -- ---- "input that meets rows of the refusal table gets the first of them in its order, with its place; no other input
 -- is refused"
@@ -69,13 +69,6 @@ pub start_accepts_where_none : (xs : List ℕ) (order slots : ℕ) (sheet : List
     → (start_answer xs order slots sheet ≡ written.To (start_size slots sheet)) ↔ NoneMet (start_rows xs order slots sheet)
 start_accepts_where_none xs order slots sheet =
     (writes (start_rows xs order slots sheet) (start_size slots sheet) (start_answer xs order slots sheet) (start_answers_first xs order slots sheet)).1
-
--- Rules out an addition that refuses every trace.
-pub addition_refuses_by_the_first : (xs : List ℕ) (n : ℕ) (x : Trace) (r : Refusal) → (add_answer xs n x ≡ written.Refused r) ↔ Met (add_rows xs n x) r
-addition_refuses_by_the_first xs n x = (writes (add_rows xs n x) (new_length (take n xs) n x) (add_answer xs n x) (addition_answers_first xs n x)).0
-
-pub addition_accepts_where_none : (xs : List ℕ) (n : ℕ) (x : Trace) → (add_answer xs n x ≡ written.To (new_length (take n xs) n x)) ↔ NoneMet (add_rows xs n x)
-addition_accepts_where_none xs n x = (writes (add_rows xs n x) (new_length (take n xs) n x) (add_answer xs n x) (addition_answers_first xs n x)).1
 
 -- Rules out a row of samples that is refused for another reason, or filled where it must not be.
 pub strings_refused_by_the_first : (xs : List ℕ) (n : ℕ) (z : ℤ) (s : ℕ) (r : Refusal)

@@ -113,12 +113,6 @@ writing_answers_first room n =
     (four_rows (n.minus && eqb n.coefficient 0) (ltb 18 (length (digits n.coefficient)) || ltb 17 n.decimals)
     (ltb 99 (nat_abs (n.power +ℤ pos n.decimals))) (ltb room (length (numeral_of n))) (written.To (length (numeral_of n))))
 
-pub writing_refuses_by_the_first : (room : ℕ) (n : Decimal) (r : Refusal) → (numeral_answer room n ≡ written.Refused r) ↔ Met (writing_rows room n) r
-writing_refuses_by_the_first room n = (writes (writing_rows room n) (length (numeral_of n)) (numeral_answer room n) (writing_answers_first room n)).0
-
-pub writing_accepts_where_none : (room : ℕ) (n : Decimal) → (numeral_answer room n ≡ written.To (length (numeral_of n))) ↔ NoneMet (writing_rows room n)
-writing_accepts_where_none room n = (writes (writing_rows room n) (length (numeral_of n)) (numeral_answer room n) (writing_answers_first room n)).1
-
 -- after a refusal nothing has changed, and after a text only its own bytes. Rules out a writer that clears the rest of
 -- the lent bytes, or ends the text with a 00h.
 pub refused_number_changes_nothing : (xs : List ℕ) (n : Decimal) (r : Refusal) → numeral_answer (length xs) n ≡ written.Refused r → numeral_left xs n ≡ xs

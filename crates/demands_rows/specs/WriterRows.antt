@@ -130,22 +130,6 @@ unfoldable pub unfit_rows : ℕ → Samples → List Verdict
 unfit_rows code (integers zs) = sample_rows (unfit_integer code) 0 zs
 unfit_rows code (patterns zs) = sample_rows (unfit_pattern code) 0 zs
 
-samples_first : {A : Type 0} (bad : A → Bool) (i : ℕ) (zs : List A) → on_fit (first_from bad i zs) ≡ first_of (sample_rows bad i zs)
-unfolding first_from sample_rows
-samples_first bad i [] = sym first_nothing
-samples_first bad i (z ∷ zs) = go (bad z) (samples_first bad (i + 1) zs)
-  where
-    go : (w : Bool) → on_fit (first_from bad (i + 1) zs) ≡ first_of (sample_rows bad (i + 1) zs)
-        → on_fit (cond w (Rattle.fit.specs.declared.Fit.TheVariants.At i) (first_from bad (i + 1) zs))
-        ≡ first_of (row w SampleRange File i ∷ sample_rows bad (i + 1) zs)
-    go true h = sym (first_row_lem true SampleRange File i (sample_rows bad (i + 1) zs))
-    go false h = h ∙ sym (first_row_lem false SampleRange File i (sample_rows bad (i + 1) zs))
-
-unfit_first : (code : ℕ) (s : Samples) → on_fit (unfit code s) ≡ first_of (unfit_rows code s)
-unfolding unfit unfit_rows unfit_integers unfit_patterns
-unfit_first code (integers zs) = samples_first (unfit_integer code) 0 zs
-unfit_first code (patterns zs) = samples_first (unfit_pattern code) 0 zs
-
 -- rows 1 to 17 and 34, 24, 25 to 27 and 35, those of the samples, and 30, into so many bytes of room
 abbrev pub into_rows : ℕ → List ℕ → ℕ → List ℕ → ℕ → List Verdict → List Verdict
 into_rows space xs n sheet end samples =
@@ -158,10 +142,6 @@ into_rows space xs n sheet end samples =
 -- 28, then 29
 abbrev pub given_rows : ℕ → Samples → List Verdict
 given_rows code s = row (not (fitting code s)) EntryCode File 0 ∷ unfit_rows code s
-
-given_first : (code : ℕ) (s : Samples) → samples_verdict code s ≡ first_of (given_rows code s)
-unfolding samples_verdict
-given_first code s = rw (unfit_first code s) (sym (first_row_lem (not (fitting code s)) EntryCode File 0 (unfit_rows code s)))
 
 abbrev pub add_rows : List ℕ → ℕ → Trace → List Verdict
 add_rows xs n x = into_rows (length xs) xs n x.sheet (new_length (take n xs) n x) (given_rows x.code x.samples)
@@ -213,12 +193,3 @@ into_answers_first space xs n sheet code s fit rows e =
     (asked_more written.Refused (check_rows Strict Grow xs n) (row slot NoSlot File 0 ∷ (ss ++ (row wrong SheetChannel File 0 ∷ (rows ++ last)))) new
     ∙ ap (asked written.Refused (first_of (check_rows Strict Grow xs n)))
     (asked_row written.Refused slot NoSlot File 0 (ss ++ (row wrong SheetChannel File 0 ∷ (rows ++ last))) new)))
-
--- Rules out an addition that skips a row, takes them in another order, refuses what no row refuses, or answers another
--- length.
-pub addition_answers_first : (xs : List ℕ) (n : ℕ) (x : Trace)
-    → add_answer xs n x ≡ asked written.Refused (first_of (add_rows xs n x)) (written.To (new_length (take n xs) n x))
-unfolding add_answer new_length
-addition_answers_first xs n x =
-    into_answers_first (length xs) xs n x.sheet x.code (count x.samples) (samples_verdict x.code x.samples) (given_rows x.code x.samples)
-    (given_first x.code x.samples)

@@ -59,7 +59,7 @@ module _ {f g : List ℕ} (a : Alike f g) where
       rw (same_block a t, same_data a t, same_count a t, same_code a t, same_pointer a k low, same_order a)
 
   at_same : (k : ℕ) → k < count_of f → trace_at f k ≡ trace_at g k
-  at_same k low = same_pointer a k low ∙ ap (λ (o : Bool). Rattle.(block a).specs.Block.pointer_of o g k) (same_order a)
+  at_same k low = same_pointer a k low ∙ ap (λ (o : Bool). Rattle.block.specs.Block.pointer_of o g k) (same_order a)
 
   code_same : (k : ℕ) → k < count_of f → code_at f k ≡ code_at g k
   code_same k low = same_code a (a.traces k low) ∙ ap (format_code_of g) (at_same k low)

@@ -1,6 +1,6 @@
 -- Theorems on what specs/Full defines. They stand here, as a wrong definition there is to be refused and not to be unread.
 -- Assumes nothing.
-use Rattle.std.specs.Prelude.{◌≡◌, Bool, pos, eqb}
+use Rattle.std.specs.Prelude.{◌≡◌, Bool, pos, take, eqb}
 use Rattle.std.proofs.Math.Path.{refl, ap}
 use Rattle.std.proofs.Common.{sym, ◌∙◌}
 use Rattle.std.proofs.Math.Bool.{true, false}
@@ -63,7 +63,7 @@ use Rattle.location.specs.declared.LocationAnswer.TheVariants as location
 use Rattle.one_trace.specs.Alone.{alone_of}
 use Rattle.quick.specs.Quick.{walk_in, told_by, counted_by, quick_walk, quick_find, quick_nth, quick_count, quick_strings, quick_strings_left}
 use Rattle.quick.specs.Quick.{quick_keyword, quick_value, quick_span, quick_read, quick_number, quick_double, quick_location}
-use Rattle.shortcut.specs.Full.{by_index_lem, g, image, quickly_full, walk_places}
+use Rattle.shortcut.specs.Full.{by_index_lem, image, quickly_full, walk_places}
 
 module _ (high : Bool) (t u : List ℕ) (p : Part) (f : List ℕ) (e : ℕ) (fits : e ≤ length f) where
   from_places : (look : ℕ → List ℕ → Turn) (m j at : ℕ) (prev : List ℕ) → strings_from Strict m high t u p prev (part at e f) at ≡ Accepted
@@ -169,6 +169,9 @@ module _ (high : Bool) (t u : List ℕ) (p : Part) (f : List ℕ) (a e : ℕ) (f
       go (suc m) h = from_key high t u p f e fits key (suc m) 0 a [] (rw (some m) at h)
 
 module _ (xs : List ℕ) (n : ℕ) (ok : check_of Strict Read xs n ≡ Accepted) where
+  abbrev g : List ℕ
+  g = take n xs
+
   module _ {A : Type 0} (bad : Refusal → A) (mk : Walked → A) (own : List Place → A) (look : ℕ → List ℕ → Turn)
       (refuses : (r : Refusal) → mk (walked.Bad r) ≡ bad r) where
     outside : (v : Verdict) (w : Walked) → mk (asked walked.Bad v w) ≡ asked bad v (mk w)
@@ -176,58 +179,58 @@ module _ (xs : List ℕ) (n : ℕ) (ok : check_of Strict Read xs n ≡ Accepted)
     outside (Refused r) w = refuses r
 
     on_area_lem : (k : ℕ) (w : Bool)
-        → on_trace (pick w (One k) Nobody) (bad no_trace) (λ i. own (places_in Strict (g xs n ok) (trace_at (g xs n ok) i + 32) (data_at (high_first (g xs n ok)) (g xs n ok) (trace_at (g xs n ok) i))))
-        ≡ on_area (area_named (g xs n ok) (pick w (One k) Nobody)) (bad no_trace) (λ a e. own (places_in Strict (g xs n ok) a e))
+        → on_trace (pick w (One k) Nobody) (bad no_trace) (λ i. own (places_in Strict g (trace_at g i + 32) (data_at (high_first g) g (trace_at g i))))
+        ≡ on_area (area_named g (pick w (One k) Nobody)) (bad no_trace) (λ a e. own (places_in Strict g a e))
     unfolding area_named
     on_area_lem k true = refl
     on_area_lem k false = refl
 
     strings_by : (k : ℕ)
-        → ((a e : ℕ) → e ≤ length (g xs n ok) → area_verdict Strict (high_first (g xs n ok)) (string_end (g xs n ok)) (line_end (g xs n ok)) (g xs n ok) (Trace k) a e ≡ Accepted
-        → mk (walk_places look (g xs n ok) 0 (places_in Strict (g xs n ok) a e)) ≡ own (places_in Strict (g xs n ok) a e))
+        → ((a e : ℕ) → e ≤ length g → area_verdict Strict (high_first g) (string_end g) (line_end g) g (Trace k) a e ≡ Accepted
+        → mk (walk_places look g 0 (places_in Strict g a e)) ≡ own (places_in Strict g a e))
         → mk (quick_walk look xs n (pos k))
-        ≡ asked bad (check_of Strict Read xs n) (on_area (area_named (g xs n ok) (whose_of (pos k) (count_of (g xs n ok)))) (bad no_trace) (λ a e. own (places_in Strict (g xs n ok) a e)))
+        ≡ asked bad (check_of Strict Read xs n) (on_area (area_named g (whose_of (pos k) (count_of g))) (bad no_trace) (λ a e. own (places_in Strict g a e)))
     unfolding quick_walk walk_in places_in area_verdict whose_of
     strings_by k h =
-        outside (alone_of xs n (pos k)) (walk_in look (g xs n ok) k)
+        outside (alone_of xs n (pos k)) (walk_in look g k)
         ∙ (quickly_full xs n ok) bad (λ f i. mk (walk_in look f i)) (λ f i. own (places_in Strict f (trace_at f i + 32) (data_at (high_first f) f (trace_at f i)))) k there_so
-        ∙ ap (asked bad (check_of Strict Read xs n)) (on_area_lem k (ltb k (count_of (g xs n ok))))
+        ∙ ap (asked bad (check_of Strict Read xs n)) (on_area_lem k (ltb k (count_of g)))
       where
-        there_so : k < count_of (g xs n ok) → mk (walk_in look (g xs n ok) k) ≡ own (places_in Strict (g xs n ok) (trace_at (g xs n ok) k + 32) (data_at (high_first (g xs n ok)) (g xs n ok) (trace_at (g xs n ok) k)))
+        there_so : k < count_of g → mk (walk_in look g k) ≡ own (places_in Strict g (trace_at g k + 32) (data_at (high_first g) g (trace_at g k)))
         there_so l =
-            let a : ℕ = trace_at (g xs n ok) k + 32 in
-            let e : ℕ = data_at (high_first (g xs n ok)) (g xs n ok) (trace_at (g xs n ok) k) in
-            let b = trace_blocked Strict (g xs n ok) (image xs n ok) k l in
-            let q = traced_strings Strict (g xs n ok) k (image_traced Strict Read (g xs n ok) (image xs n ok) k l) in
-            ap mk (area_walk (high_first (g xs n ok)) (string_end (g xs n ok)) (line_end (g xs n ok)) (Trace k) (g xs n ok) a e b.fits q look) ∙ h a e b.fits q
+            let a : ℕ = trace_at g k + 32 in
+            let e : ℕ = data_at (high_first g) g (trace_at g k) in
+            let b = trace_blocked Strict g (image xs n ok) k l in
+            let q = traced_strings Strict g k (image_traced Strict Read g (image xs n ok) k l) in
+            ap mk (area_walk (high_first g) (string_end g) (line_end g) (Trace k) g a e b.fits q look) ∙ h a e b.fits q
 
   pub find_full : (k : ℕ) (key : List ℕ) → quick_find xs n (pos k) key ≡ find_answer Strict xs n (pos k) key
   unfolding quick_find find_answer places_in area_verdict
   find_full k key =
-      strings_by string.Refused told_by (λ ss. there (find_of Strict (g xs n ok) ss key)) (by_key key) (λ r. refl) k
-      (λ a e fits q. area_key (high_first (g xs n ok)) (string_end (g xs n ok)) (line_end (g xs n ok)) (Trace k) (g xs n ok) a e fits q key)
+      strings_by string.Refused told_by (λ ss. there (find_of Strict g ss key)) (by_key key) (λ r. refl) k
+      (λ a e fits q. area_key (high_first g) (string_end g) (line_end g) (Trace k) g a e fits q key)
 
   pub nth_full : (k i : ℕ) → quick_nth xs n (pos k) i ≡ nth_answer Strict xs n (pos k) i
   unfolding quick_nth nth_answer
   nth_full k i = strings_by string.Refused told_by (λ ss. there (nth_of ss i)) (by_index i) (λ r. refl) k
-      (λ a e fits q. let z : i - 0 ≡ i = omega arith in rw z at (by_index_lem (g xs n ok) i 0 (places_in Strict (g xs n ok) a e) (omega arith)))
+      (λ a e fits q. let z : i - 0 ≡ i = omega arith in rw z at (by_index_lem g i 0 (places_in Strict g a e) (omega arith)))
 
   pub count_full : (k : ℕ) → quick_count xs n (pos k) ≡ count_answer Strict xs n (pos k)
   unfolding quick_count count_answer
   count_full k = strings_by count.Refused counted_by (λ ss. count.Is (length ss)) to_end (λ r. refl) k
       (λ a e fits q.
-      let z : 0 + length (places_in Strict (g xs n ok) a e) ≡ length (places_in Strict (g xs n ok) a e) = omega arith in
-      ap counted_by (to_end_lem (g xs n ok) 0 (places_in Strict (g xs n ok) a e)) ∙ ap count.Is z)
+      let z : 0 + length (places_in Strict g a e) ≡ length (places_in Strict g a e) = omega arith in
+      ap counted_by (to_end_lem g 0 (places_in Strict g a e)) ∙ ap count.Is z)
 
   pub strings_full : (k : ℕ) (row : List ℕ)
       → (quick_strings xs n (pos k) (length row) ≡ strings_answer Strict xs n (pos k) (length row))
       × (quick_strings_left xs n (pos k) row ≡ strings_left Strict xs n (pos k) row)
   unfolding quick_strings quick_strings_left strings_answer strings_left whose_of count_answer area_named
-  strings_full k row = rw (count_full k) (refl, go (ltb k (count_of (g xs n ok))) refl)
+  strings_full k row = rw (count_full k) (refl, go (ltb k (count_of g)) refl)
     where
-      go : (w : Bool) → ltb k (count_of (g xs n ok)) ≡ w
-          → kept (strings_verdict (count_answer Strict xs n (pos k)) (length row)) (numbers_in Strict (g xs n ok) (area_named (g xs n ok) (One k))) row
-          ≡ kept (strings_verdict (count_answer Strict xs n (pos k)) (length row)) (numbers_in Strict (g xs n ok) (area_named (g xs n ok) (pick w (One k) Nobody))) row
+      go : (w : Bool) → ltb k (count_of g) ≡ w
+          → kept (strings_verdict (count_answer Strict xs n (pos k)) (length row)) (numbers_in Strict g (area_named g (One k))) row
+          ≡ kept (strings_verdict (count_answer Strict xs n (pos k)) (length row)) (numbers_in Strict g (area_named g (pick w (One k) Nobody))) row
       go true w = refl
       go false w = rw (ok, w)
 

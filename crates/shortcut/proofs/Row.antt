@@ -24,18 +24,19 @@ use Rattle.strings.specs.Strings.{step_of, strings_from, strings_of, nth_of}
 use Rattle.places.specs.Numbers.{four_of, numbers_nth}
 use Rattle.head_words.specs.HeadWords.{high_first}
 use Rattle.terminators.specs.Terminators.{string_end, line_end}
+use Rattle.block.specs.Block.{data_at}
+use Rattle.image.specs.Keeps.{trace_at}
 use Rattle.until.specs.declared.Walked.{Walked}
 use Rattle.until.specs.declared.Walked.TheVariants as walked
 use Rattle.until.specs.Until.{by_index, to_end, on_step, walk_from, walk_of}
 use Rattle.reader.specs.declared.StringAnswer.TheVariants as string
-use Rattle.reader.specs.Questions.{area_named, there, places_in, numbers_in, strings_verdict}
+use Rattle.reader.specs.Questions.{trace_number, area_named, there, places_in, numbers_in, strings_verdict}
 use Rattle.one_trace.specs.Alone.{alone_of}
 use Rattle.one_trace.specs.AloneLaws.{alone_passed}
 use Rattle.quick.specs.Quick.{walk_in, told_by, counted_by, quick_walk, quick_nth, quick_count, quick_strings, quick_strings_left}
 use Rattle.quick.specs.QuickLaws.{never_string}
 use Rattle.shortcut.specs.Full.{by_index_lem}
 use Rattle.shortcut.proofs.Full.{area_walk}
-use Rattle.shortcut.specs.Row.{a, e, f, k}
 
 module _ (high : Bool) (t u : List ℕ) (p : Part) where
   from_over : (m j : ℕ) (prev l : List ℕ) (at c : ℕ) → walk_from to_end m high t u p j prev l at ≡ walked.Over c
@@ -64,30 +65,42 @@ module _ (high : Bool) (t u : List ℕ) (p : Part) where
       go false h = from_over (length l) 0 [] l at c h
 
 module _ (xs : List ℕ) (n : ℕ) (z : ℤ) where
+  abbrev f : List ℕ
+  f = take n xs
+
+  abbrev k : ℕ
+  k = trace_number z
+
+  abbrev a : ℕ
+  a = trace_at f k + 32
+
+  abbrev e : ℕ
+  e = data_at (high_first f) f (trace_at f k)
+
   -- the i-th string of a list that was counted is its i-th place
-  nth_of_all : (c i : ℕ) → alone_of xs n z ≡ Accepted → walk_in to_end (f xs n z) (k xs n z) ≡ walked.Over c
-      → told_by (walk_in (by_index i) (f xs n z) (k xs n z)) ≡ there (nth_of (places_in Strict (f xs n z) (a xs n z) (e xs n z)) i)
+  nth_of_all : (c i : ℕ) → alone_of xs n z ≡ Accepted → walk_in to_end f k ≡ walked.Over c
+      → told_by (walk_in (by_index i) f k) ≡ there (nth_of (places_in Strict f a e) i)
   unfolding walk_in places_in
   nth_of_all c i ok w =
       let fits = (alone_passed xs n z ok).blocked.fits in
-      let q = over_accepted (high_first (f xs n z)) (string_end (f xs n z)) (line_end (f xs n z)) (Trace (k xs n z)) (part (a xs n z) (e xs n z) (f xs n z)) (a xs n z) c w in
+      let q = over_accepted (high_first f) (string_end f) (line_end f) (Trace k) (part a e f) a c w in
       let y : i - 0 ≡ i = omega arith in
-      ap told_by (area_walk (high_first (f xs n z)) (string_end (f xs n z)) (line_end (f xs n z)) (Trace (k xs n z)) (f xs n z) (a xs n z) (e xs n z) fits q (by_index i))
-      ∙ (rw y at (by_index_lem (f xs n z) i 0 (places_in Strict (f xs n z) (a xs n z) (e xs n z)) (omega arith)))
+      ap told_by (area_walk (high_first f) (string_end f) (line_end f) (Trace k) f a e fits q (by_index i))
+      ∙ (rw y at (by_index_lem f i 0 (places_in Strict f a e) (omega arith)))
 
   pub row_holds : (row : List ℕ) (i : ℕ) (s : Place) → quick_strings xs n z (length row) ≡ Accepted → quick_nth xs n z i ≡ string.There s
       → part (4 * i) (4 * i + 4) (quick_strings_left xs n z row) ≡ four_of s
   unfolding quick_strings quick_count quick_nth quick_walk quick_strings_left numbers_in area_named
-  row_holds row i s v h = rw v (numbers_nth (places_in Strict (f xs n z) (a xs n z) (e xs n z)) i s (go (alone_of xs n z) refl (walk_in to_end (f xs n z) (k xs n z)) refl v h))
+  row_holds row i s v h = rw v (numbers_nth (places_in Strict f a e) i s (go (alone_of xs n z) refl (walk_in to_end f k) refl v h))
     where
       found : (y : Found) → there y ≡ string.There s → y ≡ Is s
       found Nothing q = let z : ◌≡◌ {A = ℕ} 0 1 = cc in absurd (omega arith)
       found (Is p) q = let y : p ≡ s = cc in ap Is y
 
-      go : (b : Verdict) → alone_of xs n z ≡ b → (w : Walked) → walk_in to_end (f xs n z) (k xs n z) ≡ w
+      go : (b : Verdict) → alone_of xs n z ≡ b → (w : Walked) → walk_in to_end f k ≡ w
           → strings_verdict (counted_by (asked walked.Bad b w)) (length row) ≡ Accepted
-          → told_by (asked walked.Bad b (walk_in (by_index i) (f xs n z) (k xs n z))) ≡ string.There s → nth_of (places_in Strict (f xs n z) (a xs n z) (e xs n z)) i ≡ Is s
+          → told_by (asked walked.Bad b (walk_in (by_index i) f k)) ≡ string.There s → nth_of (places_in Strict f a e) i ≡ Is s
       go (Refused r) o w d q x = absurd (refused_not r q)
       go Accepted o (walked.Bad r) d q x = absurd (refused_not r q)
-      go Accepted o (walked.At p) d q x = absurd (never_string (f xs n z) (k xs n z) p d)
-      go Accepted o (walked.Over c) d q x = found (nth_of (places_in Strict (f xs n z) (a xs n z) (e xs n z)) i) (sym (nth_of_all c i o d) ∙ x)
+      go Accepted o (walked.At p) d q x = absurd (never_string f k p d)
+      go Accepted o (walked.Over c) d q x = found (nth_of (places_in Strict f a e) i) (sym (nth_of_all c i o d) ∙ x)

@@ -23,12 +23,14 @@ use Rattle.block.specs.Block.{data_at, end_at, trace_block_of}
 use Rattle.block.specs.BlockLaws.{Blocked, blocked}
 use Rattle.image.specs.Keeps.{trace_at}
 use Rattle.ignored.specs.Images.{part_long}
+use Rattle.text.specs.declared.Manner.TheVariants.{Strict}
 use Rattle.strings.specs.Strings.{value_in}
 use Rattle.until.specs.declared.Turn.{Turn}
 use Rattle.until.specs.declared.Walked.{Walked}
 use Rattle.until.specs.declared.Walked.TheVariants as walked
 use Rattle.until.specs.Until.{by_key, by_index, to_end}
 use Rattle.reader.specs.declared.CountAnswer.{CountAnswer}
+use Rattle.part_number.specs.declared.Whose.TheVariants.{One}
 use Rattle.reader.specs.Questions.{trace_number, area_named, places_in, numbers_in, strings_verdict, value_there, kept}
 use Rattle.reader.specs.Questions.{block_at, integers_verdict, bits_verdict, data_in, samples_in, patterns_in, classes_in}
 use Rattle.places.specs.Numbers.{numbers_of}
@@ -43,103 +45,123 @@ use Rattle.quick.specs.Quick.{quickly, walk_in, told_by, counted_by, quick_walk,
 use Rattle.quick.specs.Quick.{quick_keyword, quick_value, quick_span, quick_read, quick_number, quick_double, quick_location}
 use Rattle.quick.specs.Quick.{quick_integers, quick_integers_left, quick_bits, quick_patterns_left, quick_classes_left}
 use Rattle.quick.specs.QuickLaws.{never_string}
-use Rattle.shortcut.specs.Read.{read_in, behind, block_read, strings_read, data_read, integers_read, bits_read, bytes_read, Agree}
+use Rattle.shortcut.specs.Read.{read_of, read_in, behind, block_read, strings_read, data_read, integers_read, bits_read, bytes_read, Agree}
 use Rattle.shortcut.proofs.Strings.{walk_alike, places_alike, read_within, read_ends}
-use Rattle.shortcut.specs.Same.{Alike, AllNamed, Named.file_block_lem, Named.pointer, Named.samples, Named.strings, Named.trace_block_lem, a, block_check, e, f, filled, first_row, g, k, numbers, pointer_check, quickly_same, size, top_rows, x}
+use Rattle.shortcut.specs.Same.{Alike, AllNamed, Named.file_block_lem, Named.pointer, Named.samples, Named.strings, Named.trace_block_lem, block_check, first_row, pointer_check, quickly_same, top_rows}
 
 module _ (xs ys : List ℕ) (n : ℕ) (z : ℤ) (long : length xs ≡ length ys) where
+  abbrev f : List ℕ
+  f = take n xs
 
-  pub block_same_answer : Agree (f xs ys n z long) (g xs ys n z long) (bytes_read block_read xs n z) → block_alone xs n z ≡ block_alone ys n z
+  abbrev g : List ℕ
+  g = take n ys
+
+  abbrev k : ℕ
+  k = trace_number z
+
+  pub block_same_answer : Agree f g (bytes_read block_read xs n z) → block_alone xs n z ≡ block_alone ys n z
   unfolding block_alone
-  block_same_answer agree = (quickly_same xs ys n z long) trace.Refused (λ (f xs ys n z long) i. trace.Is (block_at (f xs ys n z long) i)) block_read agree (λ (a xs ys n z long) s. ap trace.Is (a xs ys n z long).block)
+  block_same_answer agree = (quickly_same xs ys n z long) trace.Refused (λ f i. trace.Is (block_at f i)) block_read agree (λ a s. ap trace.Is a.block)
 
   module _ (look : ℕ → List ℕ → Turn) (al : Alike f g k) (agree : Agree f g (strings_read look f k)) where
+    abbrev a : ℕ
+    a = trace_at f k + 32
 
-    x_most : (x xs ys n z long look al agree) ≤ (e xs ys n z long look al agree) - (a xs ys n z long look al agree)
+    abbrev e : ℕ
+    e = data_at (high_first f) f (trace_at f k)
+
+    abbrev x : ℕ
+    x = read_of look (high_first f) (string_end f) (line_end f) (Trace k) (part a e f) a
+
+    x_most : x ≤ e - a
     x_most =
-        let w = read_within (high_first (f xs ys n z long)) (string_end (f xs ys n z long)) (line_end (f xs ys n z long)) (Trace (k xs ys n z long)) look (part (a xs ys n z long look al agree) (e xs ys n z long look al agree) (f xs ys n z long)) (a xs ys n z long look al agree) in
-        omega (arith, length_part (a xs ys n z long look al agree) (e xs ys n z long look al agree) (f xs ys n z long) al.own.fits)
+        let w = read_within (high_first f) (string_end f) (line_end f) (Trace k) look (part a e f) a in
+        omega (arith, length_part a e f al.own.fits)
 
-    front_part : (l : List ℕ) → take (x xs ys n z long look al agree) (part (a xs ys n z long look al agree) (e xs ys n z long look al agree) l) ≡ part (a xs ys n z long look al agree) ((a xs ys n z long look al agree) + (x xs ys n z long look al agree)) l
+    front_part : (l : List ℕ) → take x (part a e l) ≡ part a (a + x) l
     front_part l =
-        let s : (a xs ys n z long look al agree) + (x xs ys n z long look al agree) - (a xs ys n z long look al agree) ≡ (x xs ys n z long look al agree) = omega arith in
-        take-take (x xs ys n z long look al agree) ((e xs ys n z long look al agree) - (a xs ys n z long look al agree)) (drop (a xs ys n z long look al agree) l) x_most ∙ ap (λ (j : ℕ). take j (drop (a xs ys n z long look al agree) l)) (sym s)
+        let s : a + x - a ≡ x = omega arith in
+        take-take x (e - a) (drop a l) x_most ∙ ap (λ (j : ℕ). take j (drop a l)) (sym s)
 
-    own_bytes : part (a xs ys n z long look al agree) ((a xs ys n z long look al agree) + (x xs ys n z long look al agree)) (f xs ys n z long) ≡ part (a xs ys n z long look al agree) ((a xs ys n z long look al agree) + (x xs ys n z long look al agree)) (g xs ys n z long)
+    own_bytes : part a (a + x) f ≡ part a (a + x) g
     unfolding read_in
     own_bytes = agree.0
 
-    fronts : take (x xs ys n z long look al agree) (part (a xs ys n z long look al agree) (e xs ys n z long look al agree) (f xs ys n z long)) ≡ take (x xs ys n z long look al agree) (part (a xs ys n z long look al agree) (e xs ys n z long look al agree) (g xs ys n z long))
-    fronts = front_part (f xs ys n z long) ∙ own_bytes ∙ sym (front_part (g xs ys n z long))
+    fronts : take x (part a e f) ≡ take x (part a e g)
+    fronts = front_part f ∙ own_bytes ∙ sym (front_part g)
 
-    end_same_place : data_at (high_first (g xs ys n z long)) (g xs ys n z long) (trace_at (g xs ys n z long) (k xs ys n z long)) ≡ (e xs ys n z long look al agree)
+    end_same_place : data_at (high_first g) g (trace_at g k) ≡ e
     unfolding trace_block_of
     end_same_place = sym (ap (λ (y : TraceBlock). y.p + y.b) al.block)
 
-    strings_same : walk_in look (f xs ys n z long) (k xs ys n z long) ≡ walk_in look (g xs ys n z long) (k xs ys n z long)
+    strings_same : walk_in look f k ≡ walk_in look g k
     unfolding walk_in
     strings_same =
-        walk_alike (high_first (f xs ys n z long)) (string_end (f xs ys n z long)) (line_end (f xs ys n z long)) (Trace (k xs ys n z long)) look (part (a xs ys n z long look al agree) (e xs ys n z long look al agree) (f xs ys n z long)) (part (a xs ys n z long look al agree) (e xs ys n z long look al agree) (g xs ys n z long)) (a xs ys n z long look al agree) (part_long (a xs ys n z long look al agree) (e xs ys n z long look al agree) (f xs ys n z long) (g xs ys n z long) al.(size xs ys n z long)) fronts
+        walk_alike (high_first f) (string_end f) (line_end f) (Trace k) look (part a e f) (part a e g) a (part_long a e f g al.size) fronts
         ∙ rw (end_same_place, ← al.start, ← al.order, ← al.strings, ← al.lines)
 
     -- the value too: what is found ends among the bytes read
-    value_part : (s : Place) → walk_in look (f xs ys n z long) (k xs ys n z long) ≡ walked.At s → value_in (f xs ys n z long) s ≡ value_in (g xs ys n z long) s
+    value_part : (s : Place) → walk_in look f k ≡ walked.At s → value_in f s ≡ value_in g s
     unfolding walk_in
     value_part s h =
-        let i = read_ends (high_first (f xs ys n z long)) (string_end (f xs ys n z long)) (line_end (f xs ys n z long)) (Trace (k xs ys n z long)) look s (part (a xs ys n z long look al agree) (e xs ys n z long look al agree) (f xs ys n z long)) (a xs ys n z long look al agree) h in
-        let u : (a xs ys n z long look al agree) + (s.value - (a xs ys n z long look al agree)) ≡ s.value = omega (arith, i.0) in
-        let v : (a xs ys n z long look al agree) + (s.end - (a xs ys n z long look al agree)) ≡ s.end = omega (arith, i.0, i.1) in
-        let cut : (l : List ℕ) → part (s.value - (a xs ys n z long look al agree)) (s.end - (a xs ys n z long look al agree)) (part (a xs ys n z long look al agree) ((a xs ys n z long look al agree) + (x xs ys n z long look al agree)) l) ≡ part s.value s.end l =
-        λ (l : List ℕ). rw (u, v) at (part_part (s.value - (a xs ys n z long look al agree)) (s.end - (a xs ys n z long look al agree)) (a xs ys n z long look al agree) ((a xs ys n z long look al agree) + (x xs ys n z long look al agree)) l (omega (arith, i.0, i.1, i.2))) in
-        sym (cut (f xs ys n z long)) ∙ ap (part (s.value - (a xs ys n z long look al agree)) (s.end - (a xs ys n z long look al agree))) own_bytes ∙ cut (g xs ys n z long)
+        let i = read_ends (high_first f) (string_end f) (line_end f) (Trace k) look s (part a e f) a h in
+        let u : a + (s.value - a) ≡ s.value = omega (arith, i.0) in
+        let v : a + (s.end - a) ≡ s.end = omega (arith, i.0, i.1) in
+        let cut : (l : List ℕ) → part (s.value - a) (s.end - a) (part a (a + x) l) ≡ part s.value s.end l =
+        λ (l : List ℕ). rw (u, v) at (part_part (s.value - a) (s.end - a) a (a + x) l (omega (arith, i.0, i.1, i.2))) in
+        sym (cut f) ∙ ap (part (s.value - a) (s.end - a)) own_bytes ∙ cut g
 
-  pub walk_same : (look : ℕ → List ℕ → Turn) → Agree (f xs ys n z long) (g xs ys n z long) (bytes_read (strings_read look) xs n z) → quick_walk look xs n z ≡ quick_walk look ys n z
+  pub walk_same : (look : ℕ → List ℕ → Turn) → Agree f g (bytes_read (strings_read look) xs n z) → quick_walk look xs n z ≡ quick_walk look ys n z
   unfolding quick_walk
   walk_same look agree = (quickly_same xs ys n z long) walked.Bad (walk_in look) (strings_read look) agree (λ al s. strings_same look al s)
 
-  pub nth_same : (i : ℕ) → Agree (f xs ys n z long) (g xs ys n z long) (bytes_read (strings_read (by_index i)) xs n z) → quick_nth xs n z i ≡ quick_nth ys n z i
+  pub nth_same : (i : ℕ) → Agree f g (bytes_read (strings_read (by_index i)) xs n z) → quick_nth xs n z i ≡ quick_nth ys n z i
   unfolding quick_nth
   nth_same i agree = ap told_by (walk_same (by_index i) agree)
 
-  pub count_same : Agree (f xs ys n z long) (g xs ys n z long) (bytes_read (strings_read to_end) xs n z) → quick_count xs n z ≡ quick_count ys n z
+  pub count_same : Agree f g (bytes_read (strings_read to_end) xs n z) → quick_count xs n z ≡ quick_count ys n z
   unfolding quick_count
   count_same agree = ap counted_by (walk_same to_end agree)
 
   module _ (row : List ℕ) (agree : Agree f g (bytes_read (strings_read to_end) xs n z)) where
+    abbrev numbers : List ℕ → ℕ → List ℕ
+    numbers f i = numbers_in Strict f (area_named f (One i))
+
+    abbrev filled : List ℕ → ℕ → List ℕ
+    filled f i = kept (strings_verdict (counted_by (walk_in to_end f i)) (length row)) (numbers f i) row
 
     pub strings_same_answer : quick_strings xs n z (length row) ≡ quick_strings ys n z (length row)
     unfolding quick_strings
     strings_same_answer = ap (λ (c : CountAnswer). strings_verdict c (length row)) (count_same agree)
 
-    numbers_same : (al : Alike (f xs ys n z long) (g xs ys n z long) (k xs ys n z long)) (s : Agree (f xs ys n z long) (g xs ys n z long) (strings_read to_end (f xs ys n z long) (k xs ys n z long))) (c : ℕ) → walk_in to_end (f xs ys n z long) (k xs ys n z long) ≡ walked.Over c → (numbers xs ys n z long row agree) (f xs ys n z long) (k xs ys n z long) ≡ (numbers xs ys n z long row agree) (g xs ys n z long) (k xs ys n z long)
+    numbers_same : (al : Alike f g k) (s : Agree f g (strings_read to_end f k)) (c : ℕ) → walk_in to_end f k ≡ walked.Over c → numbers f k ≡ numbers g k
     unfolding numbers_in area_named places_in walk_in
     numbers_same al s c w =
         ap numbers_of
-        (places_alike (high_first (f xs ys n z long)) (string_end (f xs ys n z long)) (line_end (f xs ys n z long)) (Trace (k xs ys n z long)) (part ((a xs ys n z long) to_end al s) ((e xs ys n z long) to_end al s) (f xs ys n z long)) (part ((a xs ys n z long) to_end al s) ((e xs ys n z long) to_end al s) (g xs ys n z long))
-        ((a xs ys n z long) to_end al s) c
-        (part_long ((a xs ys n z long) to_end al s) ((e xs ys n z long) to_end al s) (f xs ys n z long) (g xs ys n z long) al.(size xs ys n z long)) (fronts to_end al s) w)
+        (places_alike (high_first f) (string_end f) (line_end f) (Trace k) (part (a to_end al s) (e to_end al s) f) (part (a to_end al s) (e to_end al s) g)
+        (a to_end al s) c
+        (part_long (a to_end al s) (e to_end al s) f g al.size) (fronts to_end al s) w)
         ∙ rw (end_same_place to_end al s, ← al.start, ← al.order, ← al.strings)
 
-    filled_same : Alike (f xs ys n z long) (g xs ys n z long) (k xs ys n z long) → Agree (f xs ys n z long) (g xs ys n z long) (strings_read to_end (f xs ys n z long) (k xs ys n z long)) → (filled xs ys n z long row agree) (f xs ys n z long) (k xs ys n z long) ≡ (filled xs ys n z long row agree) (g xs ys n z long) (k xs ys n z long)
-    filled_same al s = go (walk_in to_end (f xs ys n z long) (k xs ys n z long)) refl
+    filled_same : Alike f g k → Agree f g (strings_read to_end f k) → filled f k ≡ filled g k
+    filled_same al s = go (walk_in to_end f k) refl
       where
-        go : (w : Walked) → walk_in to_end (f xs ys n z long) (k xs ys n z long) ≡ w → (filled xs ys n z long row agree) (f xs ys n z long) (k xs ys n z long) ≡ (filled xs ys n z long row agree) (g xs ys n z long) (k xs ys n z long)
+        go : (w : Walked) → walk_in to_end f k ≡ w → filled f k ≡ filled g k
         go (walked.Over c) h = rw (← strings_same to_end al s, numbers_same al s c h)
-        go (walked.At p) h = absurd (never_string (f xs ys n z long) (k xs ys n z long) p h)
+        go (walked.At p) h = absurd (never_string f k p h)
         go (walked.Bad r) h = rw (← strings_same to_end al s, h)
 
     pub strings_same_left : quick_strings_left xs n z row ≡ quick_strings_left ys n z row
     unfolding quick_strings_left quick_strings quick_count quick_walk
     strings_same_left =
-        outside (alone_of xs n z) (f xs ys n z long) ∙ (quickly_same xs ys n z long) (λ r. row) (filled xs ys n z long row agree) (strings_read to_end) agree filled_same ∙ sym (outside (alone_of ys n z) (g xs ys n z long))
+        outside (alone_of xs n z) f ∙ (quickly_same xs ys n z long) (λ r. row) filled (strings_read to_end) agree filled_same ∙ sym (outside (alone_of ys n z) g)
       where
         outside : (v : Verdict) (l : List ℕ)
-            → kept (strings_verdict (counted_by (asked walked.Bad v (walk_in to_end l (k xs ys n z long)))) (length row)) ((numbers xs ys n z long row agree) l (k xs ys n z long)) row ≡ asked (λ r. row) v ((filled xs ys n z long row agree) l (k xs ys n z long))
+            → kept (strings_verdict (counted_by (asked walked.Bad v (walk_in to_end l k))) (length row)) (numbers l k) row ≡ asked (λ r. row) v (filled l k)
         outside Accepted l = refl
         outside (Refused r) l = refl
 
   module _ (key : List ℕ) (agree : Agree f g (bytes_read (strings_read (by_key key)) xs n z)) where
-
     pub find_same : quick_find xs n z key ≡ quick_find ys n z key
     unfolding quick_find
     find_same = ap told_by (walk_same (by_key key) agree)
@@ -156,19 +178,19 @@ module _ (xs ys : List ℕ) (n : ℕ) (z : ℤ) (long : length xs ≡ length ys)
     pub value_same : quick_value xs n z key ≡ quick_value ys n z key
     unfolding quick_value quick_find quick_walk
     value_same =
-        outside (f xs ys n z long) (alone_of xs n z) (walk_in (by_key key) (f xs ys n z long) (k xs ys n z long))
+        outside f (alone_of xs n z) (walk_in (by_key key) f k)
         ∙ (quickly_same xs ys n z long) (λ r. []) (λ l i. value_there l (told_by (walk_in (by_key key) l i))) (strings_read (by_key key)) agree made
-        ∙ sym (outside (g xs ys n z long) (alone_of ys n z) (walk_in (by_key key) (g xs ys n z long) (k xs ys n z long)))
+        ∙ sym (outside g (alone_of ys n z) (walk_in (by_key key) g k))
       where
         outside : (l : List ℕ) (v : Verdict) (w : Walked) → value_there l (told_by (asked walked.Bad v w)) ≡ asked (λ r. []) v (value_there l (told_by w))
         outside l Accepted w = refl
         outside l (Refused r) w = refl
 
-        made : Alike (f xs ys n z long) (g xs ys n z long) (k xs ys n z long) → Agree (f xs ys n z long) (g xs ys n z long) (strings_read (by_key key) (f xs ys n z long) (k xs ys n z long))
-            → value_there (f xs ys n z long) (told_by (walk_in (by_key key) (f xs ys n z long) (k xs ys n z long))) ≡ value_there (g xs ys n z long) (told_by (walk_in (by_key key) (g xs ys n z long) (k xs ys n z long)))
-        made al s = rw (← strings_same (by_key key) al s) (go (walk_in (by_key key) (f xs ys n z long) (k xs ys n z long)) refl)
+        made : Alike f g k → Agree f g (strings_read (by_key key) f k)
+            → value_there f (told_by (walk_in (by_key key) f k)) ≡ value_there g (told_by (walk_in (by_key key) g k))
+        made al s = rw (← strings_same (by_key key) al s) (go (walk_in (by_key key) f k) refl)
           where
-            go : (w : Walked) → walk_in (by_key key) (f xs ys n z long) (k xs ys n z long) ≡ w → value_there (f xs ys n z long) (told_by w) ≡ value_there (g xs ys n z long) (told_by w)
+            go : (w : Walked) → walk_in (by_key key) f k ≡ w → value_there f (told_by w) ≡ value_there g (told_by w)
             go (walked.At p) h = value_part (by_key key) al s p h
             go (walked.Over j) h = refl
             go (walked.Bad r) h = refl
@@ -190,65 +212,64 @@ module _ (xs ys : List ℕ) (n : ℕ) (z : ℤ) (long : length xs ≡ length ys)
     location_same = read_same location.Refused location_of
 
   -- ---- samples: those of one block, out of the same data
-  data_same : (v : Verdict) → Alike (f xs ys n z long) (g xs ys n z long) (k xs ys n z long) → Agree (f xs ys n z long) (g xs ys n z long) (data_read v (f xs ys n z long) (k xs ys n z long)) → v ≡ Accepted → data_in (f xs ys n z long) (block_at (f xs ys n z long) (k xs ys n z long)) ≡ data_in (g xs ys n z long) (block_at (f xs ys n z long) (k xs ys n z long))
+  data_same : (v : Verdict) → Alike f g k → Agree f g (data_read v f k) → v ≡ Accepted → data_in f (block_at f k) ≡ data_in g (block_at f k)
   unfolding trace_block_of end_at
   data_same Accepted al s h = s.0
   data_same (Refused r) al s h = let y : ◌≡◌ {A = ℕ} 0 1 = cc in absurd (omega arith)
 
   -- what is made of the data and the block, where no row was met
   rows_same : {A : Type 0} (mk : List ℕ → TraceBlock → A) (verdict : TraceBlock → Verdict) (old : A)
-      → (((x xs ys n z long) : TraceBlock) → data_in (f xs ys n z long) (x xs ys n z long) ≡ data_in (g xs ys n z long) (x xs ys n z long) → high_first (f xs ys n z long) ≡ high_first (g xs ys n z long) → mk (f xs ys n z long) (x xs ys n z long) ≡ mk (g xs ys n z long) (x xs ys n z long))
-      → Alike (f xs ys n z long) (g xs ys n z long) (k xs ys n z long) → Agree (f xs ys n z long) (g xs ys n z long) (data_read (verdict (block_at (f xs ys n z long) (k xs ys n z long))) (f xs ys n z long) (k xs ys n z long))
-      → kept (verdict (block_at (f xs ys n z long) (k xs ys n z long))) (mk (f xs ys n z long) (block_at (f xs ys n z long) (k xs ys n z long))) old ≡ kept (verdict (block_at (g xs ys n z long) (k xs ys n z long))) (mk (g xs ys n z long) (block_at (g xs ys n z long) (k xs ys n z long))) old
-  rows_same mk verdict old h al s = rw (← al.block) (go (verdict (block_at (f xs ys n z long) (k xs ys n z long))) refl)
+      → ((x : TraceBlock) → data_in f x ≡ data_in g x → high_first f ≡ high_first g → mk f x ≡ mk g x)
+      → Alike f g k → Agree f g (data_read (verdict (block_at f k)) f k)
+      → kept (verdict (block_at f k)) (mk f (block_at f k)) old ≡ kept (verdict (block_at g k)) (mk g (block_at g k)) old
+  rows_same mk verdict old h al s = rw (← al.block) (go (verdict (block_at f k)) refl)
     where
-      go : (v : Verdict) → verdict (block_at (f xs ys n z long) (k xs ys n z long)) ≡ v → kept v (mk (f xs ys n z long) (block_at (f xs ys n z long) (k xs ys n z long))) old ≡ kept v (mk (g xs ys n z long) (block_at (f xs ys n z long) (k xs ys n z long))) old
-      go Accepted (e xs ys n z long) = h (block_at (f xs ys n z long) (k xs ys n z long)) (data_same (verdict (block_at (f xs ys n z long) (k xs ys n z long))) al s (e xs ys n z long)) al.order
-      go (Refused r) (e xs ys n z long) = refl
+      go : (v : Verdict) → verdict (block_at f k) ≡ v → kept v (mk f (block_at f k)) old ≡ kept v (mk g (block_at f k)) old
+      go Accepted e = h (block_at f k) (data_same (verdict (block_at f k)) al s e) al.order
+      go (Refused r) e = refl
 
   -- a lent row at the end, and the answer
   left_same : {A : Type 0} (mk : List ℕ → TraceBlock → A) (verdict : TraceBlock → Verdict) (old : A)
-      → (((x xs ys n z long) : TraceBlock) → data_in (f xs ys n z long) (x xs ys n z long) ≡ data_in (g xs ys n z long) (x xs ys n z long) → high_first (f xs ys n z long) ≡ high_first (g xs ys n z long) → mk (f xs ys n z long) (x xs ys n z long) ≡ mk (g xs ys n z long) (x xs ys n z long))
-      → Agree (f xs ys n z long) (g xs ys n z long) (bytes_read (λ l i. data_read (verdict (block_at l i)) l i) xs n z)
-      → kept (quickly Refused (λ l i. verdict (block_at l i)) xs n z) (mk (f xs ys n z long) (block_at (f xs ys n z long) (k xs ys n z long))) old
-      ≡ kept (quickly Refused (λ l i. verdict (block_at l i)) ys n z) (mk (g xs ys n z long) (block_at (g xs ys n z long) (k xs ys n z long))) old
+      → ((x : TraceBlock) → data_in f x ≡ data_in g x → high_first f ≡ high_first g → mk f x ≡ mk g x)
+      → Agree f g (bytes_read (λ l i. data_read (verdict (block_at l i)) l i) xs n z)
+      → kept (quickly Refused (λ l i. verdict (block_at l i)) xs n z) (mk f (block_at f k)) old
+      ≡ kept (quickly Refused (λ l i. verdict (block_at l i)) ys n z) (mk g (block_at g k)) old
   left_same {A} mk verdict old h agree =
-      outside (alone_of xs n z) (f xs ys n z long)
+      outside (alone_of xs n z) f
       ∙ (quickly_same xs ys n z long) (λ r. old) (λ l i. kept (verdict (block_at l i)) (mk l (block_at l i)) old) (λ l i. data_read (verdict (block_at l i)) l i) agree
       (rows_same mk verdict old h)
-      ∙ sym (outside (alone_of ys n z) (g xs ys n z long))
+      ∙ sym (outside (alone_of ys n z) g)
     where
       outside : (v : Verdict) (l : List ℕ)
-          → kept (asked Refused v (verdict (block_at l (k xs ys n z long)))) (mk l (block_at l (k xs ys n z long))) old ≡ asked (λ r. old) v (kept (verdict (block_at l (k xs ys n z long))) (mk l (block_at l (k xs ys n z long))) old)
+          → kept (asked Refused v (verdict (block_at l k))) (mk l (block_at l k)) old ≡ asked (λ r. old) v (kept (verdict (block_at l k)) (mk l (block_at l k)) old)
       outside Accepted l = refl
       outside (Refused r) l = refl
 
-  verdict_same : (verdict : TraceBlock → Verdict) → Agree (f xs ys n z long) (g xs ys n z long) (bytes_read (λ l i. data_read (verdict (block_at l i)) l i) xs n z)
+  verdict_same : (verdict : TraceBlock → Verdict) → Agree f g (bytes_read (λ l i. data_read (verdict (block_at l i)) l i) xs n z)
       → quickly Refused (λ l i. verdict (block_at l i)) xs n z ≡ quickly Refused (λ l i. verdict (block_at l i)) ys n z
   verdict_same verdict agree =
       (quickly_same xs ys n z long) Refused (λ l i. verdict (block_at l i)) (λ l i. data_read (verdict (block_at l i)) l i) agree (λ al s. ap verdict al.block)
 
-  pub integers_same : (row : List ℤ) → Agree (f xs ys n z long) (g xs ys n z long) (bytes_read (integers_read (length row)) xs n z)
+  pub integers_same : (row : List ℤ) → Agree f g (bytes_read (integers_read (length row)) xs n z)
       → (quick_integers xs n z (length row) ≡ quick_integers ys n z (length row)) × (quick_integers_left xs n z row ≡ quick_integers_left ys n z row)
   unfolding quick_integers quick_integers_left samples_in
   integers_same row agree =
-      (verdict_same (λ (x xs ys n z long). integers_verdict (x xs ys n z long) (length row)) agree, left_same samples_in (λ (x xs ys n z long). integers_verdict (x xs ys n z long) (length row)) row (λ (x xs ys n z long) d o. rw (d, o)) agree)
+      (verdict_same (λ x. integers_verdict x (length row)) agree, left_same samples_in (λ x. integers_verdict x (length row)) row (λ x d o. rw (d, o)) agree)
 
-  pub bits_same : (row classes : List ℕ) → Agree (f xs ys n z long) (g xs ys n z long) (bytes_read (bits_read (length row) (length classes)) xs n z)
+  pub bits_same : (row classes : List ℕ) → Agree f g (bytes_read (bits_read (length row) (length classes)) xs n z)
       → (quick_bits xs n z (length row) (length classes) ≡ quick_bits ys n z (length row) (length classes))
       × (quick_patterns_left xs n z row classes ≡ quick_patterns_left ys n z row classes)
       × (quick_classes_left xs n z row classes ≡ quick_classes_left ys n z row classes)
   unfolding quick_bits quick_patterns_left quick_classes_left patterns_in classes_in
   bits_same row classes agree =
-      let v : TraceBlock → Verdict = λ (x xs ys n z long). bits_verdict (x xs ys n z long) (length row) (length classes) in
-      (verdict_same v agree, left_same patterns_in v row (λ (x xs ys n z long) d o. rw (d, o)) agree, left_same classes_in v classes (λ (x xs ys n z long) d o. rw (d, o)) agree)
+      let v : TraceBlock → Verdict = λ x. bits_verdict x (length row) (length classes) in
+      (verdict_same v agree, left_same patterns_in v row (λ x d o. rw (d, o)) agree, left_same classes_in v classes (λ x d o. rw (d, o)) agree)
 
 behind_named : (f : List ℕ) (k : ℕ) (v : Verdict) (ss : List (ℕ × ℕ)) → (v ≡ Accepted → AllNamed f k ss) → AllNamed f k (behind v ss)
 behind_named f k Accepted ss h = h refl
 behind_named f k (Refused r) ss h = tt
 
 module _ (xs : List ℕ) (n : ℕ) (z : ℤ) where
-
   read_named : (own : List ℕ → ℕ → List (ℕ × ℕ))
       → (Blocked (high_first (take n xs)) (take n xs) (trace_at (take n xs) (trace_number z))
       → AllNamed (take n xs) (trace_number z) (own (take n xs) (trace_number z)))

@@ -32,7 +32,7 @@ use Rattle.until.specs.declared.Walked.{Walked}
 use Rattle.until.specs.declared.Walked.TheVariants as walked
 use Rattle.until.specs.Until.{to_end, on_turn, on_step, walk_from, walk_of}
 use Rattle.shortcut.specs.Read.{reaches, string_read, read_from, read_of}
-use Rattle.shortcut.specs.Strings.{EndsWith, More, Walk, next_read, offset_read, reach_so, read_next, whole_read}
+use Rattle.shortcut.specs.Strings.{next_read, offset_read, reach_so, read_next, whole_read}
 
 module _ (high : Bool) (t : List ℕ) where
   -- ---- one string
@@ -133,12 +133,21 @@ module _ (high : Bool) (t : List ℕ) where
         go (Text o) f = rw (body_alike l r n q o f)
 
     module _ (look : ℕ → List ℕ → Turn) where
+      -- what comes behind a string: the walk ends or goes on
+      abbrev More : ℕ → ℕ → List ℕ → ℕ → ℕ → ℕ → ℕ
+      More m j l at o k = on_turn (look j (take k (drop 2 l))) 0 0 (read_from look m high t u p (j + 1) (take k (drop 2 l)) (drop o l) (at + o))
+
+      abbrev Walk : ℕ → ℕ → List ℕ → ℕ → ℕ → ℕ → Walked
+      Walk m j l at o k =
+          on_turn (look j (take k (drop 2 l))) (walked.At (place_of t o l at)) (walked.Over j)
+          (walk_from look m high t u p (j + 1) (take k (drop 2 l)) (drop o l) (at + o))
+
       read_front : (m j : ℕ) (prev l r : List ℕ) (at : ℕ)
           → take (read_from look (suc m) high t u p j prev l at) l ≡ take (read_from look (suc m) high t u p j prev l at) r
           → take (string_read high t l) l ≡ take (string_read high t l) r
       unfolding read_from
       read_front m j prev l r at q =
-          let x : ℕ = on_step (step_of Strict high t u p prev l at) (λ r. 0) 0 (λ o k. (More high t u p look) m j l at o k) in
+          let x : ℕ = on_step (step_of Strict high t u p prev l at) (λ r. 0) 0 (λ o k. More m j l at o k) in
           front_same (string_read high t l) (string_read high t l + x) l r (omega arith) q
 
       from_alike : (m j : ℕ) (prev l r : List ℕ) (at : ℕ) → length l ≡ length r
@@ -168,7 +177,7 @@ module _ (high : Bool) (t : List ℕ) where
               (rest_same o (read_from look m high t u p (j + 1) (take k (drop 2 l)) (drop o l) (at + o)) l r s)
 
           go : (st : Step) → step_of Strict high t u p prev l at ≡ st → Again
-              → on_step st walked.Bad (walked.Over j) (λ o k. (Walk high t u p look) m j l at o k) ≡ on_step st walked.Bad (walked.Over j) (λ o k. (Walk high t u p look) m j r at o k)
+              → on_step st walked.Bad (walked.Over j) (λ o k. Walk m j l at o k) ≡ on_step st walked.Bad (walked.Over j) (λ o k. Walk m j r at o k)
           go Done h again = refl
           go (Bad x) h again = refl
           go (Next o k) h again =
@@ -197,7 +206,7 @@ module _ (high : Bool) (t : List ℕ) where
 
           go : (st : Step) → step_of Strict high t u p prev l at ≡ st
               → ((o k : ℕ) → read_from look m high t u p (j + 1) (take k (drop 2 l)) (drop o l) (at + o) ≤ length (drop o l))
-              → string_read high t l + on_step st (λ r. 0) 0 (λ o k. (More high t u p look) m j l at o k) ≤ length l
+              → string_read high t l + on_step st (λ r. 0) 0 (λ o k. More m j l at o k) ≤ length l
           go Done h again = omega (arith, read_most l)
           go (Bad x) h again = omega (arith, read_most l)
           go (Next o k) h again =
@@ -210,22 +219,25 @@ module _ (high : Bool) (t : List ℕ) where
       read_within l at = from_most (length l) 0 [] l at
 
       module _ (s : Place) where
+        abbrev EndsWith : ℕ → ℕ → Type 0
+        EndsWith at x = (at ≤ s.value) × (s.value ≤ s.end) × (s.end + length t ≡ at + x)
+
         from_ends : (m j : ℕ) (prev l : List ℕ) (at : ℕ) → walk_from look m high t u p j prev l at ≡ walked.At s
-            → (EndsWith high t u p look s) at (read_from look m high t u p j prev l at)
+            → EndsWith at (read_from look m high t u p j prev l at)
         unfolding walk_from
         from_ends zero j prev l at q = let z : ◌≡◌ {A = ℕ} 0 1 = cc in absurd (omega arith)
         from_ends (suc m) j prev l at q =
             go (step_of Strict high t u p prev l at) refl q (λ o k. from_ends m (j + 1) (take k (drop 2 l)) (drop o l) (at + o))
           where
-            here : (r : Place) → r ≡ s → (o x : ℕ) → (at ≤ r.value) × (r.value ≤ r.end) × (r.end + length t ≡ at + o) → (EndsWith high t u p look s) at (o + 0)
+            here : (r : Place) → r ≡ s → (o x : ℕ) → (at ≤ r.value) × (r.value ≤ r.end) × (r.end + length t ≡ at + o) → EndsWith at (o + 0)
             here r e o x h = let k = rw e at h in (k.0, k.1, omega (arith, k.2))
 
             at_string : (o k : ℕ) → frame_of Strict high t l ≡ Text o → (w : Turn)
                 → on_turn w (walked.At (place_of t o l at)) (walked.Over j) (walk_from look m high t u p (j + 1) (take k (drop 2 l)) (drop o l) (at + o))
                 ≡ walked.At s
                 → (walk_from look m high t u p (j + 1) (take k (drop 2 l)) (drop o l) (at + o) ≡ walked.At s
-                → (EndsWith high t u p look s) (at + o) (read_from look m high t u p (j + 1) (take k (drop 2 l)) (drop o l) (at + o)))
-                → (EndsWith high t u p look s) at (o + on_turn w 0 0 (read_from look m high t u p (j + 1) (take k (drop 2 l)) (drop o l) (at + o)))
+                → EndsWith (at + o) (read_from look m high t u p (j + 1) (take k (drop 2 l)) (drop o l) (at + o)))
+                → EndsWith at (o + on_turn w 0 0 (read_from look m high t u p (j + 1) (take k (drop 2 l)) (drop o l) (at + o)))
             at_string o k f Here c again =
                 let i = place_fits Strict high t l at o f in
                 let n = in_frame Strict high t l o f in
@@ -235,22 +247,22 @@ module _ (high : Bool) (t : List ℕ) where
             at_string o k f On c again = let i = again c in (omega (arith, i.0), i.1, omega (arith, i.2))
 
             go : (st : Step) → step_of Strict high t u p prev l at ≡ st
-                → on_step st walked.Bad (walked.Over j) (λ o k. (Walk high t u p look) m j l at o k) ≡ walked.At s
+                → on_step st walked.Bad (walked.Over j) (λ o k. Walk m j l at o k) ≡ walked.At s
                 → ((o k : ℕ) → walk_from look m high t u p (j + 1) (take k (drop 2 l)) (drop o l) (at + o) ≡ walked.At s
-                → (EndsWith high t u p look s) (at + o) (read_from look m high t u p (j + 1) (take k (drop 2 l)) (drop o l) (at + o)))
-                → (EndsWith high t u p look s) at (read_from look (suc m) high t u p j prev l at)
+                → EndsWith (at + o) (read_from look m high t u p (j + 1) (take k (drop 2 l)) (drop o l) (at + o)))
+                → EndsWith at (read_from look (suc m) high t u p j prev l at)
             go Done h c again = let z : ◌≡◌ {A = ℕ} 0 1 = cc in absurd (omega arith)
             go (Bad x) h c again = let z : ◌≡◌ {A = ℕ} 0 1 = cc in absurd (omega arith)
             go (Next o k) h c again =
                 rw ((read_next high t u p look) m j prev l at o k h)
                 (at_string o k (next_fits Strict high t u p prev l at o k h).0 (look j (take k (drop 2 l))) c (again o k))
 
-        pub read_ends : (l : List ℕ) (at : ℕ) → walk_of look high t u p l at ≡ walked.At s → (EndsWith high t u p look s) at (read_of look high t u p l at)
+        pub read_ends : (l : List ℕ) (at : ℕ) → walk_of look high t u p l at ≡ walked.At s → EndsWith at (read_of look high t u p l at)
         unfolding walk_of read_of
         read_ends l at q = go (eqb (length l) 0) q
           where
             go : (w : Bool) → pick w (walked.Over 0) (walk_from look (length l) high t u p 0 [] l at) ≡ walked.At s
-                → (EndsWith high t u p look s) at (read_from look (length l) high t u p 0 [] l at)
+                → EndsWith at (read_from look (length l) high t u p 0 [] l at)
             go true c = let z : ◌≡◌ {A = ℕ} 0 1 = cc in absurd (omega arith)
             go false c = from_ends (length l) 0 [] l at c
 

@@ -40,14 +40,14 @@ use Rattle.quick.specs.QuickLaws.{never_string}
 use Rattle.shortcut.specs.Full.{walk_places, by_index_lem}
 
 module _ (xs : List ℕ) (n : ℕ) (z : ℤ) where
-  abbrev pub f : List ℕ
+  abbrev f : List ℕ
   f = take n xs
 
-  abbrev pub k : ℕ
+  abbrev k : ℕ
   k = trace_number z
 
-  abbrev pub a : ℕ
+  abbrev a : ℕ
   a = trace_at f k + 32
 
-  abbrev pub e : ℕ
+  abbrev e : ℕ
   e = data_at (high_first f) f (trace_at f k)

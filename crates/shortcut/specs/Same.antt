@@ -209,10 +209,10 @@ module _ (xs ys : List ℕ) (n : ℕ) (z : ℤ) (long : length xs ≡ length ys)
 
   -- ---- all of them in a row: where all strings were passed, their places are alike
   module _ (row : List ℕ) (agree : Agree f g (bytes_read (strings_read to_end) xs n z)) where
-    abbrev pub numbers : List ℕ → ℕ → List ℕ
+    abbrev numbers : List ℕ → ℕ → List ℕ
     numbers f i = numbers_in Strict f (area_named f (One i))
 
-    abbrev pub filled : List ℕ → ℕ → List ℕ
+    abbrev filled : List ℕ → ℕ → List ℕ
     filled f i = kept (strings_verdict (counted_by (walk_in to_end f i)) (length row)) (numbers f i) row
 
 -- ---- no byte is read but those that document 02 names

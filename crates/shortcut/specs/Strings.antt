@@ -63,7 +63,7 @@ module _ (high : Bool) (t : List ℕ) where
       abbrev pub More : ℕ → ℕ → List ℕ → ℕ → ℕ → ℕ → ℕ
       More m j l at o k = on_turn (look j (take k (drop 2 l))) 0 0 (read_from look m high t u p (j + 1) (take k (drop 2 l)) (drop o l) (at + o))
 
-      abbrev pub Walk : ℕ → ℕ → List ℕ → ℕ → ℕ → ℕ → Walked
+      abbrev Walk : ℕ → ℕ → List ℕ → ℕ → ℕ → ℕ → Walked
       Walk m j l at o k =
           on_turn (look j (take k (drop 2 l))) (walked.At (place_of t o l at)) (walked.Over j)
           (walk_from look m high t u p (j + 1) (take k (drop 2 l)) (drop o l) (at + o))
@@ -75,5 +75,5 @@ module _ (high : Bool) (t : List ℕ) where
 
       -- ---- and where a string is found they end with it: its value and the terminator behind it
       module _ (s : Place) where
-        abbrev pub EndsWith : ℕ → ℕ → Type 0
+        abbrev EndsWith : ℕ → ℕ → Type 0
         EndsWith at x = (at ≤ s.value) × (s.value ≤ s.end) × (s.end + length t ≡ at + x)

@@ -1,0 +1,5 @@
+pub mod Channels
+pub mod Excluded
+pub mod GoodLists
+pub mod Growing
+pub mod Repeats

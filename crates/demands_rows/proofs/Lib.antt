@@ -1,0 +1,4 @@
+pub mod Answers
+pub mod Decimals
+pub mod Locations
+pub mod WriterRows
