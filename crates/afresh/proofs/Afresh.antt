@@ -41,7 +41,7 @@ use Rattle.afresh.specs.Calls.{length_left, after, answers_of, accepted_of, answ
 use Rattle.afresh.proofs.Calls.{start_grows}
 use Rattle.afresh.specs.Stands.{empty_trace}
 use Rattle.afresh.proofs.Kept.{file_with, file_accepted}
-use Rattle.afresh.specs.Afresh.{Writable, begun, lengths}
+use Rattle.afresh.specs.Afresh.{Writable, lengths}
 
 module _ (high : Bool) (slots : ℕ) (sheet : List ℕ) (some : 1 ≤ slots) (measures : Measures sheet) where
   -- a trace that goes on a good list meets no row 35: the first is free to choose, a later one is as the first
@@ -102,6 +102,9 @@ module _ (high : Bool) (slots : ℕ) (sheet : List ℕ) (some : 1 ≤ slots) (me
       (answers_to xs n x calls end to ∙ ap (λ (r : List Written). To end ∷ r) i.0, accepted_to xs n x calls end to ∙ ap (λ (r : List Trace). x ∷ r) i.1)
 
 module _ (xs : List ℕ) (order slots : ℕ) (sheet : List ℕ) (ts : List Trace) (w : Writable xs order slots sheet ts) where
+  abbrev begun : List ℕ
+  begun = start_left xs order slots sheet
+
   can_start : Started (length xs) order slots sheet (start_size slots sheet)
   unfolding file_size
   can_start =
@@ -121,7 +124,7 @@ module _ (xs : List ℕ) (order slots : ℕ) (sheet : List ℕ) (ts : List Trace
   pub start_accepted : start_answer xs order slots sheet ≡ To (start_size slots sheet)
   start_accepted = starts xs order slots sheet (start_size slots sheet) can_start
 
-  on_from_start : (answers_of (begun xs order slots sheet ts w) (start_size slots sheet) ts ≡ lengths (start_size slots sheet) ts) × (accepted_of (begun xs order slots sheet ts w) (start_size slots sheet) ts ≡ ts)
+  on_from_start : (answers_of begun (start_size slots sheet) ts ≡ lengths (start_size slots sheet) ts) × (accepted_of begun (start_size slots sheet) ts ≡ ts)
   unfolding file_size
   on_from_start =
       let g = start_grows xs order slots sheet (start_size slots sheet) start_accepted [] in
@@ -129,31 +132,31 @@ module _ (xs : List ℕ) (order slots : ℕ) (sheet : List ℕ) (ts : List Trace
       let fits = w.fits in
       let most = w.most in
       let slotted = w.slotted in
-      goes_on (eqb order 1) slots sheet w.some w.measures ts [] (begun xs order slots sheet ts w) (start_size slots sheet)
+      goes_on (eqb order 1) slots sheet w.some w.measures ts [] begun (start_size slots sheet)
       (start_afresh xs order slots sheet (start_size slots sheet) start_accepted) w.good (omega arith) (omega arith) (omega arith)
 
   -- every addition answers where its trace ends: none is refused
-  pub none_refused : answers_of (begun xs order slots sheet ts w) (start_size slots sheet) ts ≡ lengths (start_size slots sheet) ts
+  pub none_refused : answers_of begun (start_size slots sheet) ts ≡ lengths (start_size slots sheet) ts
   none_refused = on_from_start.0
 
-  pub all_accepted : accepted_of (begun xs order slots sheet ts w) (start_size slots sheet) ts ≡ ts
+  pub all_accepted : accepted_of begun (start_size slots sheet) ts ≡ ts
   all_accepted = on_from_start.1
 
   -- and the image at the end is the file that the list defines; past it the buffer is as it was
-  pub written_afresh : Grew (eqb order 1) slots sheet ts xs (start_size slots sheet) (after (begun xs order slots sheet ts w) (start_size slots sheet) ts)
+  pub written_afresh : Grew (eqb order 1) slots sheet ts xs (start_size slots sheet) (after begun (start_size slots sheet) ts)
   written_afresh = rw all_accepted at (start_grows xs order slots sheet (start_size slots sheet) start_accepted ts)
 
-  pub image_afresh : (take (after (begun xs order slots sheet ts w) (start_size slots sheet) ts).1 (after (begun xs order slots sheet ts w) (start_size slots sheet) ts).0 ≡ file_of (eqb order 1) slots sheet ts)
-      × ((after (begun xs order slots sheet ts w) (start_size slots sheet) ts).1 ≡ file_size slots sheet ts)
+  pub image_afresh : (take (after begun (start_size slots sheet) ts).1 (after begun (start_size slots sheet) ts).0 ≡ file_of (eqb order 1) slots sheet ts)
+      × ((after begun (start_size slots sheet) ts).1 ≡ file_size slots sheet ts)
   image_afresh = (written_afresh.holds.image, written_afresh.holds.size)
 
   -- a reader's check accepts it where there is a trace, an addition's check always
   pub afresh_accepted : (purpose : Purpose) → (length ts ≡ 0 → purpose ≡ Grow)
-      → check_of Strict purpose (after (begun xs order slots sheet ts w) (start_size slots sheet) ts).0 (after (begun xs order slots sheet ts w) (start_size slots sheet) ts).1 ≡ Accepted
+      → check_of Strict purpose (after begun (start_size slots sheet) ts).0 (after begun (start_size slots sheet) ts).1 ≡ Accepted
   afresh_accepted purpose none =
       let size = written_afresh.holds.size in
       let most = w.most in
-      file_accepted purpose (eqb order 1) slots sheet ts (after (begun xs order slots sheet ts w) (start_size slots sheet) ts).0 (after (begun xs order slots sheet ts w) (start_size slots sheet) ts).1
+      file_accepted purpose (eqb order 1) slots sheet ts (after begun (start_size slots sheet) ts).0 (after begun (start_size slots sheet) ts).1
       written_afresh.holds
       w.some w.measures (omega arith) none
 

@@ -39,7 +39,7 @@ use Rattle.afresh.proofs.FileLaws.{length_file}
 use Rattle.afresh.specs.FileLaws.{has_nth}
 use Rattle.afresh.specs.Stands.{empty_trace, Traced}
 use Rattle.afresh.proofs.Stands.{file_traces}
-use Rattle.afresh.specs.Kept.{feed_ends, file}
+use Rattle.afresh.specs.Kept.{feed_ends}
 
 spelled : (high : Bool) (sheet : List ℕ) → Measures sheet → Spells Strict high nul line_feed (sheet_strings line_feed sheet) (area_of high nul line_feed sheet)
 spelled high sheet m = area_spells high nul line_feed sheet m.0 feed_ends m.1
@@ -111,18 +111,20 @@ none_left (x ∷ ts) h = absurd (omega arith)
 
 module _ (high : Bool) (slots : ℕ) (sheet : List ℕ) (ts : List Trace) (few : slots ≤ slots_most) (good : AllGood ts) (slotted : length ts ≤ slots)
     (most : file_size slots sheet ts ≤ maximum) where
+  abbrev file : List ℕ
+  file = file_of high slots sheet ts
 
-  front : Fronted high (4 * slots) (length ts) (file high slots sheet ts few good slotted most)
+  front : Fronted high (4 * slots) (length ts) file
   front = file_fronted high slots sheet ts few slotted
 
-  long : length (file high slots sheet ts few good slotted most) ≡ file_size slots sheet ts
+  long : length file ≡ file_size slots sheet ts
   long = length_file high slots sheet ts slotted good.0
 
   here : (k : ℕ) → k < length ts → Traced high slots sheet ts k
   here = file_traces high slots sheet ts slotted good.0 most
 
   -- each trace begins where what stands before it ends, and the first behind the file's strings
-  before : (k : ℕ) → k ≤ length ts → end_before (file high slots sheet ts few good slotted most) k ≤ file_size slots sheet (take k ts)
+  before : (k : ℕ) → k ≤ length ts → end_before file k ≤ file_size slots sheet (take k ts)
   unfolding end_before end_at
   before zero h = let l = size_low slots sheet [] in rw front.room l
   before (suc k) h =
@@ -131,9 +133,9 @@ module _ (high : Bool) (slots : ℕ) (sheet : List ℕ) (ts : List Trace) (few :
       let n = t.next in
       rw (front.order, t.pointer, s.block, s.bytes) (omega arith)
 
-  strings_end_lem : strings_end (file high slots sheet ts few good slotted most) ≡ start_size slots sheet
+  strings_end_lem : strings_end file ≡ start_size slots sheet
   strings_end_lem =
-      ends_at (count_of (file high slots sheet ts few good slotted most)) (length (file high slots sheet ts few good slotted most)) (trace_at (file high slots sheet ts few good slotted most) 0) (start_size slots sheet)
+      ends_at (count_of file) (length file) (trace_at file 0) (start_size slots sheet)
       (λ z.
       (let e : length ts ≡ 0 = sym front.count ∙ z in
       long ∙ ap (file_size slots sheet) (none_left ts e) ∙ size_none slots sheet))
@@ -143,20 +145,20 @@ module _ (high : Bool) (slots : ℕ) (sheet : List ℕ) (ts : List Trace) (few :
       rw front.order (t.pointer ∙ size_none slots sheet)))
 
   each_keeps : (k : ℕ) → k < length ts
-      → (t : KeepsTrace Strict (file high slots sheet ts few good slotted most) k) × (has_key Strict t.strings.0 channel_number ≡ has_channel (get_or ts k empty_trace))
+      → (t : KeepsTrace Strict file k) × (has_key Strict t.strings.0 channel_number ≡ has_channel (get_or ts k empty_trace))
   each_keeps k l =
       let t = here k l in
-      keeps_trace high (file high slots sheet ts few good slotted most) k (file_size slots sheet (take k ts)) (get_or ts k empty_trace) front.order front.strings front.lines t.pointer t.here
+      keeps_trace high file k (file_size slots sheet (take k ts)) (get_or ts k empty_trace) front.order front.strings front.lines t.pointer t.here
       t.good (file_whole slots sheet (take k ts)) (before k (omega arith))
 
   -- so trace 0 has a channel number where the first of the list has
-  pub file_with : 0 < length ts → with_of Strict (file high slots sheet ts few good slotted most) ≡ has_channel (get_or ts 0 empty_trace)
+  pub file_with : 0 < length ts → with_of Strict file ≡ has_channel (get_or ts 0 empty_trace)
   file_with some =
       let t = each_keeps 0 some in
-      let i : data_at (high_first (file high slots sheet ts few good slotted most)) (file high slots sheet ts few good slotted most) (trace_at (file high slots sheet ts few good slotted most) 0) + data_size_of (high_first (file high slots sheet ts few good slotted most)) (file high slots sheet ts few good slotted most) (trace_at (file high slots sheet ts few good slotted most) 0) ≤ length (file high slots sheet ts few good slotted most) = t.0.inside in
-      (channel_spelled Strict (file high slots sheet ts few good slotted most) 0 t.0.strings.0 t.0.least (omega arith) t.0.strings.1).0 ∙ t.1
+      let i : data_at (high_first file) file (trace_at file 0) + data_size_of (high_first file) file (trace_at file 0) ≤ length file = t.0.inside in
+      (channel_spelled Strict file 0 t.0.strings.0 t.0.least (omega arith) t.0.strings.1).0 ∙ t.1
 
-  pub file_keeps : 1 ≤ slots → Measures sheet → (purpose : Purpose) → (length ts ≡ 0 → purpose ≡ Grow) → Keeps Strict purpose (file high slots sheet ts few good slotted most)
+  pub file_keeps : 1 ≤ slots → Measures sheet → (purpose : Purpose) → (length ts ≡ 0 → purpose ≡ Grow) → Keeps Strict purpose file
   unfolding apart all
   file_keeps some measures purpose none =
       let low = size_low slots sheet ts in
@@ -180,11 +182,11 @@ module _ (high : Bool) (slots : ℕ) (sheet : List ℕ) (ts : List Trace) (few :
         channels = λ _. together good.1;
       }
     where
-      told : (w : Bool) → EachHas w ts → (k : ℕ) (h : k < count_of (file high slots sheet ts few good slotted most))
+      told : (w : Bool) → EachHas w ts → (k : ℕ) (h : k < count_of file)
           → has_key Strict (each_keeps k (rw front.count at h)).0.strings.0 channel_number ≡ w
       told w e k h = let l : k < length ts = rw front.count at h in (each_keeps k l).1 ∙ has_nth w empty_trace ts k e l
 
-      together : Together ts → AllOrNone (count_of (file high slots sheet ts few good slotted most)) (λ k h. has_key Strict (each_keeps k (rw front.count at h)).0.strings.0 channel_number)
+      together : Together ts → AllOrNone (count_of file) (λ k h. has_key Strict (each_keeps k (rw front.count at h)).0.strings.0 channel_number)
       together (inl e) = all_or_none true (told true e)
       together (inr e) = all_or_none false (told false e)
 

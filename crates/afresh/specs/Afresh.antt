@@ -61,5 +61,5 @@ pub record Writable (xs : List ℕ) (order slots : ℕ) (sheet : List ℕ) (ts :
   pub most : file_size slots sheet ts ≤ maximum
 
 module _ (xs : List ℕ) (order slots : ℕ) (sheet : List ℕ) (ts : List Trace) (w : Writable xs order slots sheet ts) where
-  abbrev pub begun : List ℕ
+  abbrev begun : List ℕ
   begun = start_left xs order slots sheet

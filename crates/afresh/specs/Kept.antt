@@ -47,5 +47,5 @@ feed_ends = (omega arith, refl)
 -- ---- the whole
 module _ (high : Bool) (slots : ℕ) (sheet : List ℕ) (ts : List Trace) (few : slots ≤ slots_most) (good : AllGood ts) (slotted : length ts ≤ slots)
     (most : file_size slots sheet ts ≤ maximum) where
-  abbrev pub file : List ℕ
+  abbrev file : List ℕ
   file = file_of high slots sheet ts

@@ -24,17 +24,17 @@ use Rattle.head.specs.Head.{maximum}
 
 -- ---- a trace of the list, with what comes before it and behind it
 module _ (high : Bool) (slots : ℕ) (sheet : List ℕ) (before : List Trace) (x : Trace) (behind-it : List Trace) where
-  abbrev pub whole : List Trace
+  abbrev whole : List Trace
   whole = before ++ (x ∷ behind-it)
 
-  abbrev pub free : List ℕ
+  abbrev free : List ℕ
   free = replicate (4 * (slots - length whole)) 0
 
-  abbrev pub strings : List ℕ
+  abbrev strings : List ℕ
   strings = area_of high nul line_feed sheet
 
   -- all that stands before it
-  abbrev pub lead : List ℕ
+  abbrev lead : List ℕ
   lead = file_block high (4 * slots) (length whole) ++ (pointers high (start_size slots sheet) whole ++ (free ++ (strings ++ blocks high before)))
 
 -- ---- the trace k of the list

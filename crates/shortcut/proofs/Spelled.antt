@@ -19,7 +19,8 @@ use Rattle.strings.proofs.Paper.{frame_of_lem, steps, end_frame}
 use Rattle.until.specs.declared.Turn.{Turn}
 use Rattle.until.specs.Until.{on_turn}
 use Rattle.shortcut.specs.Read.{string_read, read_from, read_of}
-use Rattle.shortcut.specs.Strings.{offset_read, read_next}
+use Rattle.shortcut.specs.Strings.{offset_read}
+use Rattle.shortcut.proofs.Strings.{read_next}
 use Rattle.shortcut.specs.Spelled.{list_read}
 
 -- an end mark's two bytes are read

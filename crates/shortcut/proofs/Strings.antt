@@ -11,7 +11,7 @@ use Rattle.std.proofs.Math.Decide.{dec_le}
 use native.Mathlib.Omega.{arith}
 use Rattle.std.proofs.Math.ListN.{length, take, length-drop}
 use Rattle.std.proofs.Math.Dec.{leb, eqb}
-use borrow.Author.Tests.{leb-true, leb-false, lt-ltb, le-leb, ne_eqb}
+use borrow.Author.Tests.{leb-true, leb-false, lt-ltb, le-ltb, le-leb, ne_eqb}
 use Rattle.word.specs.Tests.{both, never}
 use Rattle.refusal.specs.Rows.{pick}
 use Rattle.refusal.specs.declared.Part.{Part}
@@ -32,7 +32,7 @@ use Rattle.until.specs.declared.Walked.{Walked}
 use Rattle.until.specs.declared.Walked.TheVariants as walked
 use Rattle.until.specs.Until.{to_end, on_turn, on_step, walk_from, walk_of}
 use Rattle.shortcut.specs.Read.{reaches, string_read, read_from, read_of}
-use Rattle.shortcut.specs.Strings.{next_read, offset_read, reach_so, read_next, whole_read}
+use Rattle.shortcut.specs.Strings.{offset_read}
 
 module _ (high : Bool) (t : List ℕ) where
   -- ---- one string
@@ -42,10 +42,19 @@ module _ (high : Bool) (t : List ℕ) where
   unfolding string_read
   few_read l h = rw (lt-ltb (length l) 2 h)
 
+  whole_read : (l : List ℕ) → 2 ≤ length l → reaches high t l ≡ true → string_read high t l ≡ offset high l
+  unfolding string_read
+  whole_read l h w = rw (le-ltb (length l) 2 h, w)
+
   reach_bounds : (l : List ℕ) → reaches high t l ≡ true → (3 + length t ≤ offset high l) × (offset high l ≤ length l)
   reach_bounds l w =
       let b = both (leb (3 + length t) (offset high l)) (leb (offset high l) (length l)) w in
       (leb-true _ _ b.0, leb-true _ _ b.1)
+
+  reach_so : (l : List ℕ) (o : ℕ) → frame_of Strict high t l ≡ Text o → (2 ≤ length l) × (reaches high t l ≡ true) × (offset high l ≡ o)
+  reach_so l o f =
+      let i = in_frame Strict high t l o f in
+      (i.two, rw (i.told, le-leb (3 + length t) o i.low, le-leb o (length l) i.fit), i.told)
 
   read_most : (l : List ℕ) → string_read high t l ≤ length l
   read_most l =
@@ -55,7 +64,7 @@ module _ (high : Bool) (t : List ℕ) where
       ]
     where
       go : (w : Bool) → reaches high t l ≡ w → 2 ≤ length l → string_read high t l ≤ length l
-      go true w h = let e = (whole_read high t) l h w in let b = reach_bounds l w in omega (arith, b.1)
+      go true w h = let e = whole_read l h w in let b = reach_bounds l w in omega (arith, b.1)
       go false w h = let e = (offset_read high t) l h w in omega arith
 
   -- a frame whose offset does not reach is told by the offset and the length
@@ -98,7 +107,7 @@ module _ (high : Bool) (t : List ℕ) where
     offset_alike two = go (reaches high t l) refl
       where
         go : (w : Bool) → reaches high t l ≡ w → offset high l ≡ offset high r
-        go true w = let b = reach_bounds l w in offset_same high (string_read high t l) l r (omega (arith, (whole_read high t) l two w, b.0)) q
+        go true w = let b = reach_bounds l w in offset_same high (string_read high t l) l r (omega (arith, whole_read l two w, b.0)) q
         go false w = offset_same high (string_read high t l) l r (omega (arith, (offset_read high t) l two w)) q
 
     frame_alike : frame_of Strict high t l ≡ frame_of Strict high t r
@@ -111,11 +120,11 @@ module _ (high : Bool) (t : List ℕ) where
         ]
       where
         go : (w : Bool) → reaches high t l ≡ w → 2 ≤ length l → frame_of Strict high t l ≡ frame_of Strict high t r
-        go true w two = in_same l r n (offset_alike two) (rw ((whole_read high t) l two w) at q)
+        go true w two = in_same l r n (offset_alike two) (rw (whole_read l two w) at q)
         go false w two = out_same l r n two (offset_alike two) w
 
     text_alike : (o : ℕ) → frame_of Strict high t l ≡ Text o → take o l ≡ take o r
-    text_alike o f = let w = (reach_so high t) l o f in rw ((whole_read high t) l w.0 w.1, w.2) at q
+    text_alike o f = let w = reach_so l o f in rw (whole_read l w.0 w.1, w.2) at q
 
     body_alike : (o : ℕ) → frame_of Strict high t l ≡ Text o → body t o l ≡ body t o r
     unfolding body
@@ -132,6 +141,12 @@ module _ (high : Bool) (t : List ℕ) where
         go (Broken b) f = refl
         go (Text o) f = rw (body_alike l r n q o f)
 
+    -- a step past a string has read it
+    next_read : (prev l : List ℕ) (at o k : ℕ) → step_of Strict high t u p prev l at ≡ Next o k → string_read high t l ≡ o
+    next_read prev l at o k h =
+        let w = reach_so l o (next_fits Strict high t u p prev l at o k h).0 in
+        whole_read l w.0 w.1 ∙ w.2
+
     module _ (look : ℕ → List ℕ → Turn) where
       -- what comes behind a string: the walk ends or goes on
       abbrev More : ℕ → ℕ → List ℕ → ℕ → ℕ → ℕ → ℕ
@@ -141,6 +156,11 @@ module _ (high : Bool) (t : List ℕ) where
       Walk m j l at o k =
           on_turn (look j (take k (drop 2 l))) (walked.At (place_of t o l at)) (walked.Over j)
           (walk_from look m high t u p (j + 1) (take k (drop 2 l)) (drop o l) (at + o))
+
+      pub read_next : (m j : ℕ) (prev l : List ℕ) (at o k : ℕ) → step_of Strict high t u p prev l at ≡ Next o k
+          → read_from look (suc m) high t u p j prev l at ≡ o + More m j l at o k
+      unfolding read_from
+      read_next m j prev l at o k h = rw (h, next_read prev l at o k h)
 
       read_front : (m j : ℕ) (prev l r : List ℕ) (at : ℕ)
           → take (read_from look (suc m) high t u p j prev l at) l ≡ take (read_from look (suc m) high t u p j prev l at) r
@@ -185,7 +205,7 @@ module _ (high : Bool) (t : List ℕ) where
               let b = next_bounds Strict high t u p prev l at o k h in
               let g = text_alike l r n (read_front m j prev l r at q) o f in
               let d : take k (drop 2 l) ≡ take k (drop 2 r) = rest_same 2 k l r (front_same (2 + k) o l r (omega (arith, b.2)) g) in
-              rw (← d) (goes_on o k f (look j (take k (drop 2 l))) (rw ((read_next high t u p look) m j prev l at o k h) at q) again)
+              rw (← d) (goes_on o k f (look j (take k (drop 2 l))) (rw (read_next m j prev l at o k h) at q) again)
 
       -- two areas that are alike on the bytes read of one of them
       pub walk_alike : (l r : List ℕ) (at : ℕ) → length l ≡ length r → take (read_of look high t u p l at) l ≡ take (read_of look high t u p l at) r
@@ -211,7 +231,7 @@ module _ (high : Bool) (t : List ℕ) where
           go (Bad x) h again = omega (arith, read_most l)
           go (Next o k) h again =
               let b = next_bounds Strict high t u p prev l at o k h in
-              rw ((next_read high t u p) prev l at o k h)
+              rw (next_read prev l at o k h)
               (more o (look j (take k (drop 2 l))) (read_from look m high t u p (j + 1) (take k (drop 2 l)) (drop o l) (at + o)) b.1 (again o k))
 
       pub read_within : (l : List ℕ) (at : ℕ) → read_of look high t u p l at ≤ length l
@@ -254,7 +274,7 @@ module _ (high : Bool) (t : List ℕ) where
             go Done h c again = let z : ◌≡◌ {A = ℕ} 0 1 = cc in absurd (omega arith)
             go (Bad x) h c again = let z : ◌≡◌ {A = ℕ} 0 1 = cc in absurd (omega arith)
             go (Next o k) h c again =
-                rw ((read_next high t u p look) m j prev l at o k h)
+                rw (read_next m j prev l at o k h)
                 (at_string o k (next_fits Strict high t u p prev l at o k h).0 (look j (take k (drop 2 l))) c (again o k))
 
         pub read_ends : (l : List ℕ) (at : ℕ) → walk_of look high t u p l at ≡ walked.At s → EndsWith at (read_of look high t u p l at)
@@ -296,7 +316,7 @@ module _ (high : Bool) (t : List ℕ) where
             let f = (next_fits Strict high t u p prev l at o k h).0 in
             let b = body_alike l r n (read_front to_end m j prev l r at q) o f in
             let s = rest_same o (read_from to_end m high t u p (j + 1) (take k (drop 2 l)) (drop o l) (at + o)) l r
-            (rw ((read_next high t u p) to_end m j prev l at o k h) at q) in
+            (rw (read_next to_end m j prev l at o k h) at q) in
             rw (f, b, again o k (drop_long o l r n) s e)
 
     pub places_alike : (l r : List ℕ) (at c : ℕ) → length l ≡ length r → take (read_of to_end high t u p l at) l ≡ take (read_of to_end high t u p l at) r

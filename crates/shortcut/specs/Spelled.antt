@@ -21,7 +21,7 @@ use Rattle.strings.proofs.Paper.{frame_of_lem, steps, end_frame}
 use Rattle.until.specs.declared.Turn.{Turn}
 use Rattle.until.specs.Until.{on_turn, on_step}
 use Rattle.shortcut.specs.Read.{reaches, string_read, read_from, read_of}
-use Rattle.shortcut.specs.Strings.{offset_read, read_next}
+use Rattle.shortcut.specs.Strings.{offset_read}
 
 -- the bytes of each string, j standing before it, and none behind that which ends the walk; where none does, all of them and
 -- the two bytes of the end mark

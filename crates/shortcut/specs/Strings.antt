@@ -41,37 +41,17 @@ module _ (high : Bool) (t : List ℕ) where
   unfolding string_read
   offset_read l h w = rw (le-ltb (length l) 2 h, w)
 
-  pub whole_read : (l : List ℕ) → 2 ≤ length l → reaches high t l ≡ true → string_read high t l ≡ offset high l
-  unfolding string_read
-  whole_read l h w = rw (le-ltb (length l) 2 h, w)
-
-  pub reach_so : (l : List ℕ) (o : ℕ) → frame_of Strict high t l ≡ Text o → (2 ≤ length l) × (reaches high t l ≡ true) × (offset high l ≡ o)
-  reach_so l o f =
-      let i = in_frame Strict high t l o f in
-      (i.two, rw (i.told, le-leb (3 + length t) o i.low, le-leb o (length l) i.fit), i.told)
-
   -- ---- the walk
   module _ (u : List ℕ) (p : Part) where
-    -- a step past a string has read it
-    pub next_read : (prev l : List ℕ) (at o k : ℕ) → step_of Strict high t u p prev l at ≡ Next o k → string_read high t l ≡ o
-    next_read prev l at o k h =
-        let w = reach_so l o (next_fits Strict high t u p prev l at o k h).0 in
-        whole_read l w.0 w.1 ∙ w.2
-
     module _ (look : ℕ → List ℕ → Turn) where
       -- what comes behind a string: the walk ends or goes on
-      abbrev pub More : ℕ → ℕ → List ℕ → ℕ → ℕ → ℕ → ℕ
+      abbrev More : ℕ → ℕ → List ℕ → ℕ → ℕ → ℕ → ℕ
       More m j l at o k = on_turn (look j (take k (drop 2 l))) 0 0 (read_from look m high t u p (j + 1) (take k (drop 2 l)) (drop o l) (at + o))
 
       abbrev Walk : ℕ → ℕ → List ℕ → ℕ → ℕ → ℕ → Walked
       Walk m j l at o k =
           on_turn (look j (take k (drop 2 l))) (walked.At (place_of t o l at)) (walked.Over j)
           (walk_from look m high t u p (j + 1) (take k (drop 2 l)) (drop o l) (at + o))
-
-      pub read_next : (m j : ℕ) (prev l : List ℕ) (at o k : ℕ) → step_of Strict high t u p prev l at ≡ Next o k
-          → read_from look (suc m) high t u p j prev l at ≡ o + More m j l at o k
-      unfolding read_from
-      read_next m j prev l at o k h = rw (h, next_read prev l at o k h)
 
       -- ---- and where a string is found they end with it: its value and the terminator behind it
       module _ (s : Place) where
