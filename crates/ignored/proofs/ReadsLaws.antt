@@ -50,7 +50,6 @@ use Rattle.ignored.specs.Data.{samples_same, patterns_same, classes_same}
 use Rattle.ignored.specs.Reads.{block}
 
 module _ {f g : List ℕ} (a : Alike f g) where
-
   -- ---- blocks
   block_same : (k : ℕ) → k < count_of f → trace_block_of (high_first f) f k ≡ trace_block_of (high_first g) g k
   unfolding trace_block_of
@@ -102,7 +101,6 @@ module _ {f g : List ℕ} (a : Alike f g) where
       ∙ ap (λ (ps : List Place). value_found g (find_of Strict g ps key)) (places_alike x e s)
 
   module _ (ok : Rattle.image.specs.Image.image_of Strict Read f ≡ Accepted) where
-
     file_strings : AlikeStrings f g (32 + room_of f) (trace_at f 0)
     file_strings =
         let some = some_trace Strict f ok in
@@ -128,7 +126,6 @@ module _ {f g : List ℕ} (a : Alike f g) where
     end_same k low = same_end a (a.traces k low) ∙ ap₂ (λ (o : Bool) (p : ℕ). end_at o g p) (same_order a) (at_same k low)
 
     module _ (k : ℕ) (low : k < count_of f) where
-
       integers_alike : samples_of f k ≡ samples_of g k
       unfolding samples_in data_of trace_block_of end_at
       integers_alike =
@@ -154,7 +151,6 @@ through_area h Outside none p = refl
 through_area h (From x e) none p = refl
 
 module _ (xs ys : List ℕ) (n : ℕ) (fx : n ≤ length xs) (fy : n ≤ length ys) (a : Alike (take n xs) (take n ys)) where
-
   pub alike_check : (purpose : Purpose) → check_of Strict purpose xs n ≡ check_of Strict purpose ys n
   unfolding check_of
   alike_check purpose = rw (le-ltb (length xs) n fx, le-ltb (length ys) n fy, same_image a purpose)
