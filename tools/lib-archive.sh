@@ -34,13 +34,14 @@ below() {
 }
 
 # built NAME WORK RT: has rt prove the crate and what it stands on, the lowest first, and tells how far it is. What was proved before and has not changed
-# is passed over. The archive stands in crates/NAME/out/libNAME.a then.
+# is passed over. The archive stands in crates/NAME/out/libNAME.a then. It is for every x86-64: rt's default is a later one, and an archive cannot say at
+# its start that the processor lacks something.
 built() {
     all=$(($(below "$1" | wc -l) + 1))
     # rt's own end comes through a file: a pipe has the end of its last command only
     {
         ended=0
-        (cd "crates/$1" && TMPDIR=$(scratch) "$3" lib 2>&1) || ended=$?
+        (cd "crates/$1" && TMPDIR=$(scratch) "$3" lib --cpu x86-64 2>&1) || ended=$?
         echo "$ended" >"$2/ended"
     } | tee "$2/rt.out" | {
         # no awk: Debian's waits for more lines than one
@@ -105,6 +106,8 @@ module_of() {
     cp "$kit/bin/rt" "$kit/bin/rtlib.py" "$shadow/bin/"
     links "$tools" "$shadow/toolchain" bin
     links "$tools/bin" "$shadow/toolchain/bin" clang
+    # beside a kit stands what rt's checks in other copies of the repository kept, which it begins with; no verdict rests on it
+    ln -s "$(dirname "$kit")/rattle-kept" "$2/rattle-kept"
     cat >"$shadow/toolchain/bin/clang" <<WRAPPER
 #!/bin/sh
 # Keeps the LLVM module among the arguments, then compiles it as asked.
@@ -123,7 +126,8 @@ WRAPPER
     # an archive that is there already would be taken as it is, and no module made
     rm -f "crates/$1/out/lib$1.a"
     built "$1" "$2" "$shadow/bin/rt"
-    grep -q '^logic=proved ' "$2/rt.out" || die "rt lib did not say that $1 is proved"
+    # the last line is of the crate itself, those before it of what it stands on
+    tail -n 1 "$2/rt.out" | grep -q '^logic=proved ' || die "rt lib did not say that $1 is proved"
     [ -s "$2/module.bc" ] || die "the kit's compiler was given no module"
 
     x86_triple=x86_64-unknown-linux-gnu
