@@ -34,13 +34,14 @@ below() {
 }
 
 # built NAME WORK RT: has rt prove the crate and what it stands on, the lowest first, and tells how far it is. What was proved before and has not changed
-# is passed over. The archive stands in crates/NAME/out/libNAME.a then.
+# is passed over. The archive stands in crates/NAME/out/libNAME.a then. It is for every x86-64: rt's default is a later one, and an archive cannot say at
+# its start that the processor lacks something.
 built() {
     all=$(($(below "$1" | wc -l) + 1))
     # rt's own end comes through a file: a pipe has the end of its last command only
     {
         ended=0
-        (cd "crates/$1" && TMPDIR=$(scratch) "$3" lib 2>&1) || ended=$?
+        (cd "crates/$1" && TMPDIR=$(scratch) "$3" lib --cpu x86-64 2>&1) || ended=$?
         echo "$ended" >"$2/ended"
     } | tee "$2/rt.out" | {
         # no awk: Debian's waits for more lines than one
@@ -105,10 +106,13 @@ module_of() {
     cp "$kit/bin/rt" "$kit/bin/rtlib.py" "$shadow/bin/"
     links "$tools" "$shadow/toolchain" bin
     links "$tools/bin" "$shadow/toolchain/bin" clang
+    # beside a kit stands what rt's checks in other copies of the repository kept, which it begins with; no verdict rests on it
+    ln -s "$(dirname "$kit")/rattle-kept" "$2/rattle-kept"
     cat >"$shadow/toolchain/bin/clang" <<WRAPPER
 #!/bin/sh
-# Keeps the LLVM module among the arguments, then compiles it as asked.
+# Keeps the LLVM module among the arguments, and these, then compiles it as asked.
 set -eu
+printf '%s\\n' "\$@" >>'$2/words'
 for word in "\$@"; do
     case \$word in
     *.bc)
@@ -123,8 +127,13 @@ WRAPPER
     # an archive that is there already would be taken as it is, and no module made
     rm -f "crates/$1/out/lib$1.a"
     built "$1" "$2" "$shadow/bin/rt"
-    grep -q '^logic=proved ' "$2/rt.out" || die "rt lib did not say that $1 is proved"
+    # the last line is of the crate itself, those before it of what it stands on
+    tail -n 1 "$2/rt.out" | grep -q '^logic=proved ' || die "rt lib did not say that $1 is proved"
     [ -s "$2/module.bc" ] || die "the kit's compiler was given no module"
+
+    # what is compiled for other triples is compiled with the same switches
+    given=$(awk 'last == "-mllvm" { printf " %s", $0 } { last = $0 }' "$2/words")
+    [ "$given" = " $switches" ] || die "the kit gives its compiler other switches than are known:$given"
 
     x86_triple=x86_64-unknown-linux-gnu
     x86_layout=e-m:e-p270:32:32-p271:32:32-p272:64:64-i64:64-i128:128-f80:128-n8:16:32:64-S128
@@ -143,12 +152,13 @@ same_everywhere() {
         head -n 5 "$2/left" >&2
         die "the module still has what is x86-64's alone"
     fi
-    # a place that is not counted in bytes, or something in memory that is no plain number, pointer, row of bytes or result of two words of 64 bits, with
-    # its alignment beside it
+    # a place that is not counted in bytes, or something in memory that is no plain number, pointer, row of bytes or result of two of these, with its
+    # alignment beside it. The second of two stands at the next place that is aligned to its own size, in every layout.
     held='(i8|i16|i32|i64|float|double|ptr)'
+    two='\{ (i8|i16|i32|i64|ptr), (i8|i16|i32|i64|ptr) \}'
     if grep -E '(^|[ (])getelementptr ' "$2/plain.ll" | grep -vE ' getelementptr (inbounds |nuw |nusw )*i8, ptr ' >"$2/left" ||
         grep -E '(^|[ (])alloca ' "$2/plain.ll" | grep -vE " = alloca ($held|\[[0-9]+ x i8\]), align [0-9]+\$" >"$2/left" ||
-        grep -E '(^|[ (])load ' "$2/plain.ll" | grep -vE " = load ($held|\{ i64, i64 \}), ptr [^,]+, align [0-9]+(, ![^ ]+ ![0-9]+)*\$" >"$2/left" ||
+        grep -E '(^|[ (])load ' "$2/plain.ll" | grep -vE " = load ($held|$two), ptr [^,]+, align [0-9]+(, ![^ ]+ ![0-9]+)*\$" >"$2/left" ||
         grep -E '(^|[ (])store ' "$2/plain.ll" | grep -vE " store $held [^,]+, ptr [^,]+, align [0-9]+\$" >"$2/left"; then
         head -n 5 "$2/left" >&2
         die "the module leaves a size or an alignment to the data layout"
@@ -200,12 +210,19 @@ layout_of() {
     esac
 }
 
-# compiled TRIPLE OUT WORD..: the module of WORD.. by the kit's clang. No product and sum of floats become one operation; a clang that takes the module
-# for another triple's says so, which is an error here.
+# The kit's own switches for its clang, which leave out what its makers do not trust, in the kit's order; and what it has for AArch64 beside them.
+switches='-no-trap-after-noreturn -trap-unreachable -no-x86-call-frame-opt -disable-machine-licm -disable-postra-machine-licm -sink-common-insts=false'
+switches_aarch64='-aarch64-load-store-renaming=false'
+
+# compiled TRIPLE OUT WORD..: the module of WORD.. by the kit's clang, as the kit compiles. No product and sum of floats become one operation; a clang that
+# takes the module for another triple's says so, which is an error here.
 compiled() {
     triple_=$1
     out_=$2
     shift 2
+    for switch_ in $switches $switches_aarch64; do
+        set -- -mllvm "$switch_" "$@"
+    done
     "$clang" "--target=$triple_" -O3 -ffp-contract=off -fPIC -ffunction-sections -fdata-sections -Werror -o "$out_" "$@"
 }
 

@@ -53,17 +53,17 @@ fn same_numbers(place: &str, found: &Rows) {
     }
 }
 
-/// The rules by their numbers, as the definition has them: `numberOf rule.NAME = NUMBER`.
+/// The rules by their numbers, as the definition has them: `number_of rule.NAME = NUMBER`.
 fn table() -> Rows {
     let definition = read("crates/refusal/specs/Table.antt");
     let clauses = definition.lines().filter_map(|line| {
-        let (rule, number) = line.strip_prefix("numberOf rule.")?.split_once(" = ")?;
+        let (rule, number) = line.strip_prefix("number_of rule.")?.split_once(" = ")?;
         Some((number.parse().expect("a number"), rule.to_string()))
     });
     let table = rows("Table.antt", clauses);
     let written = definition
         .lines()
-        .filter(|line| line.starts_with("numberOf "));
+        .filter(|line| line.starts_with("number_of "));
     assert_eq!(table.len(), written.count(), "a clause of another form");
     assert!(!table.is_empty());
     table
@@ -99,9 +99,10 @@ fn named(lines: &str, before: &str) -> Vec<(u32, String)> {
 #[test]
 fn the_definition_has_words_for_each_rule() {
     let definition = read("crates/refusal/specs/Table.antt");
-    let mut above = "";
+    let (mut above, mut clauses) = ("", 0);
     for line in definition.lines() {
-        if line.starts_with("numberOf ") {
+        if line.starts_with("number_of ") {
+            clauses += 1;
             let words = above
                 .strip_prefix("-- ")
                 .is_some_and(|words| !words.is_empty());
@@ -109,6 +110,7 @@ fn the_definition_has_words_for_each_rule() {
         }
         above = line;
     }
+    assert_eq!(clauses, table().len());
 }
 
 #[test]
