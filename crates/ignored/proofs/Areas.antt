@@ -18,7 +18,8 @@ use Rattle.strings.specs.declared.Place.{Place}
 use Rattle.strings.specs.Strings.{offset, body, key_len, gap_len, after_key, frame_of, on_frame, step_of, on_step, strings_from}
 use Rattle.strings.specs.Strings.{strings_of, place_of, on_text, places_from, places_of, key_in, value_in}
 use Rattle.strings.specs.Paper.{end_told}
-use Rattle.strings.specs.Walks.{in_frame, next_fits, place_fits}
+use Rattle.strings.specs.Walks.{in_frame, next_fits}
+use Rattle.strings.proofs.Walks.{place_fits}
 use Rattle.strings.proofs.Walks.{next_bounds}
 use Rattle.ignored.specs.Areas.{SameAt, drop_long, front_same, offset_same, part_same, read_of, rest_same, used_from, used_of}
 

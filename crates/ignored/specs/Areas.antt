@@ -24,7 +24,8 @@ use Rattle.strings.specs.declared.Found.TheVariants.{Is}
 use Rattle.strings.specs.Strings.{offset, body, key_len, gap_len, after_key, frame_of, on_frame, step_of, on_step, strings_from}
 use Rattle.strings.specs.Strings.{strings_of, place_of, on_text, places_from, places_of, key_in, value_in, find_of, value_found}
 use Rattle.strings.specs.Paper.{end_told}
-use Rattle.strings.specs.Walks.{in_frame, next_fits, place_fits}
+use Rattle.strings.specs.Walks.{in_frame, next_fits}
+use Rattle.strings.proofs.Walks.{place_fits}
 use Rattle.strings.proofs.Walks.{next_bounds}
 
 -- what of a string's frame is read: an end mark's two bytes, the o bytes of a string and what is read behind it, all

@@ -24,7 +24,8 @@ use Rattle.chars.specs.Runs.{same, same_eq}
 use Rattle.note_line.specs.NoteLine.{line_len, line_ends, starts_fits}
 use Rattle.note.specs.Note.{lines_of}
 use Rattle.strings.specs.Strings.{frame_of, place_of, on_text, places_from, places_of, key_in, value_in}
-use Rattle.strings.specs.Walks.{Fits, place_fits}
+use Rattle.strings.specs.Walks.{Fits}
+use Rattle.strings.proofs.Walks.{place_fits}
 use Rattle.strings.specs.Spelled.{strs_in}
 use Rattle.head_words.specs.HeadWords.{high_first, room_of, count_of}
 use Rattle.head.specs.Head.{maximum}

@@ -13,7 +13,7 @@ use Rattle.text.specs.declared.Manner.{Manner}
 use Rattle.chars.specs.Runs.{same}
 use Rattle.text.specs.Manner.{named}
 use Rattle.strings.specs.Strings.{frame_of, place_of, on_text, places_from, places_of, key_in, PlaceIn, nth_of, find_of}
-use Rattle.strings.specs.Walks.{place_fits}
+use Rattle.strings.proofs.Walks.{place_fits}
 
 pub nth_none : (ss : List Place) (k : ℕ) → [] ≡ ss → Nothing ≡ nth_of ss k
 unfolding nth_of

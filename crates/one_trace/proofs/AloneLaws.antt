@@ -28,7 +28,6 @@ use Rattle.image.specs.ImageLaws.{file_told, head_passed, head_order, head_room,
 use Rattle.reader.specs.Questions.{no_trace, is_trace, trace_number, block_at}
 use Rattle.reader.specs.Leaves.{on_trace_lem}
 use Rattle.one_trace.specs.Alone.{own_checks, alone_of, block_alone, own_of, named_of}
-use Rattle.one_trace.specs.AloneLaws.{f}
 
 module _ (high : Bool) (f : List ℕ) (m k p : ℕ) (e : p ≡ pointer_of high f k) where
   own_chain : own_of high f m k ≡ asked trace.Refused (pointer_row (length f) k (32 + m) p) (block_answer high (head_at f p) (length f) k p)
@@ -48,29 +47,32 @@ module _ (high : Bool) (f : List ℕ) (m k p : ℕ) (e : p ≡ pointer_of high f
 
 module _ (xs : List ℕ) (n : ℕ) (z : ℤ) where
   module _ (long : bad_length (length xs) n ≡ false) where
+    abbrev f : List ℕ
+    f = take n xs
+
     chain : block_alone xs n z
-        ≡ asked trace.Refused (head_of Read (take 32 (f xs n z long)) (length (f xs n z long)))
-        (pick (not (is_trace z (count_of (f xs n z long)))) (trace.Refused no_trace) (own_of (high_first (f xs n z long)) (f xs n z long) (room_of (f xs n z long)) (trace_number z)))
+        ≡ asked trace.Refused (head_of Read (take 32 f) (length f))
+        (pick (not (is_trace z (count_of f))) (trace.Refused no_trace) (own_of (high_first f) f (room_of f) (trace_number z)))
     unfolding block_alone alone_of own_of
     chain =
         let k : ℕ = trace_number z in
-        let b : TraceAnswer = trace.Is (block_at (f xs n z long) k) in
-        let own : List Verdict = own_checks (high_first (f xs n z long)) (f xs n z long) (room_of (f xs n z long)) k (pointer_of (high_first (f xs n z long)) (f xs n z long) k) in
-        let rows : List Verdict = row (not (is_trace z (count_of (f xs n z long)))) NoTrace File 0 ∷ own in
-        rw long (asked_row trace.Refused false Length File 0 (head_of Read (take 32 (f xs n z long)) (length (f xs n z long)) ∷ rows) b
-        ∙ ap (λ (v : Verdict). asked trace.Refused v b) (first_next (head_of Read (take 32 (f xs n z long)) (length (f xs n z long))) rows)
-        ∙ then_asked trace.Refused (head_of Read (take 32 (f xs n z long)) (length (f xs n z long))) (first_of rows) b
-        ∙ ap (asked trace.Refused (head_of Read (take 32 (f xs n z long)) (length (f xs n z long)))) (asked_row trace.Refused (not (is_trace z (count_of (f xs n z long)))) NoTrace File 0 own b))
+        let b : TraceAnswer = trace.Is (block_at f k) in
+        let own : List Verdict = own_checks (high_first f) f (room_of f) k (pointer_of (high_first f) f k) in
+        let rows : List Verdict = row (not (is_trace z (count_of f))) NoTrace File 0 ∷ own in
+        rw long (asked_row trace.Refused false Length File 0 (head_of Read (take 32 f) (length f) ∷ rows) b
+        ∙ ap (λ (v : Verdict). asked trace.Refused v b) (first_next (head_of Read (take 32 f) (length f)) rows)
+        ∙ then_asked trace.Refused (head_of Read (take 32 f) (length f)) (first_of rows) b
+        ∙ ap (asked trace.Refused (head_of Read (take 32 f) (length f))) (asked_row trace.Refused (not (is_trace z (count_of f))) NoTrace File 0 own b))
 
-    pub alone_head : {r : Refusal} → head_answer Read (take 32 (f xs n z long)) (length (f xs n z long)) ≡ file.Refused r → trace.Refused r ≡ block_alone xs n z
+    pub alone_head : {r : Refusal} → head_answer Read (take 32 f) (length f) ≡ file.Refused r → trace.Refused r ≡ block_alone xs n z
     unfolding head_answer
-    alone_head {r} e = sym (chain ∙ rw (file_told (head_of Read (take 32 (f xs n z long)) (length (f xs n z long))) (file_block_of (take 32 (f xs n z long))) r e))
+    alone_head {r} e = sym (chain ∙ rw (file_told (head_of Read (take 32 f) (length f)) (file_block_of (take 32 f)) r e))
 
-    pub alone_named : {x : FileBlock} {a : TraceAnswer} → head_answer Read (take 32 (f xs n z long)) (length (f xs n z long)) ≡ file.Is x → a ≡ named_of (f xs n z long) x z
+    pub alone_named : {x : FileBlock} {a : TraceAnswer} → head_answer Read (take 32 f) (length f) ≡ file.Is x → a ≡ named_of f x z
         → a ≡ block_alone xs n z
     unfolding named_of
     alone_named {x} {a} e q =
         q
-        ∙ on_trace_lem (trace.Refused no_trace) (λ k. own_of x.high (f xs n z long) x.m k) z x.n
-        ∙ rw (← head_order Read (f xs n z long) x e, ← head_room Read (f xs n z long) x e, ← head_count Read (f xs n z long) x e)
-        (sym (chain ∙ rw (head_passed Read (f xs n z long) x e).0))
+        ∙ on_trace_lem (trace.Refused no_trace) (λ k. own_of x.high f x.m k) z x.n
+        ∙ rw (← head_order Read f x e, ← head_room Read f x e, ← head_count Read f x e)
+        (sym (chain ∙ rw (head_passed Read f x e).0))

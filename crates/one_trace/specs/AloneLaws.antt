@@ -46,7 +46,7 @@ module _ (xs : List ℕ) (n : ℕ) (z : ℤ) where
 
   -- behind row 1
   module _ (long : bad_length (length xs) n ≡ false) where
-    abbrev pub f : List ℕ
+    abbrev f : List ℕ
     f = take n xs
 
 -- ---- what these rows have shown of a trace that they let through

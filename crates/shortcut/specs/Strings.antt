@@ -26,7 +26,8 @@ use Rattle.strings.specs.declared.Step.TheVariants.{Next, Done, Bad}
 use Rattle.strings.specs.declared.Place.{Place}
 use Rattle.strings.specs.Strings.{offset, body, key_len, gap_len, frame_of, on_frame, step_of, place_of, on_text, places_from, places_of}
 use Rattle.strings.specs.Frames.{frame_short, frame_end, frame_small, frame_past}
-use Rattle.strings.specs.Walks.{in_frame, next_fits, place_fits, done_frame}
+use Rattle.strings.specs.Walks.{in_frame, next_fits, done_frame}
+use Rattle.strings.proofs.Walks.{place_fits}
 use Rattle.strings.proofs.Walks.{next_bounds}
 use Rattle.ignored.specs.Areas.{offset_same, part_same, front_same, rest_same, drop_long}
 use Rattle.until.specs.declared.Turn.{Turn}

@@ -23,7 +23,8 @@ use Rattle.note_line.specs.NoteLine.{starts, line_len, line_ends, starts_fits}
 use Rattle.note.specs.Note.{lines_of}
 use Rattle.strings.specs.Strings.{PlaceIn, frame_of, place_of, on_text, entry_of, places_from, places_of, nth_of, key_in}
 use Rattle.strings.specs.Strings.{value_in}
-use Rattle.strings.specs.Walks.{in_frame, place_next, place_stop, place_bounds}
+use Rattle.strings.specs.Walks.{in_frame, place_next, place_stop}
+use Rattle.strings.proofs.Walks.{place_bounds}
 use Rattle.strings.specs.Spelled.{strs_in}
 use Rattle.lines.specs.Lines.{string_line}
 use Rattle.string_lines.specs.StringLines.{lines_text, values_of, strings_text}

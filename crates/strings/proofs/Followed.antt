@@ -15,26 +15,32 @@ use Rattle.text.specs.declared.Manner.{Manner}
 use Rattle.strings.specs.Strings.{body, key_len, key_of, frame_of, judged_of, step_of, strings_from, on_text, places_from}
 use Rattle.strings.specs.Walks.{in_frame, next_fits, judged_clear, length_body, key_len_le}
 use Rattle.strings.proofs.Passed.{seen_key}
-use Rattle.strings.specs.Followed.{Followed, b, l}
+use Rattle.strings.specs.Followed.{Followed}
 
 module _ (how : Manner) (high : Bool) (t u : List ℕ) (p : Part) (f : List ℕ) (e : ℕ) where
   module _ (fits : e ≤ length f) (m at : ℕ) (prev : List ℕ) (o n : ℕ) (h : step_of how high t u p prev (part at e f) at ≡ Next o n) where
-    clears : (frame_of how high t (l how high t u p f e fits m at prev o n h) ≡ Text o) × (judged_of how u prev (b how high t u p f e fits m at prev o n h) ≡ Keyword n)
-    clears = next_fits how high t u p prev (l how high t u p f e fits m at prev o n h) at o n h
+    abbrev l : List ℕ
+    l = part at e f
 
-    long : key_len (b how high t u p f e fits m at prev o n h) ≡ n
-    long = (judged_clear how u prev (b how high t u p f e fits m at prev o n h) n clears.1).1
+    abbrev b : List ℕ
+    b = body t o l
 
-    own : key_of (b how high t u p f e fits m at prev o n h) ≡ part (at + 2) (at + 2 + n) f
+    clears : (frame_of how high t l ≡ Text o) × (judged_of how u prev b ≡ Keyword n)
+    clears = next_fits how high t u p prev l at o n h
+
+    long : key_len b ≡ n
+    long = (judged_clear how u prev b n clears.1).1
+
+    own : key_of b ≡ part (at + 2) (at + 2 + n) f
     unfolding body
     own =
-        let i = in_frame how high t (l how high t u p f e fits m at prev o n h) o clears.0 in
-        let s = length_body t o (l how high t u p f e fits m at prev o n h) i.low i.fit in
-        let k = key_len_le (b how high t u p f e fits m at prev o n h) in
+        let i = in_frame how high t l o clears.0 in
+        let s = length_body t o l i.low i.fit in
+        let k = key_len_le b in
         let g = long in
-        ap (λ (j : ℕ). take j (b how high t u p f e fits m at prev o n h)) long ∙ take-take n (o - length t - 2) (drop 2 (l how high t u p f e fits m at prev o n h)) (omega (arith, i.low)) ∙ seen_key how high t u p prev f e at o n fits h
+        ap (λ (j : ℕ). take j b) long ∙ take-take n (o - length t - 2) (drop 2 l) (omega (arith, i.low)) ∙ seen_key how high t u p prev f e at o n fits h
 
-    pub followed : strings_from how (suc m) high t u p prev (l how high t u p f e fits m at prev o n h) at ≡ Accepted → Followed how high t u p f e m at prev o n
+    pub followed : strings_from how (suc m) high t u p prev l at ≡ Accepted → Followed how high t u p f e m at prev o n
     unfolding strings_from places_from on_text
     followed q =
         let y = seen_key how high t u p prev f e at o n fits h in
@@ -43,5 +49,5 @@ module _ (how : Manner) (high : Bool) (t u : List ℕ) (p : Part) (f : List ℕ)
           places = rw (clears.0, part_drop o at e f);
           own_key = rw long;
           key = own;
-          clear = (judged_clear how u prev (b how high t u p f e fits m at prev o n h) n clears.1).0;
+          clear = (judged_clear how u prev b n clears.1).0;
         }

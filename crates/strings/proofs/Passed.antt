@@ -9,8 +9,8 @@ use Rattle.strings.specs.declared.Frame.TheVariants.{Text}
 use Rattle.strings.specs.declared.Step.TheVariants.{Next}
 use Rattle.text.specs.declared.Manner.{Manner}
 use Rattle.strings.specs.Strings.{body, key_len, frame_of, step_of, place_of}
-use Rattle.strings.specs.Walks.{in_frame, next_fits, judged_clear, place_fits}
-use Rattle.strings.proofs.Walks.{next_bounds}
+use Rattle.strings.specs.Walks.{in_frame, next_fits, judged_clear}
+use Rattle.strings.proofs.Walks.{next_bounds, place_fits}
 use Rattle.strings.specs.Passed.{Lies, seen_place}
 
 module _ (how : Manner) (high : Bool) (t u : List ℕ) (p : Part) (prev f : List ℕ) (e at o n : ℕ) (fits : e ≤ length f)

@@ -1,7 +1,7 @@
 -- Theorems on what specs/Walks defines. They stand here, as a wrong definition there is to be refused and not to be unread.
 -- Assumes nothing.
 use Rattle.std.proofs.Math.Path.{◌≡◌, refl}
-use Rattle.std.proofs.Common.{sym, ap, ◌∙◌}
+use Rattle.std.proofs.Common.{sym, ap, ◌∙◌, length-drop}
 use Rattle.std.specs.Prelude.{Bool, true, false, List, [], ◌∷◌, length, take, drop, ltb, eqb}
 use Prim.Native.Nat.{ℕ, zero, suc, ◌+◌, ◌-◌, ◌≤◌, ◌<◌}
 use native.Mathlib.Omega.{arith}
@@ -11,15 +11,17 @@ use Rattle.refusal.specs.Table.{refusal}
 use Rattle.refusal.specs.declared.Part.{Part}
 use Rattle.refusal.specs.declared.Rule.TheVariants.{StringOffset}
 use Rattle.refusal.specs.declared.Verdict.TheVariants.{Accepted, Refused}
-use Rattle.strings.specs.declared.Frame.TheVariants.{End, Broken}
+use Rattle.strings.specs.declared.Frame.TheVariants.{End, Text, Broken}
 use Rattle.strings.specs.declared.Step.TheVariants.{Next}
+use Rattle.strings.specs.declared.Place.{Place}
+use Rattle.strings.specs.declared.Entry.TheVariants.{At}
 use Rattle.text.specs.declared.Manner.{Manner}
 use Rattle.text.specs.Manner.{open_end}
 use Rattle.strings.specs.Frames.{no_offset}
-use Rattle.strings.specs.Strings.{body, key_len, frame_of}
+use Rattle.strings.specs.Strings.{body, key_len, after_key, frame_of}
 use Rattle.strings.specs.Strings.{on_frame, step_of, on_step, strings_from, place_of}
-use Rattle.strings.specs.Strings.{on_text, places_from}
-use Rattle.strings.specs.Walks.{in_frame, judged_clear, key_len_le, length_body, next_fits, over_of, walk_step}
+use Rattle.strings.specs.Strings.{on_text, entry_of, places_from, PlaceIn}
+use Rattle.strings.specs.Walks.{Fits, entry_text, gap_len_le, in_frame, judged_clear, key_len_le, length_body, next_fits, over_of, walk_step}
 
 pub next_bounds : (how : Manner) (high : Bool) (t u : List ℕ) (p : Part) (prev l : List ℕ) (at o n : ℕ) → step_of how high t u p prev l at ≡ Next o n
     → (0 < o) × (o ≤ length l) × (2 + n ≤ o)
@@ -69,6 +71,30 @@ walk_over how high t u p prev f e at (suc m) h = rw (part_none at e f h, no_fram
         (λ o n. strings_from how m high t u p (take n (drop 2 [])) (drop o []) (at + o))
     go true = refl
     go false = refl
+
+pub place_fits : (how : Manner) (high : Bool) (t l : List ℕ) (at o : ℕ) → frame_of how high t l ≡ Text o → Fits at l (place_of t o l at) o
+place_fits how high t l at o f =
+    let i = in_frame how high t l o f in
+    let low : 3 + length t ≤ o = i.low in
+    let m = key_len_le (body t o l) in
+    let g = gap_len_le (after_key (body t o l)) in
+    let d : length (after_key (body t o l)) ≡ length (body t o l) - key_len (body t o l) = length-drop (key_len (body t o l)) (body t o l) in
+    let s = length_body t o l low i.fit in
+    record { some = omega arith; within = i.fit; key = refl; inside = (omega arith, omega arith, omega arith, omega arith) }
+
+pub entry_fits : (how : Manner) (high : Bool) (t l : List ℕ) (at : ℕ) (s : Place) (o : ℕ) → entry_of how high t l at ≡ At s o → Fits at l s o
+entry_fits how high t l at s o e =
+    let b = entry_text how high t l at s o e in
+    rw b.1 (place_fits how high t l at o b.0)
+
+module _ (how : Manner) (high : Bool) (t f : List ℕ) (e at m : ℕ) (low : at < e) (fits : e ≤ length f) (enough : e - at ≤ m) where
+  pub place_bounds : (s : Place) (o : ℕ) → entry_of how high t (part at e f) at ≡ At s o
+      → (0 < o) × (at + o ≤ e) × PlaceIn e s
+  place_bounds s o h =
+      let b = entry_fits how high t (part at e f) at s o h in
+      let w : length (part at e f) ≡ e - at = length_part at e f fits in
+      let i = b.inside in
+      (b.some, omega (arith, b.within), (i.0, i.1, i.2, omega (arith, b.within, i.3)))
 
 pub place_over : (how : Manner) (high : Bool) (t f : List ℕ) (e at m : ℕ) → e ≤ at → [] ≡ places_from how m high t (part at e f) at
 unfolding places_from on_text over_of

@@ -31,10 +31,10 @@ pub record Followed (how : Manner) (high : Bool) (t u : List ℕ) (p : Part) (f 
 
 module _ (how : Manner) (high : Bool) (t u : List ℕ) (p : Part) (f : List ℕ) (e : ℕ) where
   module _ (fits : e ≤ length f) (m at : ℕ) (prev : List ℕ) (o n : ℕ) (h : step_of how high t u p prev (part at e f) at ≡ Next o n) where
-    abbrev pub l : List ℕ
+    abbrev l : List ℕ
     l = part at e f
 
-    abbrev pub b : List ℕ
+    abbrev b : List ℕ
     b = body t o l
 
   -- an area that was let through has no string that is refused

@@ -11,7 +11,7 @@ use Rattle.strings.specs.declared.Step.TheVariants.{Next}
 use Rattle.strings.specs.declared.Place.{Place}
 use Rattle.text.specs.declared.Manner.{Manner}
 use Rattle.strings.specs.Strings.{body, key_len, gap_len, frame_of, step_of, place_of}
-use Rattle.strings.specs.Walks.{in_frame, next_fits, judged_clear, place_fits}
+use Rattle.strings.specs.Walks.{in_frame, next_fits, judged_clear}
 
 -- the string of `size` bytes that was seen at `hit`, its keyword up to `gap`
 abbrev pub seen_place : List ℕ → List ℕ → ℕ → ℕ → ℕ → Place

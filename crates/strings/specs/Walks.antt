@@ -121,7 +121,7 @@ pub gap_len_le : (r : List ℕ) → gap_len r ≤ length r
 unfolding gap_len
 gap_len_le r = run_le blank r
 
-abbrev Walk : Manner → ℕ → Bool → List ℕ → List ℕ → Part → List ℕ → List ℕ → ℕ → Verdict
+abbrev pub Walk : Manner → ℕ → Bool → List ℕ → List ℕ → Part → List ℕ → List ℕ → ℕ → Verdict
 Walk how m high t u p prev l at = on_step (step_of how high t u p prev l at) (λ o n. strings_from how (m - 1) high t u p (take n (drop 2 l)) (drop o l) (at + o))
 
 pub walk_step : (how : Manner) (m : ℕ) (high : Bool) (t u : List ℕ) (p : Part) (prev l : List ℕ) (at : ℕ) → 0 < m
@@ -174,21 +174,6 @@ entry_text how high t l at s o e = go (frame_of how high t l) refl e
     go (Broken r) f h = let z : ◌≡◌ {A = ℕ} 0 1 = cc in absurd (omega arith)
     go (Text q) f h = let a : q ≡ o = cc in let b : place_of t q l at ≡ s = cc in (rw a at f, sym b ∙ ap (λ (j : ℕ). place_of t j l at) a)
 
-pub place_fits : (how : Manner) (high : Bool) (t l : List ℕ) (at o : ℕ) → frame_of how high t l ≡ Text o → Fits at l (place_of t o l at) o
-place_fits how high t l at o f =
-    let i = in_frame how high t l o f in
-    let low : 3 + length t ≤ o = i.low in
-    let m = key_len_le (body t o l) in
-    let g = gap_len_le (after_key (body t o l)) in
-    let d : length (after_key (body t o l)) ≡ length (body t o l) - key_len (body t o l) = length-drop (key_len (body t o l)) (body t o l) in
-    let s = length_body t o l low i.fit in
-    record { some = omega arith; within = i.fit; key = refl; inside = (omega arith, omega arith, omega arith, omega arith) }
-
-pub entry_fits : (how : Manner) (high : Bool) (t l : List ℕ) (at : ℕ) (s : Place) (o : ℕ) → entry_of how high t l at ≡ At s o → Fits at l s o
-entry_fits how high t l at s o e =
-    let b = entry_text how high t l at s o e in
-    rw b.1 (place_fits how high t l at o b.0)
-
 -- a turn of a question
 module _ (how : Manner) (high : Bool) (t f : List ℕ) (e at m : ℕ) (low : at < e) (fits : e ≤ length f) (enough : e - at ≤ m) where
   pub place_next : (s : Place) (o : ℕ) → entry_of how high t (part at e f) at ≡ At s o
@@ -216,11 +201,3 @@ module _ (how : Manner) (high : Bool) (t f : List ℕ) (e at m : ℕ) (low : at 
       go zero = refl
       go (suc j) = stops (frame_of how high t (part at e f)) (List Place) []
           (λ o. place_of t o (part at e f) at ∷ places_from how j high t (drop o (part at e f)) (at + o)) h
-
-  pub place_bounds : (s : Place) (o : ℕ) → entry_of how high t (part at e f) at ≡ At s o
-      → (0 < o) × (at + o ≤ e) × PlaceIn e s
-  place_bounds s o h =
-      let b = entry_fits how high t (part at e f) at s o h in
-      let w : length (part at e f) ≡ e - at = length_part at e f fits in
-      let i = b.inside in
-      (b.some, omega (arith, b.within), (i.0, i.1, i.2, omega (arith, b.within, i.3)))

@@ -21,7 +21,8 @@ use Rattle.strings.specs.declared.Step.TheVariants.{Next, Done, Bad}
 use Rattle.strings.specs.declared.Place.{Place}
 use Rattle.strings.specs.Strings.{on_frame, step_of, place_of, PlaceIn}
 use Rattle.strings.specs.Frames.{frame_short}
-use Rattle.strings.specs.Walks.{next_fits, place_fits}
+use Rattle.strings.specs.Walks.{next_fits}
+use Rattle.strings.proofs.Walks.{place_fits}
 use Rattle.strings.proofs.Walks.{next_bounds}
 use Rattle.strings.specs.Passed.{seen_place}
 use Rattle.strings.proofs.Passed.{seen_key, seen_place_lem}

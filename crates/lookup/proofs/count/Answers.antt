@@ -6,7 +6,8 @@ use native.Mathlib.Nat.{le_of_eq}
 use lib.ListN.{length}
 use Rattle.word.specs.Part.{part, length_part}
 use Rattle.strings.specs.Strings.{places_of, PlaceIn}
-use Rattle.strings.specs.Walks.{place_next, place_stop, place_bounds}
+use Rattle.strings.specs.Walks.{place_next, place_stop}
+use Rattle.strings.proofs.Walks.{place_bounds}
 use Rattle.strings.proofs.Walks.{place_over}
 use borrow.Author.Rules.{rules}
 use native.Mathlib.Omega.{arith}

@@ -5,7 +5,8 @@ use native.Mathlib.Nat.{le_of_eq}
 use lib.ListN.{length}
 use Rattle.word.specs.Part.{part, length_part}
 use Rattle.strings.specs.Strings.{places_of, PlaceIn}
-use Rattle.strings.specs.Walks.{place_next, place_stop, place_bounds}
+use Rattle.strings.specs.Walks.{place_next, place_stop}
+use Rattle.strings.proofs.Walks.{place_bounds}
 use Rattle.strings.proofs.Walks.{place_over}
 use Rattle.lookup.specs.Lists.{nth_none, nth_first, nth_later}
 use borrow.Author.Rules.{rules}

@@ -9,7 +9,8 @@ use lib.ListN.{length}
 use Rattle.word.specs.Part.{part, length_part}
 use Rattle.word.specs.Put.{length_put}
 use Rattle.strings.specs.Strings.{places_from, places_of, PlaceIn}
-use Rattle.strings.specs.Walks.{place_next, place_stop, place_bounds}
+use Rattle.strings.specs.Walks.{place_next, place_stop}
+use Rattle.strings.proofs.Walks.{place_bounds}
 use Rattle.strings.proofs.Walks.{place_over}
 use Rattle.places.specs.Numbers.{numbers_none, numbers_next, numbers_all}
 use borrow.Author.Rules.{rules}
