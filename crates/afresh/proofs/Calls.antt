@@ -44,7 +44,8 @@ module _ (high : Bool) (slots : ℕ) (sheet : List ℕ) where
   grows (x ∷ calls) ts xs n is = go (add_answer xs n x) refl (grows calls)
     where
       go : (w : Written) → add_answer xs n x ≡ w
-          → ((us : List Trace) (ys : List ℕ) (m : ℕ) → Holds high slots sheet us ys m → (Grew high slots sheet) (us ++ accepted_of ys m calls) ys m (after ys m calls))
+          → ((us : List Trace) (ys : List ℕ) (m : ℕ) → Holds high slots sheet us ys m
+          → (Grew high slots sheet) (us ++ accepted_of ys m calls) ys m (after ys m calls))
           → (Grew high slots sheet) (ts ++ accepted_of xs n (x ∷ calls)) xs n (after xs n (x ∷ calls))
       go (To end) h more =
           let g = more (ts ++ (x ∷ [])) (add_left xs n x) end (add_afresh high slots sheet ts xs n x is end h) in
@@ -60,7 +61,8 @@ module _ (high : Bool) (slots : ℕ) (sheet : List ℕ) where
       go (Refused r) h more = rw (after_refused xs n x calls r h, accepted_refused xs n x calls r h) (more ts xs n is)
 
 module _ (xs : List ℕ) (order slots : ℕ) (sheet : List ℕ) (e : ℕ) (to : start_answer xs order slots sheet ≡ To e) (calls : List Trace) where
-  pub start_grows : Grew (eqb order 1) slots sheet (accepted_of (start_left xs order slots sheet) e calls) xs e (after (start_left xs order slots sheet) e calls)
+  pub start_grows : Grew (eqb order 1) slots sheet (accepted_of (start_left xs order slots sheet) e calls) xs e
+      (after (start_left xs order slots sheet) e calls)
   start_grows =
       let ys = start_left xs order slots sheet in
       let g = grows (eqb order 1) slots sheet calls [] ys e (start_afresh xs order slots sheet e to) in

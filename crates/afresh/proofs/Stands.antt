@@ -104,7 +104,8 @@ module _ (high : Bool) (slots : ℕ) (sheet : List ℕ) (before : List Trace) (x
       let e = size_append slots sheet before (x ∷ behind-it) in
       let l = length_file high slots sheet whole h all in (
         file_pointer (omega arith),
-        here_stands high (file_of high slots sheet whole) (file_size slots sheet before) x (blocks high behind-it) (file_here h g) (omega arith) gx (omega arith),
+        here_stands high (file_of high slots sheet whole) (file_size slots sheet before) x (blocks high behind-it)
+            (file_here h g) (omega arith) gx (omega arith),
       )
 
 split_stands : (high : Bool) (slots : ℕ) (sheet : List ℕ) (ts before : List Trace) (x : Trace) (behind-it : List Trace) (k : ℕ)

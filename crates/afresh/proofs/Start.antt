@@ -27,7 +27,8 @@ use Rattle.afresh.specs.FileLaws.{size_low, file_fronted}
 use Rattle.afresh.proofs.Step.{start_afresh}
 use Rattle.afresh.proofs.Kept.{file_accepted}
 
-no_file : (f : List ℕ) → ((get_or f 0 0 ≡ 85) × (get_or f 1 0 ≡ 58)) ⊎ ((get_or f 0 0 ≡ 58) × (get_or f 1 0 ≡ 85)) → revision_of f ≡ 1 → bad_room (room_of f) ≡ false
+no_file : (f : List ℕ) → ((get_or f 0 0 ≡ 85) × (get_or f 1 0 ≡ 58)) ⊎ ((get_or f 0 0 ≡ 58) × (get_or f 1 0 ≡ 85))
+    → revision_of f ≡ 1 → bad_room (room_of f) ≡ false
     → count_of f ≡ 0 → image_of Strict Read f ≡ Refused (refusal TraceCount File 6)
 unfolding image_of head_of and_then
 no_file f a b c d =

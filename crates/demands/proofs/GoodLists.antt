@@ -1,6 +1,7 @@
 -- Theorems on what specs/GoodLists defines. They stand here, as a wrong definition there is to be refused and not to be unread.
 -- Assumes nothing.
-use Rattle.std.specs.Prelude.{◌≡◌, refl, Bool, true, false, List, [], ◌∷◌, ◌++◌, ◌↔◌, ◌⊎◌, ℕ, zero, suc, ◌+◌, ◌%◌, ◌≤◌, ◌<◌, ℤ, pos, negsuc, nat_abs, length, get_or, eqb}
+use Rattle.std.specs.Prelude.{◌≡◌, refl, Bool, true, false, List, [], ◌∷◌, ◌++◌, ◌↔◌, ◌⊎◌, ℕ, zero, suc, ◌+◌, ◌%◌}
+use Rattle.std.specs.Prelude.{◌≤◌, ◌<◌, ℤ, pos, negsuc, nat_abs, length, get_or, eqb}
 use Rattle.std.proofs.Common.{sym, ap, ◌∙◌, inl, inr, ⊎_elim, arith, le-ltb, leb-false, eq-eqb, eqb-true}
 use Rattle.std.specs.Int.Signed.{mag}
 use Rattle.std.proofs.lemmas.Bool.{lt-leb}
@@ -23,7 +24,9 @@ use Rattle.layout.specs.Layout.{unfit}
 use Rattle.afresh.specs.FileOf.{Measures, Good, EachGood, EachHas, Together}
 use Rattle.afresh.proofs.FileLaws.{length_file}
 use Rattle.afresh.specs.Afresh.{Writable}
-use Rattle.demands.specs.GoodLists.{AllNumbered, GoodList, GoodSheet, GoodTrace, GoodTraces, Held, Held.five, Held.four, Held.one, Held.three, Held.two, NoneNumbered, Numbered, Without, number_line}
+use Rattle.demands.specs.GoodLists.{AllNumbered, GoodList, GoodSheet, GoodTrace, GoodTraces, Held, Held.five}
+use Rattle.demands.specs.GoodLists.{Held.four, Held.one, Held.three, Held.two, NoneNumbered, Numbered, Without}
+use Rattle.demands.specs.GoodLists.{number_line}
 
 sheet_good : (sheet : List ℕ) → Measures sheet → GoodSheet sheet
 sheet_good sheet m =

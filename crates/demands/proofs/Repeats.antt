@@ -78,7 +78,8 @@ module _ (key : List ℕ) (two : Geometry key) where
       (ap (joined u) (lines_read [] (each_line key vs) ls) ∙ no_note u vs, λ small. (lines_are_let_through t u (each_line key vs) ls small).0)
 
 sized : (length (area_of false nul line_feed (sheet_of phones)) ≡ 140) × (trace_size nul line_feed group ≡ 180) × (file_size 1 units (group ∷ []) ≡ 236)
-unfolding sheet_of start_size area_size sheet_strings sheet_lines sheet_lines_from line_len line_key_len run joined same text_size room needed count file_size sizes
+unfolding sheet_of start_size area_size sheet_strings sheet_lines sheet_lines_from line_len line_key_len run joined
+    same text_size room needed count file_size sizes
 sized = (length_area false nul line_feed (sheet_of phones), refl, refl)
 
 each_good : Each GoodValue positions

@@ -43,7 +43,8 @@ cases_upper : (b c : ℕ) → Capital b → (c ≡ b) ⊎ (c ≡ b + 32) → upp
 cases_upper b c h e =
     ⊎_elim
     (λ (q : c ≡ b). (let n : leb 97 c ≡ false = lt-leb 97 c (omega arith) in rw n q))
-    (λ (q : c ≡ b + 32). (let l : leb 97 c ≡ true = le-leb 97 c (omega arith) in let m : leb c 122 ≡ true = le-leb c 122 (omega arith) in rw (l, m) (omega arith)))
+    (λ (q : c ≡ b + 32). (let l : leb 97 c ≡ true = le-leb 97 c (omega arith) in let m : leb c 122
+    ≡ true = le-leb c 122 (omega arith) in rw (l, m) (omega arith)))
     e
 
 uncons : {b c : ℕ} {bs cs : List ℕ} → c ∷ cs ≡ b ∷ bs → (c ≡ b) × (cs ≡ bs)

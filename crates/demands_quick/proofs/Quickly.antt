@@ -58,7 +58,9 @@ use Rattle.quick.specs.Quick.{quick_value, quick_read, quick_number, quick_doubl
 use Rattle.quick.specs.Quick.{quick_integers, quick_bits}
 use Rattle.demands_rows.specs.FileRows.{text_first, ends_first, pick_first, pointer_test, block_first, head_first}
 use Rattle.demands_rows.specs.QuestionRows.{ruled_rows}
-use Rattle.demands_quick.specs.Quickly.{count_refusal, double_refusal, location_refusal, number_refusal, quick_rows, row_of32, string_refusal, strings_rows, trace_refusal, walk_refusal, walk_rows}
+use Rattle.demands_quick.specs.Quickly.{count_refusal, double_refusal, location_refusal, number_refusal, quick_rows}
+use Rattle.demands_quick.specs.Quickly.{row_of32, string_refusal, strings_rows, trace_refusal, walk_refusal}
+use Rattle.demands_quick.specs.Quickly.{walk_rows}
 
 -- ---- the rows of a walk
 
@@ -108,7 +110,8 @@ module _ (look : ℕ → List ℕ → Turn) where
       let l : List ℕ = part (trace_at f k + 32) (data_at (high_first f) f (trace_at f k)) f in
       let x : Walked = walk_from look (length l) (high_first f) (string_end f) (line_end f) (Trace k) 0 [] l (trace_at f k + 32) in
       outside (eqb (length l) 0) x
-      ∙ pick_first (eqb (length l) 0) (walk_refusal x) (walk_rows look (length l) (high_first f) (string_end f) (line_end f) (Trace k) 0 [] l (trace_at f k + 32))
+      ∙ pick_first (eqb (length l) 0) (walk_refusal x)
+      (walk_rows look (length l) (high_first f) (string_end f) (line_end f) (Trace k) 0 [] l (trace_at f k + 32))
       (walk_first (length l) (high_first f) (string_end f) (line_end f) (Trace k) 0 [] l (trace_at f k + 32))
     where
       outside : (w : Bool) (y : Walked) → walk_refusal (pick w (walked.Over 0) y) ≡ pick w Accepted (walk_refusal y)
@@ -200,7 +203,8 @@ pub strings_answer_first : (xs : List ℕ) (n : ℕ) (z : ℤ) (s : ℕ)
 unfolding quick_strings quick_count quick_walk and_then
 strings_answer_first xs n z s =
     outside (alone_of xs n z) (walk_in to_end f k)
-    ∙ quickly_first (λ v. v) Refused (λ l i. strings_verdict (counted_by (walk_in to_end l i)) s) (λ r. refl) xs n z (strings_rows to_end f k ++ (row_of32 f k s ∷ []))
+    ∙ quickly_first (λ v. v) Refused (λ l i. strings_verdict (counted_by (walk_in to_end l i)) s) (λ r. refl) xs n z
+    (strings_rows to_end f k ++ (row_of32 f k s ∷ []))
     (own (walk_in to_end f k) refl ∙ ap (λ (v : Verdict). and_then v (row_of32 f k s)) (strings_first to_end f k)
     ∙ ap (and_then (first_of (strings_rows to_end f k))) (first_one (row_of32 f k s)) ∙ sym (first_more (strings_rows to_end f k) (row_of32 f k s ∷ [])))
   where
@@ -228,7 +232,8 @@ unfolding and_then
 read_first {A} refuses bad read b xs n z key =
     outside (quick_find xs n z key) (read (quick_value xs n z key))
     ∙ ap (λ (v : Verdict). and_then v (refuses (read (quick_value xs n z key)))) (quick_answers_first xs n z key)
-    ∙ ap (and_then (first_of (quick_rows xs n z (strings_rows (by_key key) (take n xs) (trace_number z))))) (first_one (refuses (read (quick_value xs n z key))))
+    ∙ ap (and_then (first_of (quick_rows xs n z (strings_rows (by_key key) (take n xs) (trace_number z)))))
+    (first_one (refuses (read (quick_value xs n z key))))
     ∙ sym (first_more (quick_rows xs n z (strings_rows (by_key key) (take n xs) (trace_number z))) (refuses (read (quick_value xs n z key)) ∷ []))
   where
     outside : (s : StringAnswer) (x : A) → refuses (on_string bad s x) ≡ and_then (string_refusal s) (refuses x)
@@ -266,7 +271,8 @@ pub bits_answer_first : (xs : List ℕ) (n : ℕ) (z : ℤ) (s c : ℕ)
     → quick_bits xs n z s c ≡ first_of (quick_rows xs n z (rows_at File 0 (bits_rows (block_at (take n xs) (trace_number z)) s c)))
 unfolding quick_bits bits_verdict
 bits_answer_first xs n z s c =
-    quickly_first (λ v. v) Refused (λ f k. bits_verdict (block_at f k) s c) (λ r. refl) xs n z _ (ruled_rows (bits_rows (block_at (take n xs) (trace_number z)) s c))
+    quickly_first (λ v. v) Refused (λ f k. bits_verdict (block_at f k) s c) (λ r. refl) xs n z _
+    (ruled_rows (bits_rows (block_at (take n xs) (trace_number z)) s c))
 
 -- what a list of rows refuses is met in it, behind none that is met
 pub quick_refuses_by_the_first : (xs : List ℕ) (n : ℕ) (z : ℤ) (key : List ℕ) (r : Refusal)

@@ -24,9 +24,11 @@ start_size_answers_where_none order slots sheet =
 pub add_size_refuses_by_the_first : (xs : List ℕ) (n : ℕ) (sheet : List ℕ) (code s : ℕ) (r : Refusal)
     → (add_needs xs n sheet code s ≡ Refused r) ↔ Met (add_size_rows xs n sheet code s) r
 add_size_refuses_by_the_first xs n sheet code s =
-    (writes (add_size_rows xs n sheet code s) (length_for (take n xs) n sheet code s) (add_needs xs n sheet code s) (add_size_answers_first xs n sheet code s)).0
+    (writes (add_size_rows xs n sheet code s) (length_for (take n xs) n sheet code s) (add_needs xs n sheet code s)
+    (add_size_answers_first xs n sheet code s)).0
 
 pub add_size_answers_where_none : (xs : List ℕ) (n : ℕ) (sheet : List ℕ) (code s : ℕ)
     → (add_needs xs n sheet code s ≡ To (length_for (take n xs) n sheet code s)) ↔ NoneMet (add_size_rows xs n sheet code s)
 add_size_answers_where_none xs n sheet code s =
-    (writes (add_size_rows xs n sheet code s) (length_for (take n xs) n sheet code s) (add_needs xs n sheet code s) (add_size_answers_first xs n sheet code s)).1
+    (writes (add_size_rows xs n sheet code s) (length_for (take n xs) n sheet code s) (add_needs xs n sheet code s)
+    (add_size_answers_first xs n sheet code s)).1

@@ -190,11 +190,13 @@ module _ {xs : List ℕ} {n : ℕ} {x : Trace} {end : ℕ} (by : Bytes xs) (h : 
       ∙ sym (found_value f (find_of Strict f (places_in Strict f a e) key))) z o
       ∙ sym (value_on f (area_asked f z) no_trace _))
 
-  pub number_answer_kept : (z : ℤ) (key : List ℕ) → Old z (count_of (take n xs)) → number_answer Strict (grown xs n x) end z key ≡ number_answer Strict xs n z key
+  pub number_answer_kept : (z : ℤ) (key : List ℕ) → Old z (count_of (take n xs))
+      → number_answer Strict (grown xs n x) end z key ≡ number_answer Strict xs n z key
   unfolding number_answer
   number_answer_kept z key o = rw (find_answer_kept z key o, value_answer_kept z key o)
 
-  pub double_answer_kept : (z : ℤ) (key : List ℕ) → Old z (count_of (take n xs)) → double_answer Strict (grown xs n x) end z key ≡ double_answer Strict xs n z key
+  pub double_answer_kept : (z : ℤ) (key : List ℕ) → Old z (count_of (take n xs))
+      → double_answer Strict (grown xs n x) end z key ≡ double_answer Strict xs n z key
   unfolding double_answer
   double_answer_kept z key o = rw (find_answer_kept z key o, value_answer_kept z key o)
 
@@ -216,7 +218,8 @@ module _ {xs : List ℕ} {n : ℕ} {x : Trace} {end : ℕ} (by : Bytes xs) (h : 
       rw (still, taken) (on_trace_lem w (file_some xs n taken) _ _ _ (λ k l. bits_rows_kept w k s c l) z o)
 
   -- and what is left in the lent rows
-  pub integers_left_kept : (z : ℤ) (row : List ℤ) → Old z (count_of (take n xs)) → integers_left Strict (grown xs n x) end z row ≡ integers_left Strict xs n z row
+  pub integers_left_kept : (z : ℤ) (row : List ℤ) → Old z (count_of (take n xs))
+      → integers_left Strict (grown xs n x) end z row ≡ integers_left Strict xs n z row
   unfolding integers_left
   integers_left_kept z row o =
       let w = grown_grows by h in

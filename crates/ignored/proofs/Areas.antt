@@ -27,7 +27,8 @@ use Rattle.ignored.specs.Areas.{SameAt, drop_long, front_same, offset_same, part
 
 -- a frame is told by the length that is left, the offset and the bytes before the offset's end
 frame_same : (high : Bool) (t l r : List ℕ) → length l ≡ length r → offset high l ≡ offset high r
-    → part (offset high l - length t) (offset high l) l ≡ part (offset high l - length t) (offset high l) r → frame_of Strict high t l ≡ frame_of Strict high t r
+    → part (offset high l - length t) (offset high l) l ≡ part (offset high l - length t) (offset high l) r
+    → frame_of Strict high t l ≡ frame_of Strict high t r
 unfolding frame_of
 frame_same high t l r n o p = rw (n, p, o)
 
@@ -116,7 +117,8 @@ module _ (high : Bool) (t : List ℕ) where
           ≡ on_text (frame_of Strict high t r) [] (λ o. place_of t o r at ∷ places_from Strict m high t (drop o r) (at + o))
       go End f q again = rw (f, end_same high t l r n f q)
       go (Broken b) f q again =
-          ap (λ (x : List ℕ). on_text (frame_of Strict high t x) [] (λ o. place_of t o x at ∷ places_from Strict m high t (drop o x) (at + o))) (all_same l r n q)
+          ap (λ (x : List ℕ). on_text (frame_of Strict high t x) []
+          (λ o. place_of t o x at ∷ places_from Strict m high t (drop o x) (at + o))) (all_same l r n q)
       go (Text o) f q again =
           let g = front_same o (o + used_from m high t (drop o l)) l r (omega arith) q in
           let b = body_same high t l r n o g in

@@ -33,7 +33,9 @@ use Rattle.strings.specs.Strings.{places_of, find_of, found, value_found}
 use Rattle.channel.specs.Channel.{channel_number}
 use Rattle.ignored.specs.Areas.{SameAt, find_same, value_same}
 use Rattle.ignored.proofs.Areas.{strings_same, places_same, texts_same}
-use Rattle.ignored.specs.Images.{Alike, AlikeHead, AlikeStrings, AlikeTrace, file_front, front_byte, head_room, head_traces, head_word, of_head, part_long, same_block, same_code, same_count, same_data, same_end, same_mark, same_order, same_pointer, same_room, same_traces}
+use Rattle.ignored.specs.Images.{Alike, AlikeHead, AlikeStrings, AlikeTrace, file_front, front_byte, head_room}
+use Rattle.ignored.specs.Images.{head_traces, head_word, of_head, part_long, same_block, same_code, same_count}
+use Rattle.ignored.specs.Images.{same_data, same_end, same_mark, same_order, same_pointer, same_room, same_traces}
 
 module _ {f g : List ℕ} (a : AlikeHead f g) where
   head_revision : revision_of f ≡ revision_of g
@@ -46,7 +48,17 @@ module _ {f g : List ℕ} (a : AlikeHead f g) where
   head_same : (purpose : Purpose) (end : ℕ) → head_of purpose f end ≡ head_of purpose g end
   unfolding head_of good_terminator
   head_same purpose end =
-      rw ((front_byte a) 0 (omega arith), (front_byte a) 1 (omega arith), head_revision, (head_room a), (head_traces a), head_size, a.string_end_lem, a.line_size, a.line_end_lem)
+      rw (
+        (front_byte a) 0 (omega arith),
+        (front_byte a) 1 (omega arith),
+        head_revision,
+        (head_room a),
+        (head_traces a),
+        head_size,
+        a.string_end_lem,
+        a.line_size,
+        a.line_end_lem,
+      )
 
 -- a front of a part is the part of a front
 take_swap : (i j : ℕ) (l : List ℕ) → take i (take j l) ≡ take j (take i l)

@@ -129,7 +129,8 @@ module _ {f g : List ℕ} (a : Alike f g) where
       integers_alike : samples_of f k ≡ samples_of g k
       unfolding samples_in data_of trace_block_of end_at
       integers_alike =
-          samples_same (code_at f k) (high_first f) (data_of f k) (block a ok k low) (count_at f k) (a.traces k low).samples (trace_blocked Strict f ok k low).groups
+          samples_same (code_at f k) (high_first f) (data_of f k) (block a ok k low) (count_at f k)
+          (a.traces k low).samples (trace_blocked Strict f ok k low).groups
           ∙ rw (code_same k low, count_same k low, end_same k low, begin_same k low, same_order a)
 
       patterns_alike : patterns_of f k ≡ patterns_of g k

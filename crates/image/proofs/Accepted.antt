@@ -40,7 +40,9 @@ use Rattle.block.specs.BlockLaws.{pointer_accepts, block_accepts}
 use Rattle.file_length.specs.FileLength.{long_enough, length_accepts}
 use Rattle.image.specs.Keeps.{trace_at, end_before, strings_end, Strings, GoodChannel, KeepsTerminator, KeepsTrace}
 use Rattle.image.specs.Keeps.{Keeps}
-use Rattle.image.specs.Accepted.{Filled, Traced, Walked, all_or_none, as_first, before_next, channel_of, channel_spelled, image_headed, image_strings, image_traced, kept_ends, shown, terminator_good, unmet, with_of}
+use Rattle.image.specs.Accepted.{Filled, Traced, Walked, all_or_none, as_first, before_next, channel_of}
+use Rattle.image.specs.Accepted.{channel_spelled, image_headed, image_strings, image_traced, kept_ends, shown}
+use Rattle.image.specs.Accepted.{terminator_good, unmet, with_of}
 
 -- ---- an area
 area_kept : (how : Manner) (f : List ℕ) (whose : Part) (a e : ℕ) → LineEnd (line_end f) → Bytes f
@@ -71,13 +73,15 @@ module _ (how : Manner) (f : List ℕ) (k : ℕ) (ss : List Str) (low : 32 ≤ b
       let c = (channel_spelled how f k ss low fits s) in
       rw (c.0, c.1) (go (asks_channels how) h)
     where
-      good : (has_key how ss channel_number ≡ with) × GoodChannel how ss → bad_channel with (has_key how ss channel_number) (value_of_key how ss channel_number) ≡ false
+      good : (has_key how ss channel_number ≡ with) × GoodChannel how ss
+          → bad_channel with (has_key how ss channel_number) (value_of_key how ss channel_number) ≡ false
       good g =
           channel_kept with (has_key how ss channel_number) (value_of_key how ss channel_number)
           (g.0, λ has. (let n = g.1 has in rw (counts (value_of_key how ss channel_number) n.0 n.1) n.1.least))
 
       go : (w : Bool) → (w ≡ true → (has_key how ss channel_number ≡ with) × GoodChannel how ss)
-          → row (w && bad_channel with (has_key how ss channel_number) (value_of_key how ss channel_number)) ChannelNumber (Trace k) (trace_at f k + 32) ≡ Accepted
+          → row (w && bad_channel with (has_key how ss channel_number) (value_of_key how ss channel_number))
+          ChannelNumber (Trace k) (trace_at f k + 32) ≡ Accepted
       go false q = refl
       go true q = rw (good (q refl))
 

@@ -90,11 +90,15 @@ module _ (xs : List ℕ) (n : ℕ) (ok : check_of Strict Read xs n ≡ Accepted)
 
   pub count_alike : (z : ℤ) → count_answer Lenient xs n z ≡ count_answer Strict xs n z
   unfolding count_answer
-  count_alike z = rw (ok, loose) (on_area_lem (area_asked (f xs n ok) z) _ _ _ (λ a e h. ap (λ (ps : List Place). count.Is (length ps)) (places_in_lem Lenient (f xs n ok) a e)))
+  count_alike z = rw (ok, loose)
+      (on_area_lem (area_asked (f xs n ok) z) _ _ _
+      (λ a e h. ap (λ (ps : List Place). count.Is (length ps)) (places_in_lem Lenient (f xs n ok) a e)))
 
   pub nth_alike : (z : ℤ) (i : ℕ) → nth_answer Lenient xs n z i ≡ nth_answer Strict xs n z i
   unfolding nth_answer
-  nth_alike z i = rw (ok, loose) (on_area_lem (area_asked (f xs n ok) z) _ _ _ (λ a e h. ap (λ (ps : List Place). there (nth_of ps i)) (places_in_lem Lenient (f xs n ok) a e)))
+  nth_alike z i = rw (ok, loose)
+      (on_area_lem (area_asked (f xs n ok) z) _ _ _
+      (λ a e h. ap (λ (ps : List Place). there (nth_of ps i)) (places_in_lem Lenient (f xs n ok) a e)))
 
   pub find_alike : (z : ℤ) (key : List ℕ) → find_answer Lenient xs n z key ≡ find_answer Strict xs n z key
   unfolding find_answer
@@ -126,7 +130,8 @@ module _ (xs : List ℕ) (n : ℕ) (ok : check_of Strict Read xs n ≡ Accepted)
       × (strings_left Lenient xs n z row ≡ strings_left Strict xs n z row)
   unfolding strings_answer strings_left numbers_in
   strings_alike z row =
-      let numbers : on_area (area_asked (f xs n ok) z) [] (λ a e. numbers_of (places_in Lenient (f xs n ok) a e)) ≡ on_area (area_asked (f xs n ok) z) [] (λ a e. numbers_of (places_in Strict (f xs n ok) a e)) =
+      let numbers : on_area (area_asked (f xs n ok) z) [] (λ a e. numbers_of (places_in Lenient (f xs n ok) a e))
+      ≡ on_area (area_asked (f xs n ok) z) [] (λ a e. numbers_of (places_in Strict (f xs n ok) a e)) =
       on_area_lem (area_asked (f xs n ok) z) [] _ _ (λ a e h. ap numbers_of (places_in_lem Lenient (f xs n ok) a e)) in
       (rw (count_alike z), rw (count_alike z, numbers))
 

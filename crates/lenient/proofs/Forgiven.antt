@@ -43,7 +43,8 @@ use Rattle.file_length.specs.FileLength.{bad_length}
 use Rattle.image.specs.Image.{filled_checks, rest_of, image_of, check_of}
 use Rattle.image.specs.Keeps.{trace_at, strings_end}
 use Rattle.lenient.specs.Eased.{Eased, eased_same, forgiven, eased_then, eased_next, eased_pick, eased_more}
-use Rattle.lenient.specs.Forgiven.{EasedText, Forgiven, Forgiven.any_order, Forgiven.no_mark, Forgiven.small_letters, ForgivenIn, ForgivenIn.of_channels, ForgivenIn.of_strings, Of, area_in, frame_any}
+use Rattle.lenient.specs.Forgiven.{EasedText, Forgiven, Forgiven.any_order, Forgiven.no_mark, Forgiven.small_letters}
+use Rattle.lenient.specs.Forgiven.{ForgivenIn, ForgivenIn.of_channels, ForgivenIn.of_strings, Of, area_in, frame_any}
 
 -- what is forgiven of the strings behind a string is forgiven of all
 later : (high : Bool) (t l : List ℕ) (at o : ℕ) (r : Refusal) → o ≤ length l → Forgiven high t (drop o l) (at + o) r → Forgiven high t l at r
@@ -152,7 +153,9 @@ module _ (f : List ℕ) where
       eased_next _ _ (eased_same _)
       (eased_next _ _ (eased_same _)
       (eased_next _ _
-      (eased_more (in_part f (Trace k) _ _ refl refl) (area_eased (high_first f) (string_end f) u f (Trace k) (trace_at f k + 32) (data_at (high_first f) f (trace_at f k))))
+      (eased_more (in_part f (Trace k) _ _ refl refl)
+      (area_eased (high_first f) (string_end f) u f (Trace k) (trace_at f k + 32)
+      (data_at (high_first f) f (trace_at f k))))
       (eased_next _ _ (channel_eased k (trace_at f k) (bad k)) (eased_same (first_of [])))))
     where
       -- 34 of the trace k
@@ -162,7 +165,8 @@ module _ (f : List ℕ) where
           (value_found f (channel_at Strict (high_first f) (string_end f) f (trace_at f k)))
 
   traces_eased : (u : List ℕ) (left k prev : ℕ)
-      → Eased (ForgivenIn f) (traces_from Strict (high_first f) (string_end f) u f left k prev) (traces_from Lenient (high_first f) (string_end f) u f left k prev)
+      → Eased (ForgivenIn f) (traces_from Strict (high_first f) (string_end f) u f left k prev)
+      (traces_from Lenient (high_first f) (string_end f) u f left k prev)
   unfolding traces_from
   traces_eased u zero k prev = eased_same Accepted
   traces_eased u (suc left) k prev =

@@ -153,7 +153,8 @@ rest_gives high t u f m n =
 
 image_gives : (purpose : Purpose) (f : List ℕ) → Gives (image_of Lenient purpose f)
 unfolding image_of
-image_gives purpose f = gives_then _ _ (head_gives purpose (take 32 f) (length f)) (rest_gives (high_first f) (string_end f) (line_end f) f (room_of f) (count_of f))
+image_gives purpose f = gives_then _ _ (head_gives purpose (take 32 f) (length f))
+    (rest_gives (high_first f) (string_end f) (line_end f) f (room_of f) (count_of f))
 
 pub check_gives : (purpose : Purpose) (xs : List ℕ) (n : ℕ) → Gives (check_of Lenient purpose xs n)
 unfolding check_of

@@ -1,7 +1,9 @@
 -- Theorems on what specs/Note defines. They stand here, as a wrong definition there is to be refused and not to be unread.
 -- Assumes nothing.
-use Rattle.std.specs.Prelude.{◌≡◌, refl, Bool, true, false, not, ◌&&◌, ◌||◌, List, [], ◌∷◌, ◌++◌, ℕ, zero, suc, ◌+◌, ◌-◌, ◌≤◌, ◌<◌, length, get_or, take, drop, leb, eqb}
-use Rattle.std.proofs.Common.{sym, ap, ◌∙◌, append_assoc, le_refl, lt_of_not-le, arith, length-append, length-drop, take-append-drop, take_all, drop-drop, leb-false, le-leb, eqb-true, ne_eqb}
+use Rattle.std.specs.Prelude.{◌≡◌, refl, Bool, true, false, not, ◌&&◌, ◌||◌, List, [], ◌∷◌, ◌++◌, ℕ, zero, suc, ◌+◌}
+use Rattle.std.specs.Prelude.{◌-◌, ◌≤◌, ◌<◌, length, get_or, take, drop, leb, eqb}
+use Rattle.std.proofs.Common.{sym, ap, ◌∙◌, append_assoc, le_refl, lt_of_not-le, arith, length-append, length-drop}
+use Rattle.std.proofs.Common.{take-append-drop, take_all, drop-drop, leb-false, le-leb, eqb-true, ne_eqb}
 use Rattle.std.proofs.Math.Decide.{dec_le}
 use Rattle.std.proofs.Math.Seq.{take-append_seam, drop-append-add, drop-append_seam}
 use Rattle.std.proofs.lemmas.Bool.{lt-leb, eqb-false}

@@ -193,7 +193,8 @@ module _ (xs : List ℕ) (n : ℕ) (ok : check_of Strict Read xs n ≡ Accepted)
     unfolding quick_walk walk_in places_in area_verdict whose_of
     strings_by k h =
         outside (alone_of xs n (pos k)) (walk_in look g k)
-        ∙ (quickly_full xs n ok) bad (λ f i. mk (walk_in look f i)) (λ f i. own (places_in Strict f (trace_at f i + 32) (data_at (high_first f) f (trace_at f i)))) k there_so
+        ∙ (quickly_full xs n ok) bad (λ f i. mk (walk_in look f i))
+        (λ f i. own (places_in Strict f (trace_at f i + 32) (data_at (high_first f) f (trace_at f i)))) k there_so
         ∙ ap (asked bad (check_of Strict Read xs n)) (on_area_lem k (ltb k (count_of g)))
       where
         there_so : k < count_of g → mk (walk_in look g k) ≡ own (places_in Strict g (trace_at g k + 32) (data_at (high_first g) g (trace_at g k)))

@@ -47,7 +47,8 @@ use Rattle.quick.specs.Quick.{quick_integers, quick_integers_left, quick_bits, q
 use Rattle.quick.specs.QuickLaws.{never_string}
 use Rattle.shortcut.specs.Read.{read_of, read_in, behind, block_read, strings_read, data_read, integers_read, bits_read, bytes_read, Agree}
 use Rattle.shortcut.proofs.Strings.{walk_alike, places_alike, read_within, read_ends}
-use Rattle.shortcut.specs.Same.{Alike, AllNamed, Named.file_block_lem, Named.pointer, Named.samples, Named.strings, Named.trace_block_lem, block_check, first_row, pointer_check, quickly_same, top_rows}
+use Rattle.shortcut.specs.Same.{Alike, AllNamed, Named.file_block_lem, Named.pointer, Named.samples, Named.strings}
+use Rattle.shortcut.specs.Same.{Named.trace_block_lem, block_check, first_row, pointer_check, quickly_same, top_rows}
 
 module _ (xs ys : List ℕ) (n : ℕ) (z : ℤ) (long : length xs ≡ length ys) where
   abbrev f : List ℕ
@@ -154,7 +155,9 @@ module _ (xs ys : List ℕ) (n : ℕ) (z : ℤ) (long : length xs ≡ length ys)
     pub strings_same_left : quick_strings_left xs n z row ≡ quick_strings_left ys n z row
     unfolding quick_strings_left quick_strings quick_count quick_walk
     strings_same_left =
-        outside (alone_of xs n z) f ∙ (quickly_same xs ys n z long) (λ r. row) filled (strings_read to_end) agree filled_same ∙ sym (outside (alone_of ys n z) g)
+        outside (alone_of xs n z) f
+        ∙ (quickly_same xs ys n z long) (λ r. row) filled (strings_read to_end) agree filled_same
+        ∙ sym (outside (alone_of ys n z) g)
       where
         outside : (v : Verdict) (l : List ℕ)
             → kept (strings_verdict (counted_by (asked walked.Bad v (walk_in to_end l k))) (length row)) (numbers l k) row ≡ asked (λ r. row) v (filled l k)
@@ -236,12 +239,14 @@ module _ (xs ys : List ℕ) (n : ℕ) (z : ℤ) (long : length xs ≡ length ys)
       ≡ kept (quickly Refused (λ l i. verdict (block_at l i)) ys n z) (mk g (block_at g k)) old
   left_same {A} mk verdict old h agree =
       outside (alone_of xs n z) f
-      ∙ (quickly_same xs ys n z long) (λ r. old) (λ l i. kept (verdict (block_at l i)) (mk l (block_at l i)) old) (λ l i. data_read (verdict (block_at l i)) l i) agree
+      ∙ (quickly_same xs ys n z long) (λ r. old) (λ l i. kept (verdict (block_at l i)) (mk l (block_at l i)) old)
+      (λ l i. data_read (verdict (block_at l i)) l i) agree
       (rows_same mk verdict old h)
       ∙ sym (outside (alone_of ys n z) g)
     where
       outside : (v : Verdict) (l : List ℕ)
-          → kept (asked Refused v (verdict (block_at l k))) (mk l (block_at l k)) old ≡ asked (λ r. old) v (kept (verdict (block_at l k)) (mk l (block_at l k)) old)
+          → kept (asked Refused v (verdict (block_at l k))) (mk l (block_at l k)) old
+          ≡ asked (λ r. old) v (kept (verdict (block_at l k)) (mk l (block_at l k)) old)
       outside Accepted l = refl
       outside (Refused r) l = refl
 

@@ -9,7 +9,12 @@ returns-then-not-is_bits c =
 
 pub returns-then-row-count : goal.returns-then-row-count
 returns-then-row-count c =
-    rw c.refusing-then-row-count.ensures (let e = bits_long _ _ _ _ (sym c.is_bits.ensures ∙ c.if-not-is_bits.false) c.if-row-count.true in record { answer = e.0; row = e.1.0; classes = e.1.1 })
+    rw c.refusing-then-row-count.ensures
+    (let e = bits_long _ _ _ _ (sym c.is_bits.ensures ∙ c.if-not-is_bits.false) c.if-row-count.true in record {
+      answer = e.0;
+      row = e.1.0;
+      classes = e.1.1;
+    })
 
 pub returns-then-classes-count : goal.returns-then-classes-count
 returns-then-classes-count c =

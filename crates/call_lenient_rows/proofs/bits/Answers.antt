@@ -8,4 +8,9 @@ use Rattle.call_lenient_rows.proofs.bits.Goals as goal
 
 pub returns : goal.returns
 returns c =
-    let z = to_z-of_z {w = w32} c.ranges.trace in record { answer = c.verdict_beside.ensures ∙ ap₂ lenient_verdict (rw z at c.bits.ensures.answer) c.strictly-strict.ensures; row = rw z at c.bits.ensures.row; classes = rw z at c.bits.ensures.classes }
+    let z = to_z-of_z {w = w32} c.ranges.trace in record {
+      answer = c.verdict_beside.ensures
+          ∙ ap₂ lenient_verdict (rw z at c.bits.ensures.answer) c.strictly-strict.ensures;
+      row = rw z at c.bits.ensures.row;
+      classes = rw z at c.bits.ensures.classes;
+    }

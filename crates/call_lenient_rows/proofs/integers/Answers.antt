@@ -8,4 +8,8 @@ use Rattle.call_lenient_rows.proofs.integers.Goals as goal
 
 pub returns : goal.returns
 returns c =
-    let z = to_z-of_z {w = w32} c.ranges.trace in record { answer = c.verdict_beside.ensures ∙ ap₂ lenient_verdict (rw z at c.integers.ensures.answer) c.strictly-strict.ensures; row = rw z at c.integers.ensures.row }
+    let z = to_z-of_z {w = w32} c.ranges.trace in record {
+      answer = c.verdict_beside.ensures
+          ∙ ap₂ lenient_verdict (rw z at c.integers.ensures.answer) c.strictly-strict.ensures;
+      row = rw z at c.integers.ensures.row;
+    }

@@ -8,4 +8,8 @@ use Rattle.call_lenient_rows.proofs.strings.Goals as goal
 
 pub returns : goal.returns
 returns c =
-    let z = to_z-of_z {w = w32} c.ranges.part in record { answer = c.verdict_beside.ensures ∙ ap₂ lenient_verdict (rw z at c.strings.ensures.answer) c.strictly-strict.ensures; row = rw z at c.strings.ensures.row }
+    let z = to_z-of_z {w = w32} c.ranges.part in record {
+      answer = c.verdict_beside.ensures
+          ∙ ap₂ lenient_verdict (rw z at c.strings.ensures.answer) c.strictly-strict.ensures;
+      row = rw z at c.strings.ensures.row;
+    }

@@ -8,4 +8,7 @@ use Rattle.call_numbers.proofs.write_number.Goals as goal
 
 pub returns : goal.returns
 returns c =
-    let g = rw (to_z-of_z {w = w32} c.ranges.power) at c.number_given-n.ensures in record { answer = c.length_told.ensures ∙ ap as_length (rw g at c.write.ensures.answer); left = rw g at c.write.ensures.left }
+    let g = rw (to_z-of_z {w = w32} c.ranges.power) at c.number_given-n.ensures in record {
+      answer = c.length_told.ensures ∙ ap as_length (rw g at c.write.ensures.answer);
+      left = rw g at c.write.ensures.left;
+    }

@@ -7,4 +7,7 @@ use Rattle.call_rows.proofs.strings.Goals as goal
 
 pub returns : goal.returns
 returns c =
-    record { answer = c.told.ensures ∙ ap as_verdict (rw (to_z-of_z {w = w32} c.ranges.part) at c.strings.ensures.answer); row = rw (to_z-of_z {w = w32} c.ranges.part) at c.strings.ensures.row }
+    record {
+      answer = c.told.ensures ∙ ap as_verdict (rw (to_z-of_z {w = w32} c.ranges.part) at c.strings.ensures.answer);
+      row = rw (to_z-of_z {w = w32} c.ranges.part) at c.strings.ensures.row;
+    }

@@ -29,7 +29,11 @@ shape_of-row-then-high c =
 pub returns-then-high : goal.returns-then-high
 unfolding needed
 returns-then-high c =
-    rw c.if-high.true (let e = all_read 3 _ _ _ _ (there 3 _ _ (eq-eqb _ _ c.if-row-ne0.false) (omega arith)) c.read_high.ensures in record { answer = e.0; filled = e.1 })
+    rw c.if-high.true (let e = all_read 3 _ _ _ _ (there 3 _ _ (eq-eqb _ _ c.if-row-ne0.false) (omega arith))
+    c.read_high.ensures in record {
+      answer = e.0;
+      filled = e.1;
+    })
 
 pub read_low-requires : goal.read_low-requires
 unfolding needed
@@ -44,4 +48,8 @@ shape_of-row c =
 pub returns : goal.returns
 unfolding needed
 returns c =
-    rw c.if-high.false (let e = all_read 3 _ _ _ _ (there 3 _ _ (eq-eqb _ _ c.if-row-ne0.false) (omega arith)) c.read_low.ensures in record { answer = e.0; filled = e.1 })
+    rw c.if-high.false (let e = all_read 3 _ _ _ _ (there 3 _ _ (eq-eqb _ _ c.if-row-ne0.false) (omega arith))
+    c.read_low.ensures in record {
+      answer = e.0;
+      filled = e.1;
+    })

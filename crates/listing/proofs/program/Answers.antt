@@ -12,7 +12,12 @@ returns-then-input-le65536 c =
 
 pub returns-then-too_short : goal.returns-then-too_short
 returns-then-too_short c =
-    let args = c.args in let e = print_full _ args.input.now args.out.now (sym c.too_short.ensures ∙ c.if-too_short.true) in record { answer = e.0; within = e.1.0; left = e.1.1 }
+    let args = c.args in let e = print_full _ args.input.now args.out.now
+    (sym c.too_short.ensures ∙ c.if-too_short.true) in record {
+      answer = e.0;
+      within = e.1.0;
+      left = e.1.1;
+    }
 
 pub put_refusal-requires : goal.put_refusal-requires
 put_refusal-requires c =
@@ -21,7 +26,9 @@ put_refusal-requires c =
 
 pub returns : goal.returns
 returns c =
-    let args = c.args in let tested = sym c.too_short.ensures ∙ c.if-too_short.false in let room = enough args.input.now args.out.now tested in let e = print_told _ args.input.now args.out.now tested _ _ _
+    let args = c.args in let tested = sym c.too_short.ensures ∙ c.if-too_short.false in
+    let room = enough args.input.now args.out.now tested in
+    let e = print_told _ args.input.now args.out.now tested _ _ _
     (ap refusal_line c.of_file.ensures ∙ prints_large args.input.now (omega (arith, c.if-input-le65536.false)))
     c.put_refusal.ensures.0
     (omega (arith, c.put_refusal.ensures.1, room)) in record { answer = e.0; within = e.1.0; left = e.1.1 }

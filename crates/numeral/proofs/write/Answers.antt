@@ -41,7 +41,11 @@ refused-requires-then-k-gt17 c =
 pub returns-then-k-gt17 : goal.returns-then-k-gt17
 unfolding given
 returns-then-k-gt17 c =
-    let args = c.args in rw c.refused-then-k-gt17.ensures (let e = many_decimals args.out.now args.n c.if-minus-c.false (omega (arith, c.if-k-gt17.true)) in record { answer = e.0; left = e.1 })
+    let args = c.args in rw c.refused-then-k-gt17.ensures
+    (let e = many_decimals args.out.now args.n c.if-minus-c.false (omega (arith, c.if-k-gt17.true)) in record {
+      answer = e.0;
+      left = e.1;
+    })
 
 pub refused-requires-then-c-gt999999999999999999 : goal.refused-requires-then-c-gt999999999999999999
 unfolding given
@@ -51,7 +55,12 @@ refused-requires-then-c-gt999999999999999999 c =
 pub returns-then-c-gt999999999999999999 : goal.returns-then-c-gt999999999999999999
 unfolding given
 returns-then-c-gt999999999999999999 c =
-    let args = c.args in rw c.refused-then-c-gt999999999999999999.ensures (let e = large_coefficient args.out.now args.n c.if-minus-c.false (omega (arith, c.if-k-gt17.false)) (omega (arith, c.if-c-gt999999999999999999.true)) in record { answer = e.0; left = e.1 })
+    let args = c.args in rw c.refused-then-c-gt999999999999999999.ensures
+    (let e = large_coefficient args.out.now args.n c.if-minus-c.false (omega (arith, c.if-k-gt17.false))
+    (omega (arith, c.if-c-gt999999999999999999.true)) in record {
+      answer = e.0;
+      left = e.1;
+    })
 
 pub behind_e-to-requires : goal.behind_e-to-requires
 unfolding given
@@ -66,8 +75,14 @@ refused-requires-then-to-gt99 c =
 pub returns-then-to-gt99 : goal.returns-then-to-gt99
 unfolding given
 returns-then-to-gt99 c =
-    let args = c.args in rw c.refused-then-to-gt99.ensures (let e = far_power args.out.now args.n c.if-minus-c.false (omega (arith, c.if-k-gt17.false)) (omega (arith, c.if-c-gt999999999999999999.false))
-    c.behind_e-to.result.far (far (goal.at.returns-then-to-gt99 c).After-behind_e-to).1 (omega (arith, c.if-to-gt99.true)) in record { answer = e.0; left = e.1 })
+    let args = c.args in rw c.refused-then-to-gt99.ensures
+    (let e = far_power args.out.now args.n c.if-minus-c.false (omega (arith, c.if-k-gt17.false))
+    (omega (arith, c.if-c-gt999999999999999999.false))
+    c.behind_e-to.result.far (far (goal.at.returns-then-to-gt99 c).After-behind_e-to).1
+    (omega (arith, c.if-to-gt99.true)) in record {
+      answer = e.0;
+      left = e.1;
+    })
 
 pub put_fitting-requires : goal.put_fitting-requires
 unfolding given
@@ -82,6 +97,8 @@ shape_of-out c =
 pub returns : goal.returns
 unfolding given
 returns c =
-    let args = c.args in let e = the_answer args.out.now args.n c.if-minus-c.false (omega (arith, c.if-k-gt17.false)) (omega (arith, c.if-c-gt999999999999999999.false))
-    c.behind_e-to.result.far (far (goal.at.returns c).After-behind_e-to).1 (omega (arith, c.if-to-gt99.false)) _ (far (goal.at.returns c).After-behind_e-to).0 _ _
+    let args = c.args in let e = the_answer args.out.now args.n c.if-minus-c.false (omega (arith, c.if-k-gt17.false))
+    (omega (arith, c.if-c-gt999999999999999999.false))
+    c.behind_e-to.result.far (far (goal.at.returns c).After-behind_e-to).1 (omega (arith, c.if-to-gt99.false)) _
+    (far (goal.at.returns c).After-behind_e-to).0 _ _
     c.put_fitting.ensures.answer c.put_fitting.ensures.left in record { answer = e.0; left = e.1 }

@@ -49,4 +49,7 @@ returns-in-Refused c =
 
 pub returns-in-Is : goal.returns-in-Is
 returns-in-Is c =
-    alone_named c.args.buffer.now c.args.n c.args.trace (sym c.is_bad_length.ensures ∙ c.if-is_bad_length.false) (sym c.head-top.ensures.0 ∙ c.in-Is.is) (handed w32 (λ (z : ℤ). named_of (take c.args.n c.args.buffer.now) c.in-Is.x z) c.args.trace c.ranges.trace.sfits c.named.ensures)
+    alone_named c.args.buffer.now c.args.n c.args.trace (sym c.is_bad_length.ensures ∙ c.if-is_bad_length.false)
+    (sym c.head-top.ensures.0 ∙ c.in-Is.is)
+    (handed w32 (λ (z : ℤ). named_of (take c.args.n c.args.buffer.now) c.in-Is.x z) c.args.trace
+    c.ranges.trace.sfits c.named.ensures)

@@ -16,4 +16,5 @@ returns-in-Refused c =
 
 pub returns-in-Accepted : goal.returns-in-Accepted
 returns-in-Accepted c =
-    own_rows_lem _ c.args.f.now c.args.m c.args.k _ c.pointer-p.ensures.0 (sym c.pointer_row-row.ensures ∙ c.in-Accepted.is) (c.told.ensures ∙ c.block_rows.ensures)
+    own_rows_lem _ c.args.f.now c.args.m c.args.k _ c.pointer-p.ensures.0
+    (sym c.pointer_row-row.ensures ∙ c.in-Accepted.is) (c.told.ensures ∙ c.block_rows.ensures)

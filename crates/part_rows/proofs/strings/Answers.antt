@@ -57,4 +57,10 @@ returns-in-Bad c =
 
 pub returns-in-From : goal.returns-in-From
 returns-in-From c =
-    let args = c.args in let p = placed args.how (take args.n args.buffer.now) _ _ _ _ c.is_high.ensures c.string_end.ensures.result_value in let s = c.count-c.ensures ∙ ap length p in record { answer = strings_told args.how args.buffer.now args.n args.part args.row.now _ _ (led (goal.at.returns-in-From c).In-From) _ s _ c.fill.ensures.answer; row = strings_left_lem args.how args.buffer.now args.n args.part args.row.now _ _ (led (goal.at.returns-in-From c).In-From) _ s _ c.fill.ensures.row }
+    let args = c.args in let p = placed args.how (take args.n args.buffer.now) _ _ _ _ c.is_high.ensures
+    c.string_end.ensures.result_value in let s = c.count-c.ensures ∙ ap length p in record {
+      answer = strings_told args.how args.buffer.now args.n args.part args.row.now _ _
+          (led (goal.at.returns-in-From c).In-From) _ s _ c.fill.ensures.answer;
+      row = strings_left_lem args.how args.buffer.now args.n args.part args.row.now _ _
+          (led (goal.at.returns-in-From c).In-From) _ s _ c.fill.ensures.row;
+    }

@@ -13,4 +13,8 @@ returns-in-5 c =
 
 pub returns-in_default : goal.returns-in_default
 returns-in_default c =
-    let r = c.in_default.in_default-own.rest in let e = no_bits_read _ _ _ _ _ (no_bits _ _ _ _ r.0.1 r.1) in record { answer = e.0; filled = e.1.0; classed = e.1.1 }
+    let r = c.in_default.in_default-own.rest in let e = no_bits_read _ _ _ _ _ (no_bits _ _ _ _ r.0.1 r.1) in record {
+      answer = e.0;
+      filled = e.1.0;
+      classed = e.1.1;
+    }

@@ -30,14 +30,17 @@ enum_known-s c =
 pub returns-in-There : goal.returns-in-There
 unfolding quick_keyword
 returns-in-There c =
-    sym (rw (sym (handed w32 (λ (z : ℤ). quick_find c.args.buffer.now c.args.n z c.args.key.now) c.args.trace c.ranges.trace.sfits c.find-s.ensures) ∙ c.in-There.is))
+    sym (rw (sym (handed w32 (λ (z : ℤ). quick_find c.args.buffer.now c.args.n z c.args.key.now) c.args.trace
+    c.ranges.trace.sfits c.find-s.ensures) ∙ c.in-There.is))
 
 pub returns-in-Absent : goal.returns-in-Absent
 unfolding quick_keyword
 returns-in-Absent c =
-    sym (rw (sym (handed w32 (λ (z : ℤ). quick_find c.args.buffer.now c.args.n z c.args.key.now) c.args.trace c.ranges.trace.sfits c.find-s.ensures) ∙ c.in-Absent.is))
+    sym (rw (sym (handed w32 (λ (z : ℤ). quick_find c.args.buffer.now c.args.n z c.args.key.now) c.args.trace
+    c.ranges.trace.sfits c.find-s.ensures) ∙ c.in-Absent.is))
 
 pub returns-in-Refused : goal.returns-in-Refused
 unfolding quick_keyword
 returns-in-Refused c =
-    sym (rw (sym (handed w32 (λ (z : ℤ). quick_find c.args.buffer.now c.args.n z c.args.key.now) c.args.trace c.ranges.trace.sfits c.find-s.ensures) ∙ c.in-Refused.is))
+    sym (rw (sym (handed w32 (λ (z : ℤ). quick_find c.args.buffer.now c.args.n z c.args.key.now) c.args.trace
+    c.ranges.trace.sfits c.find-s.ensures) ∙ c.in-Refused.is))

@@ -13,4 +13,8 @@ value_at-requires c =
 
 pub returns : goal.returns
 returns c =
-    let e = handed w32 (λ (z : ℤ). quick_find c.args.buffer.now c.args.n z c.args.key.now) c.args.trace c.ranges.trace.sfits c.find.ensures in record { result_value = c.value_at.ensures.result_value ∙ value_told _ _ _ _ _ e; own = span_told _ _ _ _ _ e c.value_at.ensures.own }
+    let e = handed w32 (λ (z : ℤ). quick_find c.args.buffer.now c.args.n z c.args.key.now) c.args.trace
+    c.ranges.trace.sfits c.find.ensures in record {
+      result_value = c.value_at.ensures.result_value ∙ value_told _ _ _ _ _ e;
+      own = span_told _ _ _ _ _ e c.value_at.ensures.own;
+    }

@@ -56,7 +56,12 @@ overflow_add-x c =
 
 pub overflow_add-x-in-Is : goal.overflow_add-x-in-Is
 overflow_add-x-in-Is c =
-    omega (arith, (lies (goal.at.overflow_add-x-in-Is c).In-Is).0, (lies (goal.at.overflow_add-x-in-Is c).In-Is).1, (alone (goal.at.overflow_add-x-in-Is c).In-Is).size)
+    omega (
+      arith,
+      (lies (goal.at.overflow_add-x-in-Is c).In-Is).0,
+      (lies (goal.at.overflow_add-x-in-Is c).In-Is).1,
+      (alone (goal.at.overflow_add-x-in-Is c).In-Is).size,
+    )
 
 pub between-requires : goal.between-requires
 between-requires c =

@@ -98,7 +98,12 @@ returns-in-Refused c =
 
 pub returns-in-Over : goal.returns-in-Over
 returns-in-Over c =
-    let row = c.args.row.now in let w = sym c.between-w.ensures ∙ c.in-Over.is in record { answer = strings_told _ _ _ row _ (read (goal.at.returns-in-Over c).In-Is) _ (plain (goal.at.returns-in-Over c).In-Is) _ w _ c.fill.ensures.answer; row = strings_left_lem _ _ _ row _ (read (goal.at.returns-in-Over c).In-Is) _ (plain (goal.at.returns-in-Over c).In-Is) _ w _ c.fill.ensures.row }
+    let row = c.args.row.now in let w = sym c.between-w.ensures ∙ c.in-Over.is in record {
+      answer = strings_told _ _ _ row _ (read (goal.at.returns-in-Over c).In-Is) _
+          (plain (goal.at.returns-in-Over c).In-Is) _ w _ c.fill.ensures.answer;
+      row = strings_left_lem _ _ _ row _ (read (goal.at.returns-in-Over c).In-Is) _
+          (plain (goal.at.returns-in-Over c).In-Is) _ w _ c.fill.ensures.row;
+    }
 
 pub returns-in-Bad : goal.returns-in-Bad
 returns-in-Bad c =

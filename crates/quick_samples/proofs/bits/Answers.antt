@@ -39,4 +39,8 @@ returns-in-Refused c =
 
 pub returns-in-Is : goal.returns-in-Is
 returns-in-Is c =
-    let e = read (goal.at.returns-in-Is c).In-Is in record { answer = c.bits.ensures.answer ∙ bits_answer_lem _ _ _ _ e _ _; row = c.bits.ensures.row ∙ patterns_left_lem _ _ _ _ e _ _; classes = c.bits.ensures.classes ∙ classes_left_lem _ _ _ _ e _ _ }
+    let e = read (goal.at.returns-in-Is c).In-Is in record {
+      answer = c.bits.ensures.answer ∙ bits_answer_lem _ _ _ _ e _ _;
+      row = c.bits.ensures.row ∙ patterns_left_lem _ _ _ _ e _ _;
+      classes = c.bits.ensures.classes ∙ classes_left_lem _ _ _ _ e _ _;
+    }

@@ -39,4 +39,7 @@ returns-in-Refused c =
 
 pub returns-in-Is : goal.returns-in-Is
 returns-in-Is c =
-    let e = read (goal.at.returns-in-Is c).In-Is in record { answer = c.integers.ensures.answer ∙ integers_answer_lem _ _ _ _ e _; row = c.integers.ensures.row ∙ integers_left_lem _ _ _ _ e _ }
+    let e = read (goal.at.returns-in-Is c).In-Is in record {
+      answer = c.integers.ensures.answer ∙ integers_answer_lem _ _ _ _ e _;
+      row = c.integers.ensures.row ∙ integers_left_lem _ _ _ _ e _;
+    }

@@ -35,4 +35,8 @@ pub returns-in-Is : goal.returns-in-Is
 returns-in-Is c =
     let args = c.args in let h = told _ _ _ _ _ (sym (handed w32 (λ (z : ℤ). trace_answer args.how args.buffer.now args.n z)
     args.trace c.ranges.trace.sfits
-    c.trace_block-b.ensures) ∙ c.in-Is.is) in record { answer = c.bits.ensures.answer ∙ bits_answer_lem _ _ _ _ _ h _ _; row = c.bits.ensures.row ∙ patterns_left_lem _ _ _ _ _ h _ _; classes = c.bits.ensures.classes ∙ classes_left_lem _ _ _ _ _ h _ _ }
+    c.trace_block-b.ensures) ∙ c.in-Is.is) in record {
+      answer = c.bits.ensures.answer ∙ bits_answer_lem _ _ _ _ _ h _ _;
+      row = c.bits.ensures.row ∙ patterns_left_lem _ _ _ _ _ h _ _;
+      classes = c.bits.ensures.classes ∙ classes_left_lem _ _ _ _ _ h _ _;
+    }

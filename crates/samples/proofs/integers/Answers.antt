@@ -35,4 +35,7 @@ pub returns-in-Is : goal.returns-in-Is
 returns-in-Is c =
     let args = c.args in let h = told _ _ _ _ _ (sym (handed w32 (λ (z : ℤ). trace_answer args.how args.buffer.now args.n z)
     args.trace c.ranges.trace.sfits
-    c.trace_block-a.ensures) ∙ c.in-Is.is) in record { answer = c.integers.ensures.answer ∙ integers_answer_lem _ _ _ _ _ h _; row = c.integers.ensures.row ∙ integers_left_lem _ _ _ _ _ h _ }
+    c.trace_block-a.ensures) ∙ c.in-Is.is) in record {
+      answer = c.integers.ensures.answer ∙ integers_answer_lem _ _ _ _ _ h _;
+      row = c.integers.ensures.row ∙ integers_left_lem _ _ _ _ _ h _;
+    }

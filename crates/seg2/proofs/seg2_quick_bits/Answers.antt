@@ -5,4 +5,8 @@ use Rattle.seg2.proofs.seg2_quick_bits.Goals as goal
 
 pub returns : goal.returns
 returns c =
-    let z = to_z-of_z {w = w32} c.ranges.trace in record { answer = rw z at c.quick_bits.ensures.answer; row = rw z at c.quick_bits.ensures.row; classes = rw z at c.quick_bits.ensures.classes }
+    let z = to_z-of_z {w = w32} c.ranges.trace in record {
+      answer = rw z at c.quick_bits.ensures.answer;
+      row = rw z at c.quick_bits.ensures.row;
+      classes = rw z at c.quick_bits.ensures.classes;
+    }

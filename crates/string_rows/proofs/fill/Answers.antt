@@ -9,11 +9,19 @@ use Rattle.string_rows.proofs.fill.Goals as goal
 
 pub returns-then-fours-c : goal.returns-then-fours-c
 returns-then-fours-c c =
-    let args = c.args in let no = row_bad args.c (length args.row.now) (λ e. absurd (omega (arith, e, c.if-fours-c.true))) in record { answer = c.row_length.ensures ∙ sym no; row = rw no }
+    let args = c.args in let no = row_bad args.c (length args.row.now)
+    (λ e. absurd (omega (arith, e, c.if-fours-c.true))) in record {
+      answer = c.row_length.ensures ∙ sym no;
+      row = rw no;
+    }
 
 pub returns-then-size-fours : goal.returns-then-size-fours
 returns-then-size-fours c =
-    let args = c.args in let no = row_bad args.c (length args.row.now) (λ e. absurd (omega (arith, e, c.if-size-fours.true))) in record { answer = c.row_length-then-size-fours.ensures ∙ sym no; row = rw no }
+    let args = c.args in let no = row_bad args.c (length args.row.now)
+    (λ e. absurd (omega (arith, e, c.if-size-fours.true))) in record {
+      answer = c.row_length-then-size-fours.ensures ∙ sym no;
+      row = rw no;
+    }
 
 pub fill-requires : goal.fill-requires
 fill-requires c =

@@ -54,8 +54,13 @@ loop-k-preserved c =
     let l : c.loop-k.k + 1 ≤ args.n = omega arith in
     let e = c.next-x.ensures in
     let q = c.in-Past.is in
-    let s = next_stands _ args.f.now _ _ _ _ _ e.0 e.1 q in
-    (l, s, next_past _ args.f.now _ _ _ _ args.t.now args.u.now _ (sym e.0 ∙ q) ∙ (behind (goal.at.loop-k-preserved c).In-Through).0, λ _. (behind (goal.at.loop-k-preserved c).In-Through).1)
+    let s = next_stands _ args.f.now _ _ _ _ _ e.0 e.1 q in (
+      l,
+      s,
+      next_past _ args.f.now _ _ _ _ args.t.now args.u.now _ (sym e.0 ∙ q)
+          ∙ (behind (goal.at.loop-k-preserved c).In-Through).0,
+      λ _. (behind (goal.at.loop-k-preserved c).In-Through).1,
+    )
 
 pub returns : goal.returns
 returns c =

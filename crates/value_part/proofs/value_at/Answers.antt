@@ -27,8 +27,14 @@ returns-in-There c =
 
 pub returns-in-Absent : goal.returns-in-Absent
 returns-in-Absent c =
-    rw c.in-Absent.is (record { result_value = search (rules, part_none); own = record { bytes = search (rules, part_none); block = refl; place = omega arith } })
+    rw c.in-Absent.is (record {
+      result_value = search (rules, part_none);
+      own = record { bytes = search (rules, part_none); block = refl; place = omega arith };
+    })
 
 pub returns-in-Refused : goal.returns-in-Refused
 returns-in-Refused c =
-    rw c.in-Refused.is (record { result_value = search (rules, part_none); own = record { bytes = search (rules, part_none); block = refl; place = omega arith } })
+    rw c.in-Refused.is (record {
+      result_value = search (rules, part_none);
+      own = record { bytes = search (rules, part_none); block = refl; place = omega arith };
+    })

@@ -13,4 +13,9 @@ value_at-requires c =
 
 pub returns : goal.returns
 returns c =
-    let a = c.args in let f = c.find.ensures in let e = handed w32 (λ (z : ℤ). find_answer a.how a.buffer.now a.n z a.key.now) a.part c.ranges.part.sfits f in record { result_value = c.value_at.ensures.result_value ∙ value_told _ _ _ _ _ _ e; own = span_told _ _ _ _ _ _ e c.value_at.ensures.own }
+    let a = c.args in let f = c.find.ensures in
+    let e = handed w32 (λ (z : ℤ). find_answer a.how a.buffer.now a.n z a.key.now) a.part c.ranges.part.sfits f in
+    record {
+      result_value = c.value_at.ensures.result_value ∙ value_told _ _ _ _ _ _ e;
+      own = span_told _ _ _ _ _ _ e c.value_at.ensures.own;
+    }
