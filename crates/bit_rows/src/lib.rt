@@ -41,7 +41,8 @@ pub fn bits(f: &[u8], t: TraceBlock, row: &mut [u64], classes: &mut [u8]) -> Ver
     if row.len() != count {
         return sample_rows::refusing(Rule::RowLength);
     }
-    if classes.len() != count {
+    let unequal = classes.len() != count;
+    if unequal {
         return sample_rows::refusing(Rule::RowLength);
     }
     let p = t.p;

@@ -56,7 +56,8 @@ fn put_power(out: &mut [u8], at: usize, down: bool, far: u64) -> usize
     requires { Room out.old at (power_text down (unless_zero far)) }
     ensures { Wrote out.old at (power_text down (unless_zero far)) result out.new }
 {
-    if far < 1 {
+    let none = far < 1;
+    if none {
         return at;
     }
     out[at] = b'E';

@@ -76,7 +76,8 @@ pub fn measure(sheet: &[u8], t: &[u8], u: &[u8]) -> Measured
         }
     }
     let size = word::round_up(n);
-    if AREA < size {
+    let over = AREA < size;
+    if over {
         return Measured::Refused(refusal::of_file(Rule::AreaSize, 0));
     }
     Measured::Size(size)

@@ -66,7 +66,8 @@ fn judge(l: &[u8], prev: &[u8]) -> Judged
     if is_spaced(v) & !more {
         return Judged::Wrong(Rule::SheetLine);
     }
-    if !(more | key_order::rising(prev, k)) {
+    let ordered = more | key_order::rising(prev, k);
+    if !ordered {
         return Judged::Wrong(Rule::SheetOrder);
     }
     Judged::Keyword(n)

@@ -46,7 +46,8 @@ pub fn numbered(
         (Traced.Through end (chosen_by with k has)) }
 {
     let all = chosen(with, k, has);
-    if text::asks_channels(how) & channel::is_bad(all, has, &f[from..to]) {
+    let bad = text::asks_channels(how) & channel::is_bad(all, has, &f[from..to]);
+    if bad {
         return Traced::Not(Refusal {
             rule: Rule::ChannelNumber,
             part: Part::Trace(k),

@@ -33,7 +33,8 @@ fn ended(len: usize, n: usize, size: usize, code: u32, count: usize, fit: Verdic
         return start::refusing(Rule::NoRoom, 0);
     }
     let end = word::round_up(n) + (32 + size + sample::room(code as u8, count as u32));
-    if (len < end) | (head::MAXIMUM < end) {
+    let lacking = (len < end) | (head::MAXIMUM < end);
+    if lacking {
         return start::refusing(Rule::NoRoom, 0);
     }
     Written::To(end)

@@ -16,13 +16,13 @@ returns-then-row-count c =
       classes = e.1.1;
     })
 
-pub returns-then-classes-count : goal.returns-then-classes-count
-returns-then-classes-count c =
-    rw c.refusing-then-classes-count.ensures (let e = classes_long _ _ _ _ (sym c.is_bits.ensures ∙ c.if-not-is_bits.false) c.if-row-count.false
-    c.if-classes-count.true in record { answer = e.0; row = e.1.0; classes = e.1.1 })
+pub returns-then-unequal : goal.returns-then-unequal
+returns-then-unequal c =
+    rw c.refusing-then-unequal.ensures (let e = classes_long _ _ _ _ (sym c.is_bits.ensures ∙ c.if-not-is_bits.false) c.if-row-count.false
+    c.if-unequal.true in record { answer = e.0; row = e.1.0; classes = e.1.1 })
 
 pub returns : goal.returns
 returns c =
-    let e = bits_done _ _ _ _ _ _ _ (sym c.is_bits.ensures ∙ c.if-not-is_bits.false) c.if-row-count.false c.if-classes-count.false
+    let e = bits_done _ _ _ _ _ _ _ (sym c.is_bits.ensures ∙ c.if-not-is_bits.false) c.if-row-count.false c.if-unequal.false
     c.requires.1
     c.is_high.ensures c.read_bits.ensures.filled c.read_bits.ensures.classed in record { answer = e.0; row = e.1.0; classes = e.1.1 }

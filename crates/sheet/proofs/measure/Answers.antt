@@ -90,12 +90,12 @@ loop-at-preserved c =
           (c.grown-n.ensures.0 ∙ rw c.is_continued-more.ensures),
     )
 
-pub returns-then-size-gt-AREA : goal.returns-then-size-gt-AREA
-returns-then-size-gt-AREA c =
+pub returns-then-over : goal.returns-then-over
+returns-then-over c =
     rw c.of_file.ensures (counted_large _ _ c.args.sheet.now c.loop-at.at c.loop-at.k c.loop-at.g
-    c.loop-at.n c.loop-at.invariant.4 c.loop-at-test.false (rw c.round_up-size.ensures at c.if-size-gt-AREA.true))
+    c.loop-at.n c.loop-at.invariant.4 c.loop-at-test.false (rw c.round_up-size.ensures at c.if-over.true))
 
 pub returns : goal.returns
 returns c =
     rw c.round_up-size.ensures (counted_size _ _ c.args.sheet.now c.loop-at.at c.loop-at.k c.loop-at.g
-    c.loop-at.n c.loop-at.invariant.4 c.loop-at-test.false (rw c.round_up-size.ensures at c.if-size-gt-AREA.false))
+    c.loop-at.n c.loop-at.invariant.4 c.loop-at-test.false (rw c.round_up-size.ensures at c.if-over.false))

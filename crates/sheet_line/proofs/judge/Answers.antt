@@ -34,16 +34,16 @@ returns-then-is_spaced-more c =
     ((rw part_rest at (sym c.all.ensures)) ∙ c.if-not-all.false)
     (rw (c.is_spaced.ensures, c.is_continued-more.ensures, part_rest) at c.if-is_spaced-more.true)
 
-pub returns-then-not-more-rising : goal.returns-then-not-more-rising
-returns-then-not-more-rising c =
+pub returns-then-not-ordered : goal.returns-then-not-ordered
+returns-then-not-ordered c =
     judged_order _ _ _ c.key_run-n.ensures.0 (omega arith) c.if-l-n-ne9.false
     ((rw part_rest at (sym c.all.ensures)) ∙ c.if-not-all.false)
     (rw (c.is_spaced.ensures, c.is_continued-more.ensures, part_rest) at c.if-is_spaced-more.false)
-    ((rw (c.is_continued-more.ensures, c.rising.ensures) at c.if-not-more-rising.true))
+    ((rw (c.is_continued-more.ensures, c.rising.ensures) at c.if-not-ordered.true))
 
 pub returns : goal.returns
 returns c =
     judged_good _ _ _ c.key_run-n.ensures.0 (omega arith) c.if-l-n-ne9.false
     ((rw part_rest at (sym c.all.ensures)) ∙ c.if-not-all.false)
     (rw (c.is_spaced.ensures, c.is_continued-more.ensures, part_rest) at c.if-is_spaced-more.false)
-    ((rw (c.is_continued-more.ensures, c.rising.ensures) at c.if-not-more-rising.false))
+    ((rw (c.is_continued-more.ensures, c.rising.ensures) at c.if-not-ordered.false))

@@ -17,10 +17,10 @@ pub overflow_cast-code : goal.overflow_cast-code
 overflow_cast-code c =
     omega (arith, (c.requires.2 c.in_default.is).most)
 
-pub returns-then-len-end : goal.returns-then-len-end
-returns-then-len-end c =
-    c.refusing-then-len-end.ensures ∙ rw (c.in_default.is, ← c.round_up.ensures, ← c.room.ensures.0, c.if-len-end.true)
+pub returns-then-lacking : goal.returns-then-lacking
+returns-then-lacking c =
+    c.refusing-then-lacking.ensures ∙ rw (c.in_default.is, ← c.round_up.ensures, ← c.room.ensures.0, c.if-lacking.true)
 
 pub returns : goal.returns
 returns c =
-    rw (c.in_default.is, ← c.round_up.ensures, ← c.room.ensures.0, c.if-len-end.false)
+    rw (c.in_default.is, ← c.round_up.ensures, ← c.room.ensures.0, c.if-lacking.false)
