@@ -66,7 +66,8 @@ fn judge(l: &[u8], prev: &[u8]) -> Judged
     if is_spaced(v) & !more {
         return Judged::Wrong(Rule::SheetLine);
     }
-    let ordered = more | key_order::rising(prev, k);
+    let rises = key_order::rising(prev, k);
+    let ordered = more | rises;
     if !ordered {
         return Judged::Wrong(Rule::SheetOrder);
     }

@@ -39,11 +39,11 @@ returns-then-not-ordered c =
     judged_order _ _ _ c.key_run-n.ensures.0 (omega arith) c.if-l-n-ne9.false
     ((rw part_rest at (sym c.all.ensures)) ∙ c.if-not-all.false)
     (rw (c.is_spaced.ensures, c.is_continued-more.ensures, part_rest) at c.if-is_spaced-more.false)
-    ((rw (c.is_continued-more.ensures, c.rising.ensures) at c.if-not-ordered.true))
+    ((rw (c.is_continued-more.ensures, c.rising-rises.ensures) at c.if-not-ordered.true))
 
 pub returns : goal.returns
 returns c =
     judged_good _ _ _ c.key_run-n.ensures.0 (omega arith) c.if-l-n-ne9.false
     ((rw part_rest at (sym c.all.ensures)) ∙ c.if-not-all.false)
     (rw (c.is_spaced.ensures, c.is_continued-more.ensures, part_rest) at c.if-is_spaced-more.false)
-    ((rw (c.is_continued-more.ensures, c.rising.ensures) at c.if-not-ordered.false))
+    ((rw (c.is_continued-more.ensures, c.rising-rises.ensures) at c.if-not-ordered.false))
