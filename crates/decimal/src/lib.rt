@@ -34,7 +34,8 @@ fn tail(minus: bool, whole: &[u8], decimals: &[u8], x: &[u8]) -> NumberAnswer
         return no_number();
     }
     let rest = front_bytes::behind(y, n);
-    if 0 < rest.len() {
+    let more = 0 < rest.len();
+    if more {
         return no_number();
     }
     decimal_parts::judged(

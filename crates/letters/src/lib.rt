@@ -38,7 +38,8 @@ pub fn is_same_raised(p: &[u8], k: &[u8]) -> bool
         }
         i += 1;
     }
-    if i < k.len() {
+    let longer = i < k.len();
+    if longer {
         return false;
     }
     true

@@ -57,7 +57,8 @@ pub fn program(input: &[u8], out: &mut [u8]) -> Listed
     ensures within { Within result (length out.old) }
     ensures left { out.new ≡ program_left input.now out.old }
 {
-    if input.len() <= 65536 {
+    let small = input.len() <= 65536;
+    if small {
         return list(input, out);
     }
     if too_short(out.len(), input.len()) {

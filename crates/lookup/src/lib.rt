@@ -47,7 +47,8 @@ pub fn nth(f: &[u8], a: usize, e: usize, high: bool, t: &[u8], i: usize, how: Ma
                 return Found::Nothing;
             }
             Entry::At(p, o) => {
-                if k == 0 {
+                let here = k == 0;
+                if here {
                     return Found::Is(p);
                 }
                 k -= 1;

@@ -48,14 +48,16 @@ pub fn write(out: &mut [u8], n: Decimal) -> Written
     if minus & (c == 0) {
         return numeral_room::refused(Rule::NoNumber);
     }
-    if 17 < k {
+    let many = 17 < k;
+    if many {
         return numeral_room::refused(Rule::Digits);
     }
     if 999999999999999999 < c {
         return numeral_room::refused(Rule::Digits);
     }
     let to = behind_e(n.power, k);
-    if 99 < to.far {
+    let distant = 99 < to.far;
+    if distant {
         return numeral_room::refused(Rule::Digits);
     }
     numeral_room::put_fitting(out, minus, c, k, to)

@@ -45,7 +45,8 @@ pub fn integers(f: &[u8], t: TraceBlock, row: &mut [i32]) -> Verdict
     if !is_integers(code) {
         return refusing(Rule::CodeKind);
     }
-    if row.len() != s {
+    let unequal = row.len() != s;
+    if unequal {
         return refusing(Rule::RowLength);
     }
     let p = t.p;

@@ -31,7 +31,8 @@ pub fn fill(f: &[u8], a: usize, e: usize, c: usize, how: Manner, row: &mut [usiz
 {
     let size = row.len();
     let fours = size / 4;
-    if fours != c {
+    let unequal = fours != c;
+    if unequal {
         return row_length();
     }
     if size != 4 * fours {

@@ -58,7 +58,8 @@ pub fn check(
             }
         }
     }
-    if text::open_end(how) {
+    let ends = text::open_end(how);
+    if ends {
         return seek::has(f, e, t, hit, gap, size);
     }
     Checked::Refused(Refusal {

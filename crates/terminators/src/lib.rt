@@ -67,7 +67,8 @@ fn is_lacking(u: &[u8], b: u8) -> bool
 {
     let mut i: usize = 0;
     while i < u.len() {
-        if u[i] == b {
+        let shared = u[i] == b;
+        if shared {
             return false;
         }
         i += 1;

@@ -22,10 +22,10 @@ pub loop-i-preserved : goal.loop-i-preserved
 loop-i-preserved c =
     (search rules, same_next _ _ _ c.loop-i-test.true c.if-k-i.false (eq-eqb _ _ c.if-p-i.false) ∙ c.loop-i.invariant.1)
 
-pub returns-then-i-k : goal.returns-then-i-k
-returns-then-i-k c =
-    same_longer _ _ _ c.loop-i-test.false c.if-i-k.true ∙ c.loop-i.invariant.1
+pub returns-then-longer : goal.returns-then-longer
+returns-then-longer c =
+    same_longer _ _ _ c.loop-i-test.false c.if-longer.true ∙ c.loop-i.invariant.1
 
 pub returns : goal.returns
 returns c =
-    same_ended _ _ _ c.loop-i-test.false c.if-i-k.false ∙ c.loop-i.invariant.1
+    same_ended _ _ _ c.loop-i-test.false c.if-longer.false ∙ c.loop-i.invariant.1

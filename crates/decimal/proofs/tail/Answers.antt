@@ -15,16 +15,16 @@ returns-then-e-n c =
     c.if-x-e.false
     c.if-e-n.true
 
-pub returns-then-rest-gt0 : goal.returns-then-rest-gt0
-returns-then-rest-gt0 c =
-    c.no_number-then-rest-gt0.ensures
+pub returns-then-more : goal.returns-then-more
+returns-then-more c =
+    c.no_number-then-more.ensures
     ∙ more_behind _ _ _ _ c.has-e.ensures c.past-z.ensures.result_value c.past-y.ensures.result_value c.run-n.ensures.0
     c.if-x-e.false
-    c.behind-rest.ensures.result_value c.if-e-n.false (omega (arith, c.if-rest-gt0.true))
+    c.behind-rest.ensures.result_value c.if-e-n.false (omega (arith, c.if-more.true))
 
 pub returns : goal.returns
 returns c =
     c.judged.ensures
     ∙ tail_judged _ _ _ _ c.has-e.ensures c.past-z.ensures.result_value c.past-y.ensures.result_value c.run-n.ensures.0
     c.if-x-e.false
-    c.behind-rest.ensures.result_value c.if-e-n.false c.if-rest-gt0.false c.has.ensures c.front.ensures.result_value
+    c.behind-rest.ensures.result_value c.if-e-n.false c.if-more.false c.has.ensures c.front.ensures.result_value

@@ -27,10 +27,10 @@ loop-i-preserved c = (
       ∙ c.loop-i.invariant.1,
 )
 
-pub returns-then-i-k : goal.returns-then-i-k
-returns-then-i-k c =
-    raised_longer _ _ _ c.loop-i-test.false c.if-i-k.true ∙ c.loop-i.invariant.1
+pub returns-then-longer : goal.returns-then-longer
+returns-then-longer c =
+    raised_longer _ _ _ c.loop-i-test.false c.if-longer.true ∙ c.loop-i.invariant.1
 
 pub returns : goal.returns
 returns c =
-    raised_ended _ _ _ c.loop-i-test.false c.if-i-k.false ∙ c.loop-i.invariant.1
+    raised_ended _ _ _ c.loop-i-test.false c.if-longer.false ∙ c.loop-i.invariant.1

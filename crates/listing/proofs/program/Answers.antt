@@ -5,9 +5,9 @@ use Rattle.listing.specs.Told.{enough, print_full, print_told, prints_large, pri
 use native.Mathlib.Omega.{arith}
 use Rattle.listing.proofs.program.Goals as goal
 
-pub returns-then-input-le65536 : goal.returns-then-input-le65536
-returns-then-input-le65536 c =
-    let e = prints_listing c.args.input.now (omega (arith, c.if-input-le65536.true)) in
+pub returns-then-small : goal.returns-then-small
+returns-then-small c =
+    let e = prints_listing c.args.input.now (omega (arith, c.if-small.true)) in
     record { answer = rw e at c.list.ensures.answer; within = c.list.ensures.within; left = rw e at c.list.ensures.left }
 
 pub returns-then-too_short : goal.returns-then-too_short
@@ -29,6 +29,6 @@ returns c =
     let args = c.args in let tested = sym c.too_short.ensures ∙ c.if-too_short.false in
     let room = enough args.input.now args.out.now tested in
     let e = print_told _ args.input.now args.out.now tested _ _ _
-    (ap refusal_line c.of_file.ensures ∙ prints_large args.input.now (omega (arith, c.if-input-le65536.false)))
+    (ap refusal_line c.of_file.ensures ∙ prints_large args.input.now (omega (arith, c.if-small.false)))
     c.put_refusal.ensures.0
     (omega (arith, c.put_refusal.ensures.1, room)) in record { answer = e.0; within = e.1.0; left = e.1.1 }

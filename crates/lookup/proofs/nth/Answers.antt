@@ -74,18 +74,18 @@ unfolding places_of
 enum_known-s c =
     search rules
 
-pub returns-then-k-eq0 : goal.returns-then-k-eq0
+pub returns-then-here : goal.returns-then-here
 unfolding places_of
-returns-then-k-eq0 c =
+returns-then-here c =
     let args = c.args in
     nth_first _ _ _ _ (place_next _ _ _ args.f.now args.e c.loop-at.at c.loop-at.invariant.2.0 c.loop-at-test.true
-    c.requires.1 c.loop-at.invariant.2.1 _ _ (sym c.entry_at-s.ensures ∙ c.in-At.is)) c.if-k-eq0.true ∙
+    c.requires.1 c.loop-at.invariant.2.1 _ _ (sym c.entry_at-s.ensures ∙ c.in-At.is)) c.if-here.true ∙
     c.loop-at.invariant.2.2
 
 pub overflow_sub-k : goal.overflow_sub-k
 unfolding places_of
 overflow_sub-k c =
-    omega (arith, c.if-k-eq0.false)
+    omega (arith, c.if-here.false)
 
 pub overflow_add-at : goal.overflow_add-at
 unfolding places_of
@@ -110,7 +110,7 @@ loop-at-preserved c =
         nth_later _ _ _ _ (place_next _ _ _ args.f.now
             args.e c.loop-at.at c.loop-at.invariant.2.0 c.loop-at-test.true c.requires.1 c.loop-at.invariant.2.1 _ _
             (sym
-            c.entry_at-s.ensures ∙ c.in-At.is)) c.if-k-eq0.false ∙ c.loop-at.invariant.2.2,
+            c.entry_at-s.ensures ∙ c.in-At.is)) c.if-here.false ∙ c.loop-at.invariant.2.2,
       ),
     )
 

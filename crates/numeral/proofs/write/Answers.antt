@@ -33,16 +33,16 @@ unfolding given
 returns-then-minus-c c =
     rw c.refused.ensures (let e = zero_minus _ _ c.if-minus-c.true in record { answer = e.0; left = e.1 })
 
-pub refused-requires-then-k-gt17 : goal.refused-requires-then-k-gt17
+pub refused-requires-then-many : goal.refused-requires-then-many
 unfolding given
-refused-requires-then-k-gt17 c =
+refused-requires-then-many c =
     search rules
 
-pub returns-then-k-gt17 : goal.returns-then-k-gt17
+pub returns-then-many : goal.returns-then-many
 unfolding given
-returns-then-k-gt17 c =
-    let args = c.args in rw c.refused-then-k-gt17.ensures
-    (let e = many_decimals args.out.now args.n c.if-minus-c.false (omega (arith, c.if-k-gt17.true)) in record {
+returns-then-many c =
+    let args = c.args in rw c.refused-then-many.ensures
+    (let e = many_decimals args.out.now args.n c.if-minus-c.false (omega (arith, c.if-many.true)) in record {
       answer = e.0;
       left = e.1;
     })
@@ -56,7 +56,7 @@ pub returns-then-c-gt999999999999999999 : goal.returns-then-c-gt9999999999999999
 unfolding given
 returns-then-c-gt999999999999999999 c =
     let args = c.args in rw c.refused-then-c-gt999999999999999999.ensures
-    (let e = large_coefficient args.out.now args.n c.if-minus-c.false (omega (arith, c.if-k-gt17.false))
+    (let e = large_coefficient args.out.now args.n c.if-minus-c.false (omega (arith, c.if-many.false))
     (omega (arith, c.if-c-gt999999999999999999.true)) in record {
       answer = e.0;
       left = e.1;
@@ -67,19 +67,19 @@ unfolding given
 behind_e-to-requires c =
     search rules
 
-pub refused-requires-then-to-gt99 : goal.refused-requires-then-to-gt99
+pub refused-requires-then-distant : goal.refused-requires-then-distant
 unfolding given
-refused-requires-then-to-gt99 c =
+refused-requires-then-distant c =
     search rules
 
-pub returns-then-to-gt99 : goal.returns-then-to-gt99
+pub returns-then-distant : goal.returns-then-distant
 unfolding given
-returns-then-to-gt99 c =
-    let args = c.args in rw c.refused-then-to-gt99.ensures
-    (let e = far_power args.out.now args.n c.if-minus-c.false (omega (arith, c.if-k-gt17.false))
+returns-then-distant c =
+    let args = c.args in rw c.refused-then-distant.ensures
+    (let e = far_power args.out.now args.n c.if-minus-c.false (omega (arith, c.if-many.false))
     (omega (arith, c.if-c-gt999999999999999999.false))
-    c.behind_e-to.result.far (far (goal.at.returns-then-to-gt99 c).After-behind_e-to).1
-    (omega (arith, c.if-to-gt99.true)) in record {
+    c.behind_e-to.result.far (far (goal.at.returns-then-distant c).After-behind_e-to).1
+    (omega (arith, c.if-distant.true)) in record {
       answer = e.0;
       left = e.1;
     })
@@ -97,8 +97,8 @@ shape_of-out c =
 pub returns : goal.returns
 unfolding given
 returns c =
-    let args = c.args in let e = the_answer args.out.now args.n c.if-minus-c.false (omega (arith, c.if-k-gt17.false))
+    let args = c.args in let e = the_answer args.out.now args.n c.if-minus-c.false (omega (arith, c.if-many.false))
     (omega (arith, c.if-c-gt999999999999999999.false))
-    c.behind_e-to.result.far (far (goal.at.returns c).After-behind_e-to).1 (omega (arith, c.if-to-gt99.false)) _
+    c.behind_e-to.result.far (far (goal.at.returns c).After-behind_e-to).1 (omega (arith, c.if-distant.false)) _
     (far (goal.at.returns c).After-behind_e-to).0 _ _
     c.put_fitting.ensures.answer c.put_fitting.ensures.left in record { answer = e.0; left = e.1 }

@@ -7,12 +7,12 @@ pub returns-then-not-is_integers : goal.returns-then-not-is_integers
 returns-then-not-is_integers c =
     rw c.refusing.ensures (let e = integers_kind _ _ _ (sym c.is_integers.ensures ∙ c.if-not-is_integers.true) in record { answer = e.0; row = e.1 })
 
-pub returns-then-row-s : goal.returns-then-row-s
-returns-then-row-s c =
-    rw c.refusing-then-row-s.ensures (let e = integers_long _ _ _ (sym c.is_integers.ensures ∙ c.if-not-is_integers.false)
-    c.if-row-s.true in record { answer = e.0; row = e.1 })
+pub returns-then-unequal : goal.returns-then-unequal
+returns-then-unequal c =
+    rw c.refusing-then-unequal.ensures (let e = integers_long _ _ _ (sym c.is_integers.ensures ∙ c.if-not-is_integers.false)
+    c.if-unequal.true in record { answer = e.0; row = e.1 })
 
 pub returns : goal.returns
 returns c =
-    let e = integers_done _ _ _ _ _ (sym c.is_integers.ensures ∙ c.if-not-is_integers.false) c.if-row-s.false c.requires.1
+    let e = integers_done _ _ _ _ _ (sym c.is_integers.ensures ∙ c.if-not-is_integers.false) c.if-unequal.false c.requires.1
     c.is_high.ensures c.read_integers.ensures.filled in record { answer = e.0; row = e.1 }

@@ -7,10 +7,10 @@ use Rattle.reader.specs.Leaves.{placed}
 use Rattle.string_rows.specs.Rows.{row_good, row_bad}
 use Rattle.string_rows.proofs.fill.Goals as goal
 
-pub returns-then-fours-c : goal.returns-then-fours-c
-returns-then-fours-c c =
+pub returns-then-unequal : goal.returns-then-unequal
+returns-then-unequal c =
     let args = c.args in let no = row_bad args.c (length args.row.now)
-    (λ e. absurd (omega (arith, e, c.if-fours-c.true))) in record {
+    (λ e. absurd (omega (arith, e, c.if-unequal.true))) in record {
       answer = c.row_length.ensures ∙ sym no;
       row = rw no;
     }
@@ -27,7 +27,7 @@ pub fill-requires : goal.fill-requires
 fill-requires c =
     let args = c.args in
     let p = placed args.how args.f.now args.a args.e _ _ c.is_high.ensures c.string_end.ensures.result_value in
-    (c.requires.0, c.requires.1, omega (arith, c.requires.4, ap length p, c.if-size-fours.false, c.if-fours-c.false), omega arith)
+    (c.requires.0, c.requires.1, omega (arith, c.requires.4, ap length p, c.if-size-fours.false, c.if-unequal.false), omega arith)
 
 pub returns : goal.returns
 returns c =
@@ -35,5 +35,5 @@ returns c =
     c.string_end.ensures.result_value in let good = row_good args.c (length args.row.now) (omega (
       arith,
       c.if-size-fours.false,
-      c.if-fours-c.false,
+      c.if-unequal.false,
     )) in record { answer = sym good; row = rw good (c.fill.ensures ∙ ap numbers_of p) }

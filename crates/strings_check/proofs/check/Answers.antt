@@ -120,23 +120,23 @@ loop-at-preserved c =
       ),
     )
 
-pub has-requires-then-open_end : goal.has-requires-then-open_end
-has-requires-then-open_end c =
+pub has-requires-then-ends : goal.has-requires-then-ends
+has-requires-then-ends c =
     (c.requires.1, c.loop-at.invariant.4.3.lies)
 
-pub returns-then-open_end : goal.returns-then-open_end
-returns-then-open_end c =
+pub returns-then-ends : goal.returns-then-ends
+returns-then-ends c =
     let s = c.args in
     let i = c.loop-at.invariant.4 in
     let w = walk_over _ _ _ _ _ _ s.f.now s.e c.loop-at.at i.0 c.loop-at-test.false ∙ i.2 in
-    checked_seen _ _ _ _ _ s.f.now s.a s.e _ (rw (sym c.open_end.ensures ∙ c.if-open_end.true) at w)
+    checked_seen _ _ _ _ _ s.f.now s.a s.e _ (rw (sym c.open_end-ends.ensures ∙ c.if-ends.true) at w)
     (sought_over _ _ _ s.f.now _ s.a s.e c.loop-at.at c.loop-at.hit c.loop-at.gap c.loop-at.size i.0 i.3
     c.loop-at-test.false)
-    c.has-then-open_end.ensures
+    c.has-then-ends.ensures
 
 pub returns : goal.returns
 returns c =
     let s = c.args in
     let i = c.loop-at.invariant.4 in
     let w = walk_over _ _ _ _ _ _ s.f.now s.e c.loop-at.at i.0 c.loop-at-test.false ∙ i.2 in
-    checked_bad _ _ _ _ _ s.f.now s.a s.e _ (rw (sym c.open_end.ensures ∙ c.if-open_end.false) at w)
+    checked_bad _ _ _ _ _ s.f.now s.a s.e _ (rw (sym c.open_end-ends.ensures ∙ c.if-ends.false) at w)

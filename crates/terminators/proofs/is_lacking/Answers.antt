@@ -10,13 +10,13 @@ pub loop-i-init : goal.loop-i-init
 loop-i-init c =
     (search rules, refl)
 
-pub returns-then-u-i : goal.returns-then-u-i
-returns-then-u-i c =
-    lacks_here _ _ _ c.loop-i-test.true c.if-u-i.true ∙ c.loop-i.invariant.1
+pub returns-then-shared : goal.returns-then-shared
+returns-then-shared c =
+    lacks_here _ _ _ c.loop-i-test.true c.if-shared.true ∙ c.loop-i.invariant.1
 
 pub loop-i-preserved : goal.loop-i-preserved
 loop-i-preserved c =
-    (search rules, lacks_on _ _ _ c.loop-i-test.true c.if-u-i.false ∙ c.loop-i.invariant.1)
+    (search rules, lacks_on _ _ _ c.loop-i-test.true c.if-shared.false ∙ c.loop-i.invariant.1)
 
 pub returns : goal.returns
 returns c =
