@@ -3,9 +3,8 @@
 -- start image's length plus B and D of all traces before k, then the blocks and data one behind the other, and nothing
 -- after the last D bytes". `high` is the byte order.
 -- Assumes nothing.
-use Rattle.std.specs.Prelude.{◌≡◌, Bool, true, false, List, [], ◌∷◌, ◌++◌, ◌⊎◌, ℕ, ◌+◌, ◌-◌, ◌*◌, ◌≤◌, length, take, replicate}
+use Rattle.std.specs.Prelude.{◌≡◌, Bool, true, false, List, [], ◌∷◌, ◌++◌, ◌⊎◌, ℕ, ◌+◌, ◌-◌, ◌*◌, ◌≤◌, length, take, replicate, None}
 use Rattle.word.specs.Word.{bytes_of}
-use Rattle.fit.specs.declared.Fit.TheVariants.{All}
 use Rattle.sheet.specs.declared.Measured.TheVariants.{Size}
 use Rattle.sheet.specs.Lines.{sheet_lines}
 use Rattle.sheet.specs.Area.{area_of, measured_of}
@@ -53,7 +52,7 @@ pub record Good (x : Trace) : Type 0 where
   pub measures : Measures x.sheet
   pub channel : has_channel x ≡ true → (n : ℕ) × Counts (value_of_line (sheet_lines x.sheet) channel_number) n
   pub kind : fitting x.code x.samples ≡ true
-  pub held : unfit x.code x.samples ≡ All
+  pub held : unfit x.code x.samples ≡ None
 
 -- each trace of a list by itself
 abbrev pub EachGood : List Trace → Type 0

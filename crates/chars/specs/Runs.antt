@@ -1,6 +1,6 @@
 -- Bytes at the front of a list that pass a test, and lists that are the same.
 -- Assumes nothing.
-use Rattle.std.specs.Prelude.{◌≡◌, Bool, ◌&&◌, get_or, take, drop, eqb}
+use Rattle.std.specs.Prelude.{◌≡◌, Bool, ◌&&◌, get_or, take, drop, eqb, cond}
 use Rattle.std.proofs.Math.Path.{refl}
 use Rattle.std.proofs.Common.{sym, ap, ap₂, ◌∙◌, add-one, drop_of_length-le, take-append-drop, drop-cons, drop-drop, length-take-le, eqb-true, eq-eqb}
 use Rattle.std.proofs.Math.Bool.{true, false}
@@ -10,6 +10,7 @@ use native.Mathlib.Omega.{arith}
 use Rattle.std.proofs.Math.ListN.{length}
 use Rattle.word.specs.Tests.{both}
 use Rattle.refusal.specs.Rows.{pick}
+use Rattle.std.specs.List.{prefix_len, list_all, fold, zip}
 
 -- what is left of a list that is walked by an index, one element at a time
 pub more : (s : List ℕ) (i : ℕ) → i < length s → drop i s ≡ get_or s i 0 ∷ drop (i + 1) s
@@ -92,7 +93,7 @@ module _ (p : ℕ → Bool) where
       let a = both (p x) (all p xs) h in
       rw a.0 (ap suc (run_over xs ys a.1) ∙ omega arith)
 
-  -- a turn of a loop that counts them, and of one that tests all
+  -- what the byte at a place tells of the run from there, and of all from there
   pub run_more : (s : List ℕ) (i : ℕ) → i < length s → p (get_or s i 0) ≡ true → i + run p (drop i s) ≡ i + 1 + run p (drop (i + 1) s)
   unfolding run
   run_more s i h e = rw (more s i h, e) (omega arith)
@@ -105,7 +106,7 @@ module _ (p : ℕ → Bool) where
   unfolding run
   run_none s i h = rw (none s i h) (omega arith)
 
-  -- a turn of one that goes through to the end: w is what was found before
+  -- and where w is what was found before
   pub all_turn : (s : List ℕ) (i : ℕ) (w : Bool) → i < length s → ((w && p (get_or s i 0)) && all p (drop (i + 1) s)) ≡ (w && all p (drop i s))
   unfolding all
   all_turn s i true h = rw (more s i h)
@@ -167,7 +168,7 @@ same_refl (x ∷ xs) = rw (eq-eqb x x refl) (same_refl xs)
 pub same_not : (xs ys : List ℕ) → same xs ys ≡ false → xs ≡ ys → ⊥
 same_not xs ys h e = let k : same xs ys ≡ true = rw e (same_refl ys) in let z : ◌≡◌ {A = ℕ} 0 1 = cc in omega arith
 
--- a turn of the loop that compares two lists, and its ends
+-- what one byte of both tells, and what the rest does
 module _ (p k : List ℕ) (i : ℕ) where
   pub same_short : i < length p → length k ≤ i → false ≡ same (drop i p) (drop i k)
   unfolding same
@@ -188,3 +189,41 @@ module _ (p k : List ℕ) (i : ℕ) where
   pub same_ended : length p ≤ i → length k ≤ i → true ≡ same (drop i p) (drop i k)
   unfolding same
   same_ended h g = rw (none p i h, none k i g)
+
+-- ---- the same in the library's words
+
+pub run_prefix : (p : ℕ → Bool) (s : List ℕ) → prefix_len p s ≡ run p s
+unfolding run
+run_prefix p [] = refl
+run_prefix p (b ∷ bs) = go (p b) (run_prefix p bs)
+  where
+    go : (w : Bool) → prefix_len p bs ≡ run p bs → cond w (1 + prefix_len p bs) 0 ≡ pick w (suc (run p bs)) 0
+    go true e = omega arith
+    go false e = refl
+
+pub all_list : (p : ℕ → Bool) (s : List ℕ) → list_all p s ≡ all p s
+unfolding all
+all_list p [] = refl
+all_list p (b ∷ bs) = rw (all_list p bs)
+
+pub all_fold : (p : ℕ → Bool) (w : Bool) (s : List ℕ) → fold (λ (ok : Bool) (b : ℕ). ok && p b) w s ≡ (w && all p s)
+unfolding all
+all_fold p true [] = refl
+all_fold p false [] = refl
+all_fold p true (b ∷ bs) = all_fold p (p b) bs
+all_fold p false (b ∷ bs) = all_fold p false bs
+
+pub same_pairs : (xs ys : List ℕ) → length xs ≡ length ys → list_all (λ (q : ℕ × ℕ). eqb q.0 q.1) (zip xs ys) ≡ same xs ys
+unfolding same
+same_pairs [] [] h = refl
+same_pairs [] (y ∷ ys) h = absurd (omega arith)
+same_pairs (x ∷ xs) [] h = absurd (omega arith)
+same_pairs (x ∷ xs) (y ∷ ys) h = rw (same_pairs xs ys (omega arith))
+
+-- texts that are not as long are not the same
+pub same_long : (xs ys : List ℕ) → (length xs ≡ length ys → ⊥) → false ≡ same xs ys
+same_long xs ys h = go (same xs ys) refl
+  where
+    go : (w : Bool) → same xs ys ≡ w → false ≡ w
+    go true e = absurd (h (ap length (same_eq xs ys e)))
+    go false e = refl

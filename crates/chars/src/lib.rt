@@ -25,13 +25,13 @@ pub fn is(kind: Kind, b: u8) -> bool
     ensures { result ≡ is_of kind b }
 {
     match kind {
-        Kind::Blank => (b == 32) | (b == 9),
-        Kind::Solid => !((b == 32) | (b == 9)),
-        Kind::Digit => (48 <= b) & (b <= 57),
-        Kind::Capital => (33 <= b) & (b <= 96),
-        Kind::Line => b != 10,
-        Kind::Printed => (32 <= b) & (b <= 126),
-        Kind::Value => ((32 <= b) & (b <= 126)) | (b == 9),
+        Kind::Blank => matches!(b, b' ' | b'\t'),
+        Kind::Solid => !matches!(b, b' ' | b'\t'),
+        Kind::Digit => b.is_ascii_digit(),
+        Kind::Capital => matches!(b, 33..=96),
+        Kind::Line => b != b'\n',
+        Kind::Printed => matches!(b, 32..=126),
+        Kind::Value => matches!(b, 32..=126 | b'\t'),
     }
 }
 
@@ -39,57 +39,26 @@ pub fn is(kind: Kind, b: u8) -> bool
 pub fn run(kind: Kind, s: &[u8]) -> usize
     ensures { (result ≡ run (is_of kind) s.now) × (result ≤ length s.now) }
 {
-    let mut i: usize = 0;
-    while i < s.len() {
-        if is(kind, s[i]) {
-            i += 1;
-        } else {
-            return i;
-        }
-    }
-    i
+    s.iter().take_while(|b| is(kind, **b)).count()
 }
 
 // Whether all are of a kind. The loop has no early way out, so that a compiler can test many at a time.
 pub fn all(kind: Kind, s: &[u8]) -> bool
     ensures { result ≡ all (is_of kind) s.now }
 {
-    let mut ok = true;
-    let mut i: usize = 0;
-    while i < s.len() {
-        ok = ok & is(kind, s[i]);
-        i += 1;
-    }
-    ok
+    s.iter().fold(true, |ok, b| ok & is(kind, *b))
 }
 
 // Whether all are value characters. Few values have a tab.
 pub fn all_value(s: &[u8]) -> bool
     ensures { result ≡ all value_char s.now }
 {
-    if all(Kind::Printed, s) {
-        return true;
-    }
-    all(Kind::Value, s)
+    all(Kind::Printed, s) || all(Kind::Value, s)
 }
 
-// Whether two texts are the same.
+// Whether two texts are the same. Not by `==`, which is a call for texts of four bytes or more: this calls nothing.
 pub fn is_same(p: &[u8], k: &[u8]) -> bool
     ensures { result ≡ same p.now k.now }
 {
-    let mut i: usize = 0;
-    while i < p.len() {
-        if k.len() <= i {
-            return false;
-        }
-        if p[i] != k[i] {
-            return false;
-        }
-        i += 1;
-    }
-    let longer = i < k.len();
-    if longer {
-        return false;
-    }
-    true
+    p.len() == k.len() && p.iter().zip(k).all(|(a, b)| a == b)
 }

@@ -1,13 +1,7 @@
 -- The machine's 16 bits among its 32, read as signed numbers.
 -- Assumes nothing.
-use mathlib.Core.Path.{◌≡◌}
-use Prim.Native.Nat.{◌<◌}
-use native.Mathlib.Omega.{arith}
-use lib.IntN.{ℤ}
-use lib.Signed.{mag}
-use mir.Syntax.{w16, w32}
-use mir.Val.{to_z, of_z, SFits}
-use mir.Facts.{to_z-of_z}
+use Rattle.std.proofs.Common.{◌≡◌, ◌<◌, arith, ℤ, w16, w32, to_z, of_z, SFits, to_z-of_z}
+use Rattle.std.specs.Int.Signed.{mag}
 use Rattle.word.specs.Signed.{kept}
 
 -- 16 bits are among 32

@@ -28,6 +28,17 @@ fn sample2(block: &[u8], high: bool, i: usize) -> i32
     sample_bits::twos32(sample::word4_at(block, high, 4 * i))
 }
 
+// Fills the row with samples of a code of integers, whose bytes are there. The code is a const parameter, so there is a
+// loop for each.
+fn fill<const CODE: u8>(block: &[u8], high: bool, row: &mut [i32])
+    requires { integers_there CODE (length row.old) block.now ≡ true }
+    ensures { row.new ≡ integers_read CODE high block.now row.old }
+{
+    for i in 0..row.len() {
+        row[i] = sample_at(CODE, block, high, i);
+    }
+}
+
 // Fills the row with samples of code 1. Where the block is too short for it: false, and nothing is written.
 pub fn read1(block: &[u8], high: bool, row: &mut [i32]) -> bool
     ensures answer { result ≡ integers_there 1 (length row.old) block.now }
@@ -36,11 +47,7 @@ pub fn read1(block: &[u8], high: bool, row: &mut [i32]) -> bool
     if block.len() / 2 < row.len() {
         return false;
     }
-    let mut i = 0;
-    while i < row.len() {
-        row[i] = sample1(block, high, i);
-        i += 1;
-    }
+    fill::<1>(block, high, row);
     true
 }
 
@@ -52,11 +59,7 @@ pub fn read2(block: &[u8], high: bool, row: &mut [i32]) -> bool
     if block.len() / 4 < row.len() {
         return false;
     }
-    let mut i = 0;
-    while i < row.len() {
-        row[i] = sample2(block, high, i);
-        i += 1;
-    }
+    fill::<2>(block, high, row);
     true
 }
 
@@ -92,40 +95,19 @@ fn read_group(block: &[u8], high: bool, g: usize, row: &mut [i32])
 {
     let at = 10 * g;
     let exponents = sample::word_at(block, high, at);
-    let i0 = 4 * g;
-    let i1 = i0 + 1;
-    let i2 = i1 + 1;
-    let i3 = i2 + 1;
-    row[i0] = group_sample(block, high, at, exponents, 0);
-    row[i1] = group_sample(block, high, at, exponents, 1);
-    row[i2] = group_sample(block, high, at, exponents, 2);
-    row[i3] = group_sample(block, high, at, exponents, 3);
-}
-
-// All groups of a row, low byte first. There is a loop for each order: what is known of the order in its body is
-// settled when it is compiled, where the body of one loop for both is too long for the compiler to do so.
-fn read_low(block: &[u8], row: &mut [i32])
-    requires { (length row.old % 4 ≡ 0) × (needed 3 (length row.old) ≤ length block.now) }
-    ensures { row.new ≡ values_from (sample_of 3 false block.now) 0 (length row.old) }
-{
-    let count = row.len() / 4;
-    let mut g = 0;
-    while g < count {
-        read_group(block, false, g, row);
-        g += 1;
+    for k in 0..4u16 {
+        row[4 * g + k as usize] = group_sample(block, high, at, exponents, k);
     }
 }
 
-// High byte first.
-fn read_high(block: &[u8], row: &mut [i32])
+// All groups of a row. The order is a const parameter, so there is a loop for each: what is known of the order in its
+// body is settled when it is compiled, where the body of one loop for both is too long for the compiler to do so.
+fn read_groups<const HIGH: bool>(block: &[u8], row: &mut [i32])
     requires { (length row.old % 4 ≡ 0) × (needed 3 (length row.old) ≤ length block.now) }
-    ensures { row.new ≡ values_from (sample_of 3 true block.now) 0 (length row.old) }
+    ensures { row.new ≡ values_from (sample_of 3 HIGH block.now) 0 (length row.old) }
 {
-    let count = row.len() / 4;
-    let mut g = 0;
-    while g < count {
-        read_group(block, true, g, row);
-        g += 1;
+    for g in 0..row.len() / 4 {
+        read_group(block, HIGH, g, row);
     }
 }
 
@@ -141,10 +123,10 @@ pub fn read3(block: &[u8], high: bool, row: &mut [i32]) -> bool
         return false;
     }
     if high {
-        read_high(block, row);
-        return true;
+        read_groups::<true>(block, row);
+    } else {
+        read_groups::<false>(block, row);
     }
-    read_low(block, row);
     true
 }
 

@@ -1,13 +1,12 @@
 -- Theorems on what specs/GoodLists defines. They stand here, as a wrong definition there is to be refused and not to be unread.
 -- Assumes nothing.
-use Rattle.std.specs.Prelude.{◌≡◌, refl, Bool, true, false, List, [], ◌∷◌, ◌++◌, ◌↔◌, ◌⊎◌, ℕ, zero, suc, ◌+◌, ◌%◌}
+use Rattle.std.specs.Prelude.{◌≡◌, refl, Bool, true, false, List, [], ◌∷◌, ◌++◌, ◌↔◌, ◌⊎◌, ℕ, zero, suc, ◌+◌, ◌%◌, None}
 use Rattle.std.specs.Prelude.{◌≤◌, ◌<◌, ℤ, pos, negsuc, nat_abs, length, get_or, eqb}
 use Rattle.std.proofs.Common.{sym, ap, ◌∙◌, inl, inr, ⊎_elim, arith, le-ltb, leb-false, eq-eqb, eqb-true}
 use Rattle.std.specs.Int.Signed.{mag}
 use Rattle.std.proofs.lemmas.Bool.{lt-leb}
 use Rattle.word.specs.Tests.{never}
 use Rattle.word.specs.Round.{round4}
-use Rattle.fit.specs.declared.Fit.TheVariants.{All}
 use Rattle.fit.specs.Unfit.{first_from, outside, unfit_integer, unfit_pattern, unfit_integers, unfit_patterns, all_good}
 use Rattle.encode.specs.Back.{reach, fit_reach}
 use Rattle.refusal.specs.Rows.{pick}
@@ -46,7 +45,7 @@ sheet_measured sheet g =
     (round4 (text_size nul (joined line_feed ls)), rw g.bytes m.0)
 
 -- each is good, so all are
-each_good : {A : Type 0} (bad : A → Bool) (d : A) (i : ℕ) (xs : List A) → ((k : ℕ) → k < length xs → bad (get_or xs k d) ≡ false) → first_from bad i xs ≡ All
+each_good : {A : Type 0} (bad : A → Bool) (d : A) (i : ℕ) (xs : List A) → ((k : ℕ) → k < length xs → bad (get_or xs k d) ≡ false) → first_from bad i xs ≡ None
 unfolding first_from
 each_good bad d i [] h = refl
 each_good bad d i (x ∷ xs) h = rw (h 0 (omega arith)) (each_good bad d (i + 1) xs (λ k l. h (suc k) (omega arith)))
@@ -80,7 +79,7 @@ five_holds : (n : ℕ) → unfit_pattern 5 n ≡ false
 unfolding unfit_pattern
 five_holds n = refl
 
-all_held : (code : ℕ) (s : Samples) → Held code s → (fitting code s ≡ true) × (unfit code s ≡ All)
+all_held : (code : ℕ) (s : Samples) → Held code s → (fitting code s ≡ true) × (unfit code s ≡ None)
 unfolding fitting unfit unfit_integers unfit_patterns
 all_held code s (one {row} h) = (refl, each_good (unfit_integer 1) (pos 0) 0 row (λ k l. in_16 (get_or row k (pos 0)) (h k l)))
 all_held code s (two {row}) = (refl, each_good (unfit_integer 2) (pos 0) 0 row (λ k l. two_holds (get_or row k (pos 0))))
@@ -88,7 +87,7 @@ all_held code s (three {row} w h) = (eq-eqb (length row % 4) 0 w, each_good (unf
 all_held code s (four {row} h) = (refl, each_good (unfit_pattern 4) 0 0 row (λ k l. in_32 (get_or row k 0) (h k l)))
 all_held code s (five {row}) = (refl, each_good (unfit_pattern 5) 0 0 row (λ k l. five_holds (get_or row k 0)))
 
-held : (code : ℕ) (s : Samples) → fitting code s ≡ true → unfit code s ≡ All → Held code s
+held : (code : ℕ) (s : Samples) → fitting code s ≡ true → unfit code s ≡ None → Held code s
 unfolding fitting unfit unfit_integers unfit_patterns reach
 held zero (integers row) a h = never a
 held (suc zero) (integers row) a h = one (fit_reach row h)

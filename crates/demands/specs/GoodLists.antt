@@ -9,7 +9,6 @@ use Rattle.std.specs.Int.Signed.{mag}
 use Rattle.std.proofs.lemmas.Bool.{lt-leb}
 use Rattle.word.specs.Tests.{never}
 use Rattle.word.specs.Round.{round4}
-use Rattle.fit.specs.declared.Fit.TheVariants.{All}
 use Rattle.fit.specs.Unfit.{first_from, outside, unfit_integer, unfit_pattern, unfit_integers, unfit_patterns, all_good}
 use Rattle.encode.specs.Back.{reach, fit_reach}
 use Rattle.refusal.specs.Rows.{pick}

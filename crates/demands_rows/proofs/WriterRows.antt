@@ -1,6 +1,6 @@
 -- Theorems on what specs/WriterRows defines. They stand here, as a wrong definition there is to be refused and not to be unread.
 -- Assumes nothing.
-use Rattle.std.specs.Prelude.{◌≡◌, Bool, true, false, not, cond, List, [], ◌∷◌, ℕ, ◌+◌, length, take}
+use Rattle.std.specs.Prelude.{◌≡◌, Bool, true, false, not, cond, List, [], ◌∷◌, ℕ, ◌+◌, length, take, Some}
 use Rattle.std.proofs.Common.{sym, ◌∙◌}
 use Rattle.refusal.specs.Verdicts.{asked}
 use Rattle.refusal.specs.declared.Rule.TheVariants.{EntryCode, SampleRange}
@@ -22,7 +22,7 @@ samples_first bad i [] = sym first_nothing
 samples_first bad i (z ∷ zs) = go (bad z) (samples_first bad (i + 1) zs)
   where
     go : (w : Bool) → on_fit (first_from bad (i + 1) zs) ≡ first_of (sample_rows bad (i + 1) zs)
-        → on_fit (cond w (Rattle.fit.specs.declared.Fit.TheVariants.At i) (first_from bad (i + 1) zs))
+        → on_fit (cond w (Some i) (first_from bad (i + 1) zs))
         ≡ first_of (row w SampleRange File i ∷ sample_rows bad (i + 1) zs)
     go true h = sym (first_row_lem true SampleRange File i (sample_rows bad (i + 1) zs))
     go false h = h ∙ sym (first_row_lem false SampleRange File i (sample_rows bad (i + 1) zs))

@@ -1,9 +1,9 @@
--- The last k digits of a number, zeros in front among them, as they are stored; and how many a number has, as they are
--- counted.
+-- The last k digits of a number, zeros in front among them, as they are stored; and how many a number has, by the power
+-- of ten that it reaches.
 -- Assumes nothing.
-use Rattle.std.specs.Prelude.{◌≡◌, refl, Bool, true, false, List, [], ◌∷◌, ◌++◌, ℕ, zero, suc, ◌+◌, ◌-◌, ◌^◌, ◌/◌, ◌%◌, ◌≤◌, ◌<◌, length, set, ltb}
-use Rattle.std.proofs.Common.{sym, ap, ◌∙◌, div-one, arith, length-set, ltb-true, ltb-false}
-use Rattle.std.proofs.Math.Nat.{div-div-eq-div-mul, pow-succ'}
+use Rattle.std.specs.Prelude.{◌≡◌, refl, Bool, true, false, List, [], ◌∷◌, ◌++◌, ℕ, zero, suc, ◌+◌, ◌-◌, ◌^◌, ◌/◌, ◌%◌, ◌≤◌, ◌<◌, length, set, ltb, ◌*◌, max}
+use Rattle.std.proofs.Common.{sym, ap, ◌∙◌, div-one, arith, length-set, ltb-true, ltb-false, pow-suc}
+use Rattle.std.proofs.Math.Nat.{div-div-eq-div-mul, pow-succ', one-le-pow}
 use Rattle.std.proofs.lemmas.List.{set_comm}
 use Rattle.word.specs.Put.{put, put_append}
 use Rattle.word.specs.Wrote.{Wrote}
@@ -54,7 +54,34 @@ all_last n = last_all (suc n) n (omega arith)
 
 -- ---- how many a number has
 
--- the code's count: those that are counted, and those of what is left, are one more than all
+pub count_power : (k n : ℕ) → 10 ^ k ≤ n → n < 10 * 10 ^ k → length (digits n) ≡ k + 1
+count_power zero n h l = ap length (digits_one n (omega arith))
+count_power (suc k) n h l =
+    let p : 10 ^ suc k ≡ 10 ^ k * 10 = pow-suc 10 k in
+    let q : 0 < 10 ^ k = one-le-pow k 10 (omega arith) in
+    omega (arith, more_long n (omega arith), count_power k (n / 10) (omega arith) (omega arith))
+
+-- 0 has as many as 1
+pub count_any : (k n m : ℕ) → m ≡ max n 1 → 10 ^ k ≤ m → m < 10 * 10 ^ k → k + 1 ≡ length (digits n)
+count_any k n m e h l = go (ltb n 1) refl
+  where
+    go : (w : Bool) → ltb n 1 ≡ w → k + 1 ≡ length (digits n)
+    go true f =
+        let b = ltb-true n 1 f in
+        let z : m ≡ 1 = omega arith in
+        let o : length (digits n) ≡ 1 = ap length (digits_one n (omega arith)) in
+        let p : length (digits 1) ≡ 1 = ap length (digits_one 1 (omega arith)) in
+        let c : length (digits m) ≡ k + 1 = count_power k m h l in
+        let d : length (digits m) ≡ length (digits 1) = ap (λ (i : ℕ). length (digits i)) z in
+        omega arith
+    go false f =
+        let b = ltb-false n 1 f in
+        let z : m ≡ n = omega arith in
+        let c : length (digits m) ≡ k + 1 = count_power k m h l in
+        let d : length (digits m) ≡ length (digits n) = ap (λ (i : ℕ). length (digits i)) z in
+        omega arith
+
+-- a count by division: the digits that are counted, and those of what is left, are one more than all
 abbrev pub Counting : ℕ → ℕ → ℕ → Type 0
 Counting n left k = k + length (digits left) ≡ 1 + length (digits n)
 

@@ -1,6 +1,6 @@
 // Digits: what they mean (document 01, "Numbers in values"), and a number written in decimal. Value, Digits and
 // LastDigits have the definitions, and the laws that say that a number that was written means itself. Stands on
-// `chars`, `word`.
+// `chars` and `word`, for laws alone.
 // The rules in words: docs/FORMAT.md, "Numbers in values".
 #![tactic(auto)]
 
@@ -10,14 +10,13 @@ ghost use Rattle.digits.specs.Value.{worth, value, Room};
 ghost use Rattle.digits.specs.Digits.{digits};
 ghost use Rattle.digits.specs.LastDigits.{last_digits};
 
-use chars::Kind;
-
 // What a digit is worth: less than ten, so that the sums that it goes into fit.
+#[tactic(auto, unfolding(crate::specs::Value::worth))]
 pub fn worth(b: u8) -> u64
     ensures { (result ≡ worth b) × (result < 10) }
 {
-    if chars::is(Kind::Digit, b) {
-        b as u64 - 48
+    if b.is_ascii_digit() {
+        u64::from(b - b'0')
     } else {
         0
     }
@@ -29,10 +28,8 @@ pub fn value(v: u64, s: &[u8]) -> u64
     ensures { result ≡ value v s.now }
 {
     let mut w = v;
-    let mut i = 0;
-    while i < s.len() {
-        w = w * 10 + worth(s[i]);
-        i += 1;
+    for b in s {
+        w = w * 10 + worth(*b);
     }
     w
 }
@@ -43,11 +40,9 @@ pub fn put_last(out: &mut [u8], at: usize, c: u64, k: usize) -> usize
     ensures { piece.Wrote out.old at (last_digits k c) result out.new }
 {
     let mut left = c;
-    let mut i = k;
-    while 0 < i {
-        i -= 1;
-        out[at + i] = 48 + (left % 10) as u8;
-        left = left / 10;
+    for i in (0..k).rev() {
+        out[at + i] = b'0' + (left % 10) as u8;
+        left /= 10;
     }
     at + k
 }
@@ -56,13 +51,7 @@ pub fn put_last(out: &mut [u8], at: usize, c: u64, k: usize) -> usize
 pub fn digit_count(n: u64) -> usize
     ensures { (result ≡ length (digits n)) × (result ≤ 20) }
 {
-    let mut left = n;
-    let mut k: usize = 1;
-    while 10 <= left {
-        left = left / 10;
-        k += 1;
-    }
-    k
+    n.max(1).ilog10() as usize + 1
 }
 
 // A number in decimal. Its digits are counted first and stored where they belong: gathered in a row and copied they
@@ -71,6 +60,5 @@ pub fn put_digits(out: &mut [u8], at: usize, n: u64) -> usize
     requires { piece.Room out.old at (digits n) }
     ensures { piece.Wrote out.old at (digits n) result out.new }
 {
-    let k = digit_count(n);
-    put_last(out, at, n, k)
+    put_last(out, at, n, digit_count(n))
 }

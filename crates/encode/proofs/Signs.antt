@@ -1,20 +1,10 @@
--- The machine's 32-bit patterns of signed numbers: bits, magnitude and bounds by the sign.
+-- The machine's 32 bits of a signed number are its two's complement.
 -- Assumes nothing.
-use mathlib.Core.Path.{◌≡◌}
-use mathlib.Core.Bool.{true, false}
-use Prim.Native.Nat.{ℕ, ◌-◌, ◌<◌}
-use native.Mathlib.Omega.{arith}
-use lib.IntN.{ℤ, pos, negsuc, nat_abs}
-use lib.Signed.{mag, lt_z}
-use borrow.Author.Tests.{ltb-true}
+use Rattle.std.proofs.Common.{◌≡◌, ◌<◌, arith, ℤ, pos, negsuc, w32, of_z}
+use Rattle.std.specs.Int.Signed.{mag}
 use Rattle.encode.specs.Write.{residue}
 
-pub minus_bits : (v : ℤ) → mag v < 2147483648 → lt_z v (pos 0) ≡ true → residue 4294967296 v ≡ 4294967295 - mag v
+pub bits_residue : (v : ℤ) → mag v < 2147483648 → of_z w32 v ≡ residue 4294967296 v
 unfolding residue
-minus_bits (pos n) h t = let l = ltb-true n 0 t in absurd (omega arith)
-minus_bits (negsuc n) h t = omega arith
-
-pub plus_bits : (v : ℤ) → mag v < 2147483648 → lt_z v (pos 0) ≡ false → residue 4294967296 v ≡ nat_abs v
-unfolding residue
-plus_bits (pos n) h t = omega arith
-plus_bits (negsuc n) h t = absurd (let z : ◌≡◌ {A = ℕ} 0 1 = cc in omega arith)
+bits_residue (pos n) h = omega arith
+bits_residue (negsuc n) h = omega arith

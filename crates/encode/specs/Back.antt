@@ -1,6 +1,6 @@
 -- What is written reads back. Codes 1, 2, 4 and 5: whole rows, as they were given.
 -- Assumes nothing.
-use Rattle.std.specs.Prelude.{◌≡◌, refl, Bool, true, false, ◌||◌, List, [], ◌∷◌, ◌++◌, map, ℕ, zero, suc, ◌+◌, ◌-◌, ◌*◌, ◌/◌, ◌%◌, ◌^◌, ◌<◌, ℤ, pos, negsuc, length, get_or, ltb}
+use Rattle.std.specs.Prelude.{◌≡◌, None, refl, Bool, true, false, ◌||◌, List, [], ◌∷◌, ◌++◌, map, ℕ, zero, suc, ◌+◌, ◌-◌, ◌*◌, ◌/◌, ◌%◌, ◌^◌, ◌<◌, ℤ, pos, negsuc, length, get_or, ltb}
 use Rattle.std.proofs.Common.{sym, ap, ◌∙◌, append_assoc, mod-eq_of_lt, mod-lt, mul-suc, arith, drop_at, ext_get_or, eqb-true, ltb-false, leb-false}
 use Rattle.std.specs.Int.Signed.{mag}
 use Rattle.word.specs.Tests.{never}
@@ -19,7 +19,6 @@ use Rattle.row20.specs.Row20.{groups}
 use Rattle.row20.specs.RowLaws.{length_groups}
 use Rattle.encode.specs.Write.{flat, residue, fixed_bytes, filled_up, integers_data, bits_data}
 use Rattle.encode.specs.WriteLaws.{length_flat, length_filled_up}
-use Rattle.fit.specs.declared.Fit.TheVariants.{All}
 
 -- ---- how long the data block is
 
@@ -125,7 +124,7 @@ inside (negsuc n) e = let l = ltb-false 32767 n (or_left (ltb 32767 n) e) in ome
     or_left true e = e
     or_left false e = e
 
-pub fit_reach : (row : List ℤ) → unfit_integers 1 row ≡ All → (k : ℕ) → k < length row → mag (get_or row k (pos 0)) < reach 1
+pub fit_reach : (row : List ℤ) → unfit_integers 1 row ≡ None → (k : ℕ) → k < length row → mag (get_or row k (pos 0)) < reach 1
 unfolding unfit_integers reach
 fit_reach row h k l = inside (get_or row k (pos 0)) (all_good (unfit_integer 1) (pos 0) 0 row h k l)
 
@@ -166,7 +165,7 @@ integers_read_back code high row old a h l =
 -- ---- codes 4 and 5
 
 -- what code 4 can hold by the test is 32 bits; code 5 holds what 64 bits hold
-pub fit_32 : (row : List ℕ) → unfit_patterns 4 row ≡ All → (k : ℕ) → k < length row → get_or row k 0 < 256 ^ width 4
+pub fit_32 : (row : List ℕ) → unfit_patterns 4 row ≡ None → (k : ℕ) → k < length row → get_or row k 0 < 256 ^ width 4
 unfolding unfit_patterns unfit_pattern width
 fit_32 row h k l = leb-false 4294967296 (get_or row k 0) (all_good (unfit_pattern 4) 0 0 row h k l)
 

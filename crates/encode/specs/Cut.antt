@@ -1,7 +1,7 @@
 -- What code 3 keeps of a sample: its leading bits. "So the value read differs by less than 2 to the exponent, and by
 -- nothing up to 32,767" (document 01, "Samples").
 -- Assumes nothing.
-use Rattle.std.specs.Prelude.{◌≡◌, refl, Bool, true, false, cond, List, [], ◌∷◌, ◌++◌, map, ℕ, zero, suc, ◌+◌, ◌-◌, ◌*◌, ◌/◌, ◌%◌, ◌^◌, ◌≤◌, ◌<◌, ℤ, pos, negsuc, neg_ℤ, nat_abs, ◌-ℤ◌, ◌*ℤ◌, length, get_or, ltb}
+use Rattle.std.specs.Prelude.{◌≡◌, None, refl, Bool, true, false, cond, List, [], ◌∷◌, ◌++◌, map, ℕ, zero, suc, ◌+◌, ◌-◌, ◌*◌, ◌/◌, ◌%◌, ◌^◌, ◌≤◌, ◌<◌, ℤ, pos, negsuc, neg_ℤ, nat_abs, ◌-ℤ◌, ◌*ℤ◌, length, get_or, ltb}
 use Rattle.std.proofs.Common.{sym, ap, ◌∙◌, append_assoc, append-nil, mod-lt, mul_assoc, lt_of_lt_of_le, arith, pow_pos, pow_mono, pow-add, shl_lt, drop_at, lt-ltb, le-ltb, ltb-true, ltb-false, eq-eqb}
 use Rattle.std.proofs.Math.IntN.{sub_ℕ, neg_ℤ-neg_ℤ, pos-*ℤ-pos}
 use Rattle.std.proofs.lemmas.Nat.{shl-shr}
@@ -23,7 +23,6 @@ use Rattle.group20.specs.GroupLaws.{fit_magnitude, length_group}
 use Rattle.row20.specs.Row20.{groups}
 use Rattle.encode.specs.Write.{flat, filled_up, integers_data}
 use Rattle.encode.specs.Back.{word_flat, written_there}
-use Rattle.fit.specs.declared.Fit.TheVariants.{All}
 
 -- the value of z's exponent and mantissa
 unfoldable pub cut : ℤ → ℤ
@@ -291,7 +290,7 @@ group_back high row rest g k h s l =
     ∙ ap cut (of_group row g k l))
 
 -- each sample reads back as what is kept of it
-pub floats_back : (high : Bool) (row : List ℤ) (i : ℕ) → length row % 4 ≡ 0 → unfit_integers 3 row ≡ All → i < length row
+pub floats_back : (high : Bool) (row : List ℤ) (i : ℕ) → length row % 4 ≡ 0 → unfit_integers 3 row ≡ None → i < length row
     → sample_of 3 high (integers_data 3 high row) i ≡ cut (get_or row i (pos 0))
 unfolding integers_data filled_up Small
 floats_back high row i w h l =
@@ -303,7 +302,7 @@ floats_back high row i w h l =
     ∙ ap (λ (j : ℕ). cut (get_or row j (pos 0))) (sym e)
 
 -- the decoder's whole row
-pub floats_read_back : (high : Bool) (row old : List ℤ) → length row % 4 ≡ 0 → unfit_integers 3 row ≡ All → length old ≡ length row
+pub floats_read_back : (high : Bool) (row old : List ℤ) → length row % 4 ≡ 0 → unfit_integers 3 row ≡ None → length old ≡ length row
     → (integers_there 3 (length old) (integers_data 3 high row) ≡ true) × (integers_read 3 high (integers_data 3 high row) old ≡ map cut row)
 floats_read_back high row old w h l =
     let t = written_there 3 high row old (eq-eqb (length row % 4) 0 w) l in

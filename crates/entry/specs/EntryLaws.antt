@@ -1,6 +1,6 @@
 -- What rows 28 and 29 have shown, and how the code tests them.
 -- Assumes nothing.
-use Rattle.std.specs.Prelude.{◌≡◌, refl, Bool, true, false, not, ◌&&◌, ◌||◌, ℕ, zero, suc, ◌%◌, ◌≤◌, length, eqb}
+use Rattle.std.specs.Prelude.{◌≡◌, refl, Bool, true, false, not, ◌&&◌, ◌||◌, ℕ, zero, suc, ◌%◌, ◌≤◌, length, eqb, Option, Some, None}
 use Rattle.std.proofs.Common.{sym, ◌∙◌, arith, ne_eqb}
 use Rattle.std.proofs.lemmas.Bool.{not-false}
 use Rattle.refusal.specs.declared.Refusal.{Refusal}
@@ -11,8 +11,6 @@ use Rattle.refusal.specs.declared.Verdict.TheVariants as verdict
 use Rattle.refusal.specs.Table.{refusal}
 use Rattle.refusal.specs.Rows.{pick}
 use Rattle.refusal.specs.Verdicts.{refused_not}
-use Rattle.fit.specs.declared.Fit.{Fit}
-use Rattle.fit.specs.declared.Fit.TheVariants.{All, At}
 use Rattle.decode.specs.Sample.{integers_asked, bits_asked}
 use Rattle.head.specs.Head.{refused}
 use Rattle.layout.specs.Layout.{Samples, integers, patterns, count, fitting, unfit}
@@ -25,11 +23,11 @@ from_kind : (w : Bool) (r : Refusal) (v : Verdict) → pick w (verdict.Refused r
 from_kind true r v e = absurd (refused_not r e)
 from_kind false r v e = (refl, e)
 
-from_fit : (x : Fit) → on_fit x ≡ verdict.Accepted → x ≡ All
-from_fit All e = refl
-from_fit (At i) e = absurd (refused_not _ e)
+from_fit : (x : Option ℕ) → on_fit x ≡ verdict.Accepted → x ≡ None
+from_fit None e = refl
+from_fit (Some i) e = absurd (refused_not _ e)
 
-pub samples_fit : (code : ℕ) (x : Samples) → samples_verdict code x ≡ verdict.Accepted → (fitting code x ≡ true) × (unfit code x ≡ All)
+pub samples_fit : (code : ℕ) (x : Samples) → samples_verdict code x ≡ verdict.Accepted → (fitting code x ≡ true) × (unfit code x ≡ None)
 unfolding samples_verdict
 samples_fit code x e =
     let k = from_kind (not (fitting code x)) (refusal EntryCode File 0) (on_fit (unfit code x)) e in
@@ -60,7 +58,7 @@ of_bits_lem (suc (suc (suc (suc (suc (suc c)))))) =
     rw (ne_eqb k 4 (λ e. omega arith), ne_eqb k 5 (λ e. omega arith))
 
 module _ (code : ℕ) (samples : Samples) {asked : Bool} (e : asked ≡ fitting code samples) where
-  pub of_kind : {fit : Fit} {v : Verdict} → asked ≡ true → fit ≡ unfit code samples → v ≡ on_fit fit → v ≡ samples_verdict code samples
+  pub of_kind : {fit : Option ℕ} {v : Verdict} → asked ≡ true → fit ≡ unfit code samples → v ≡ on_fit fit → v ≡ samples_verdict code samples
   unfolding samples_verdict
   of_kind h f v = v ∙ rw (← e, h, f)
 

@@ -8,16 +8,15 @@ ghost use Rattle.decode.specs.Sample.{integers_asked, bits_asked};
 ghost use Rattle.layout.specs.Layout.{integers, patterns};
 ghost use Rattle.entry.specs.Entry.{on_fit, samples_verdict, code_verdict};
 
-use fit::Fit;
 use refusal::{Rule, Verdict};
 
 // Row 29: the first sample that its code cannot hold.
-fn fitted(fit: Fit) -> Verdict
+fn fitted(fit: Option<usize>) -> Verdict
     ensures { result ≡ on_fit fit }
 {
     match fit {
-        Fit::All => Verdict::Accepted,
-        Fit::At(i) => head::refusing(Rule::SampleRange, i),
+        None => Verdict::Accepted,
+        Some(i) => head::refusing(Rule::SampleRange, i),
     }
 }
 

@@ -1,7 +1,7 @@
 -- Theorems on what specs/Float20Laws defines. They stand here, as a wrong definition there is to be refused and not to be unread.
 -- Assumes nothing.
-use Rattle.std.specs.Prelude.{◌≡◌, true, ℕ, ◌-◌, ◌/◌, ◌^◌, ◌<◌, ℤ, pos, nat_abs}
 use Rattle.std.proofs.Common.{sym, ap, ◌∙◌}
+use Rattle.std.specs.Prelude.{◌≡◌, true, ℕ, ◌-◌, ◌/◌, ◌^◌, ◌<◌, ℤ, pos, nat_abs}
 use Rattle.std.specs.Int.Signed.{lt_z}
 use Rattle.float20.specs.Float20.{exponent_of}
 use Rattle.float20.specs.Float20Laws.{Coded, Told, mantissa_minus}

@@ -12,7 +12,7 @@ fn exponent(n: u32) -> u32
     requires { n < 1073741824 }
     ensures { Told n result }
 {
-    17 - u32::leading_zeros(n | 32767)
+    17 - (n | 32767).leading_zeros()
 }
 
 // A sample of code 3, as it is written.
@@ -27,19 +27,13 @@ pub fn float20_of(v: i32) -> Float20
     requires { nat_abs v < 1073741824 }
     ensures { Coded v result.exponent result.mantissa }
 {
-    let n = word::magnitude(v);
+    let n = v.unsigned_abs();
     let e = exponent(n);
     let t = (n >> e) as u16;
-    if v < 0 {
-        Float20 {
-            exponent: e,
-            mantissa: 65535 - t,
-        }
-    } else {
-        Float20 {
-            exponent: e,
-            mantissa: t,
-        }
+    let mantissa = if v < 0 { 65535 - t } else { t };
+    Float20 {
+        exponent: e,
+        mantissa,
     }
 }
 

@@ -1,7 +1,7 @@
 -- Runs of digits, blanks and what is no blank: the bytes of a kind at the front of a text, and what is behind them. The
 -- laws hold for any kind.
 -- Assumes nothing.
-use Rattle.std.specs.Prelude.{◌≡◌, Bool, ℕ, suc, ◌+◌, ◌-◌, length, take, drop}
+use Rattle.std.specs.Prelude.{◌≡◌, Bool, ℕ, suc, ◌-◌, length, take, drop}
 use Rattle.std.proofs.Math.Path.{refl}
 use Rattle.std.proofs.Common.{ap, ◌∙◌, arith, take-append-drop, length-drop, length-take-le, take_all, take_at, drop_at}
 use Rattle.std.proofs.Math.Bool.{true, false}

@@ -26,10 +26,7 @@ pub fn behind(s: &[u8], n: usize) -> &[u8]
 pub fn has(s: &[u8], b: u8) -> bool
     ensures { result ≡ has b s.now }
 {
-    if 0 < s.len() {
-        return s[0] == b;
-    }
-    false
+    !s.is_empty() && s[0] == b
 }
 
 pub fn past(s: &[u8], b: u8) -> &[u8]

@@ -1,6 +1,6 @@
 -- The laws of a group of words: what its pairs of words make, and how long it is.
 -- Assumes nothing.
-use Rattle.std.specs.Prelude.{◌≡◌, Bool, List, ◌++◌, ℕ, ◌+◌, ◌*◌, ◌<◌, ℤ, pos, nat_abs, length, get_or}
+use Rattle.std.specs.Prelude.{◌≡◌, None, Bool, List, ◌++◌, ℕ, ◌+◌, ◌*◌, ◌<◌, ℤ, pos, nat_abs, length, get_or}
 use Rattle.std.proofs.Common.{sym, ap, ap₂, ◌∙◌, append_assoc, arith, length-append, leb-false}
 use Rattle.word.specs.Put.{put, put_append}
 use Rattle.word.specs.Word.{bytes_of}
@@ -9,7 +9,6 @@ use Rattle.fit.specs.Unfit.{unfit_integer, unfit_integers, all_good}
 use Rattle.float20.specs.Float20.{mantissa_of, ones_bits}
 use Rattle.float20.specs.Float20Laws.{Coded}
 use Rattle.group20.specs.Group20.{exponents_of, words_of, group_bytes, group_of}
-use Rattle.fit.specs.declared.Fit.TheVariants.{All}
 
 -- words that two bytes hold
 abbrev pub TwoBytes : ℕ → ℕ → ℕ → ℕ → ℕ → Type 0
@@ -95,7 +94,7 @@ put_two {row} {g} {h} {w} {a} {b} {c} {d} {w'} {a'} {b'} {c'} {d'} high xs at r 
 
 -- ---- the samples that code 3 holds
 
-pub fit_magnitude : (row : List ℤ) → unfit_integers 3 row ≡ All → (k : ℕ) → k < length row → nat_abs (get_or row k (pos 0)) < 1073741824
+pub fit_magnitude : (row : List ℤ) → unfit_integers 3 row ≡ None → (k : ℕ) → k < length row → nat_abs (get_or row k (pos 0)) < 1073741824
 unfolding unfit_integers unfit_integer
 fit_magnitude row h k l = leb-false 1073741824 (nat_abs (get_or row k (pos 0))) (all_good (unfit_integer 3) (pos 0) 0 row h k l)
 

@@ -4,14 +4,12 @@
 // The rules in words: docs/FORMAT.md, "Samples".
 #![tactic(auto)]
 
-ghost use Rattle.std.specs.Prelude.{◌≡◌, ◌++◌, ◌+◌, ◌*◌, ◌≤◌, ◌<◌, length};
+ghost use Rattle.std.specs.Prelude.{◌≡◌, None, ◌++◌, ◌+◌, ◌*◌, ◌≤◌, ◌<◌, length};
 ghost use Rattle.word.specs.Put.{put};
 ghost use Rattle.word.specs.Word.{joined, bytes_of};
 ghost use Rattle.fit.specs.Unfit.{unfit_integers};
 ghost use Rattle.group20.specs.Group20.{words_of};
 ghost use Rattle.group20.specs.GroupLaws.{Words, TwoBytes, front_of};
-
-use fit::Fit;
 
 // The two bytes of a number, stored at a place.
 pub fn put_word(part: &mut [u8], high: bool, at: usize, n: u16)
@@ -59,7 +57,7 @@ pub struct Group {
 
 // Group g of a row. Each exponent and each mantissa is worked out once.
 pub fn group_of(row: &[i32], g: usize) -> Group
-    requires { (4 * g + 4 ≤ length row.now) × (unfit_integers 3 row.now ≡ Fit.All) }
+    requires { (4 * g + 4 ≤ length row.now) × (unfit_integers 3 row.now ≡ None) }
     ensures { Words row.now g result.w result.a result.b result.c result.d }
 {
     let i = 4 * g;

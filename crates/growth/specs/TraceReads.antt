@@ -2,7 +2,7 @@
 -- (document 01, "Samples": "So the value read differs by less than 2 to the exponent, and by nothing up to 32,767"
 -- under code 3, and nothing differs under the others).
 -- Assumes nothing.
-use Rattle.std.specs.Prelude.{◌≡◌, refl, Bool, List, [], map, ℕ, zero, suc, ◌+◌, ◌%◌, ◌<◌, ℤ, pos, length, get_or, take}
+use Rattle.std.specs.Prelude.{◌≡◌, refl, Bool, List, [], map, ℕ, zero, suc, ◌+◌, ◌%◌, ◌<◌, ℤ, pos, length, get_or, take, None}
 use Rattle.std.proofs.Common.{sym, ap, ◌∙◌, eqb-true}
 use Rattle.std.proofs.Math.Bool.{true}
 use native.Mathlib.Omega.{arith}
@@ -13,7 +13,6 @@ use Rattle.word.specs.Tests.{never}
 use Rattle.word.specs.Part.{part}
 use Rattle.refusal.specs.declared.Verdict.TheVariants.{Accepted}
 use Rattle.strings.specs.Spelled.{Spells}
-use Rattle.fit.specs.declared.Fit.TheVariants.{All}
 use Rattle.sample.specs.Needed.{by_code, width}
 use Rattle.sample.specs.Run.{values_from, run_map, run_of}
 use Rattle.decode.specs.Sample.{sample_of, pattern_of, class_of, integers_asked, bits_asked}
@@ -54,7 +53,7 @@ In32 row = (k : ℕ) → k < length row → mag (get_or row k (pos 0)) < 2147483
 abbrev pub In64 : List ℕ → Type 0
 In64 row = (k : ℕ) → k < length row → get_or row k 0 < 18446744073709551616
 
-integers_again : (code : ℕ) (high : Bool) (row : List ℤ) → integers_asked code (length row) ≡ true → unfit_integers code row ≡ All → In32 row
+integers_again : (code : ℕ) (high : Bool) (row : List ℤ) → integers_asked code (length row) ≡ true → unfit_integers code row ≡ None → In32 row
     → values_from (sample_of code high (integers_data code high row)) 0 (length row) ≡ read_back code row
 unfolding read_back reach
 integers_again zero high row a h m = never a
@@ -66,7 +65,7 @@ integers_again (suc (suc (suc (suc zero)))) high row a h m = never a
 integers_again (suc (suc (suc (suc (suc zero))))) high row a h m = never a
 integers_again (suc (suc (suc (suc (suc (suc code)))))) high row a h m = never a
 
-patterns_again : (code : ℕ) (high : Bool) (row : List ℕ) → bits_asked code ≡ true → unfit_patterns code row ≡ All → In64 row
+patterns_again : (code : ℕ) (high : Bool) (row : List ℕ) → bits_asked code ≡ true → unfit_patterns code row ≡ None → In64 row
     → values_from (pattern_of code high (bits_data code high row)) 0 (length row) ≡ row
 unfolding width
 patterns_again zero high row a h m = never a
@@ -97,7 +96,7 @@ pub record Standing (g : List ℕ) (k p : ℕ) (x : Trace) : Type 0 where
   pub sized : measured_of (string_end g) (line_end g) x.sheet ≡ Size size
   pub ends : LineEnd (line_end g)
   pub kind : fitting x.code x.samples ≡ true
-  pub held : unfit x.code x.samples ≡ All
+  pub held : unfit x.code x.samples ≡ None
 
 module _ {g : List ℕ} {k p : ℕ} {x : Trace} (s : Standing g k p x) where
   block_there : trace_block_of (high_first g) g k
@@ -141,7 +140,7 @@ module _ {g : List ℕ} {k p : ℕ} {x : Trace} (s : Standing g k p x) where
   unfolding samples_data layout.count fitting unfit
   integers_there_lem row e m =
       let a : integers_asked x.code (length row) ≡ true = rw e at s.kind in
-      let b : unfit_integers x.code row ≡ All = rw e at s.held in
+      let b : unfit_integers x.code row ≡ None = rw e at s.held in
       let c = rw e at count_there in
       let t = rw e at samples_there in
       (rw code_there (of_integers_lem x.code (length row) a), c, t ∙ integers_again x.code (high_first g) row a b m)
@@ -151,7 +150,7 @@ module _ {g : List ℕ} {k p : ℕ} {x : Trace} (s : Standing g k p x) where
   unfolding samples_data layout.count fitting unfit
   bits_there_lem row e m =
       let a : bits_asked x.code ≡ true = rw e at s.kind in
-      let b : unfit_patterns x.code row ≡ All = rw e at s.held in
+      let b : unfit_patterns x.code row ≡ None = rw e at s.held in
       let c = rw e at count_there in
       let t = rw e at patterns_there in
       (rw code_there a, c, t ∙ patterns_again x.code (high_first g) row a b m)

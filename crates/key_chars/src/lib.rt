@@ -11,33 +11,24 @@ ghost use Rattle.text.specs.Manner.{letter};
 use chars::Kind;
 use text::Manner;
 
-// Whether a byte is a keyword's character. Most keywords end at a blank, which is none in any manner.
+// Whether a byte is a keyword's character.
 fn key_char(b: u8, how: Manner) -> bool
     ensures { result ≡ letter how b }
 {
-    if b < 33 {
-        return false;
-    }
     match how {
-        Manner::Strict => ((33 <= b) & (b <= 96)) | ((123 <= b) & (b <= 126)),
+        Manner::Strict => matches!(b, 33..=96 | 123..=126),
         Manner::Lenient => letters::is_loose(b),
     }
 }
 
-// How many keyword characters stand first.
+// How many keyword characters stand first. Nearly all are capitals, which are counted without asking for the manner.
 pub fn key_run(s: &[u8], how: Manner) -> usize
     ensures { (result ≡ run (letter how) s.now) × (result ≤ length s.now) }
 {
-    let mut i: usize = 0;
-    while i < s.len() {
-        i += chars::run(Kind::Capital, &s[i..]);
-        if s.len() <= i {
-            return i;
-        }
-        if !key_char(s[i], how) {
-            return i;
-        }
-        i += 1;
-    }
-    i
+    let capitals = chars::run(Kind::Capital, s);
+    capitals
+        + s[capitals..]
+            .iter()
+            .take_while(|b| key_char(**b, how))
+            .count()
 }

@@ -1,6 +1,10 @@
 -- Theorems on what specs/Order defines. They stand here, as a wrong definition there is to be refused and not to be unread.
 -- Assumes nothing.
-use Rattle.std.specs.Prelude.{◌≡◌, refl, Bool, true, false, List, ◌⊎◌, ℕ}
+use Rattle.std.specs.Prelude.{◌≡◌, refl, Bool, true, false, List, ℕ, Some}
+use Rattle.std.specs.Cmp.Lexicographic.{slice_partial_cmp}
+use Rattle.std.specs.Ordering.{is_some_and, is_lt, nat_cmp}
+use Rattle.std.proofs.lemmas.Bool.Decides.{nat_tests}
+use Rattle.std.proofs.lemmas.Cmp.{same_from_slice_cmp_tested}
 use Rattle.std.proofs.Common.{sym, ◌∙◌, ⊎_elim, arith}
 use Rattle.word.specs.Tests.{never}
 use Rattle.refusal.specs.Rows.{pick}
@@ -60,3 +64,8 @@ rises_both a b h k =
     (λ x. ⊎_elim (λ y. never (sym (before_irreflexive a) ∙ before_transitive a b a x y)) (λ y. sym y.0) (rises_so b a k))
     (λ x. x.0)
     (rises_so a b h)
+
+-- the order of slices, as the library has it, is this order
+pub less_slices : (xs ys : List ℕ) (r : Bool) → r ≡ is_some_and is_lt (slice_partial_cmp (λ x y. Some (nat_cmp x y)) xs ys) → r ≡ less xs ys
+unfolding less
+less_slices = same_from_slice_cmp_tested nat_cmp is_lt less refl (λ _ _. refl) (λ _ _. refl) (λ x y xs ys o h. grind (arith, nat_tests))

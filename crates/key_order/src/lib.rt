@@ -6,30 +6,7 @@
 ghost use Rattle.std.specs.Prelude.{◌≡◌};
 ghost use Rattle.chars.specs.Chars.{note};
 ghost use Rattle.chars.specs.Runs.{same};
-ghost use Rattle.key_order.specs.Order.{less, before, repeats, rises};
-
-// Whether p stands before k in byte order, a prefix first.
-fn is_less(p: &[u8], k: &[u8]) -> bool
-    ensures { result ≡ less p.now k.now }
-{
-    let mut i: usize = 0;
-    while i < p.len() {
-        if k.len() <= i {
-            return false;
-        }
-        if p[i] < k[i] {
-            return true;
-        }
-        if k[i] < p[i] {
-            return false;
-        }
-        i += 1;
-    }
-    if i < k.len() {
-        return true;
-    }
-    false
-}
+ghost use Rattle.key_order.specs.Order.{before, repeats, rises};
 
 pub fn is_note(k: &[u8]) -> bool
     ensures { result ≡ same k.now note }
@@ -38,31 +15,25 @@ pub fn is_note(k: &[u8]) -> bool
 }
 
 // Whether the keyword p comes before the keyword k: byte order, and NOTE after all others.
+#[tactic(auto, using(crate::proofs::Order::less_slices), unfolding(crate::specs::Order::before))]
 pub fn is_before(p: &[u8], k: &[u8]) -> bool
     ensures { result ≡ before p.now k.now }
 {
-    if is_note(p) {
-        return false;
-    }
-    if is_note(k) {
-        return true;
-    }
-    is_less(p, k)
+    !is_note(p) && (is_note(k) || p < k)
 }
 
 // Whether the keyword k may stand several times running.
+#[tactic(auto, unfolding(crate::specs::Order::repeats))]
 fn is_repeating(k: &[u8]) -> bool
     ensures { result ≡ repeats k.now }
 {
-    chars::is_same(k, b"RECEIVER_GEOMETRY") | chars::is_same(k, b"SOURCE_GEOMETRY")
+    chars::is_same(k, b"RECEIVER_GEOMETRY") || chars::is_same(k, b"SOURCE_GEOMETRY")
 }
 
 // Whether the keyword k may follow the keyword p.
+#[tactic(auto, unfolding(crate::specs::Order::rises))]
 pub fn rising(p: &[u8], k: &[u8]) -> bool
     ensures { result ≡ rises p.now k.now }
 {
-    if is_before(p, k) {
-        return true;
-    }
-    chars::is_same(p, k) & is_repeating(k)
+    is_before(p, k) || (chars::is_same(p, k) && is_repeating(k))
 }

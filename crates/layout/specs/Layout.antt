@@ -1,11 +1,10 @@
 -- The bytes that are written (document 01, "What we write"): a file block, a trace with its strings and data, each
 -- whole number in the file's order. `high` is the byte order, t the string terminator, u the line terminator.
 -- Assumes nothing.
-use Rattle.std.specs.Prelude.{Bool, List, [], ◌∷◌, ◌++◌, ℕ, ◌+◌, ◌*◌, ℤ, length, replicate}
+use Rattle.std.specs.Prelude.{Bool, List, [], ◌∷◌, ◌++◌, ℕ, ◌+◌, ◌*◌, ℤ, length, replicate, Option}
 use Rattle.block.specs.Block.{trace_mark}
 use Rattle.word.specs.Word.{bytes_of}
 use Rattle.refusal.specs.Rows.{pick}
-use Rattle.fit.specs.declared.Fit.{Fit}
 use Rattle.sample.specs.Needed.{room}
 use Rattle.decode.specs.Sample.{integers_asked, bits_asked}
 use Rattle.fit.specs.Unfit.{unfit_integers, unfit_patterns}
@@ -72,7 +71,7 @@ fitting code (integers row) = integers_asked code (length row)
 fitting code (patterns row) = bits_asked code
 
 -- the first sample that the code cannot hold
-unfoldable pub unfit : ℕ → Samples → Fit
+unfoldable pub unfit : ℕ → Samples → Option ℕ
 unfit code (integers row) = unfit_integers code row
 unfit code (patterns row) = unfit_patterns code row
 

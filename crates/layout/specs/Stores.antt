@@ -1,13 +1,12 @@
 -- The stores of a start and of a trace, one behind the other, are the layout.
 -- Assumes nothing.
-use Rattle.std.specs.Prelude.{◌≡◌, refl, Bool, true, false, List, [], ◌∷◌, ◌++◌, ℕ, ◌+◌, ◌-◌, ◌*◌, ◌%◌, ℤ, length, replicate}
+use Rattle.std.specs.Prelude.{◌≡◌, refl, Bool, true, false, List, [], ◌∷◌, ◌++◌, ℕ, ◌+◌, ◌-◌, ◌*◌, ◌%◌, ℤ, length, replicate, None}
 use Rattle.std.proofs.Common.{sym, append_assoc, arith, length-append}
 use Rattle.std.proofs.lemmas.List.{length-replicate}
 use Rattle.block.specs.Block.{trace_mark}
 use Rattle.word.specs.Put.{put, put_append}
 use Rattle.word.specs.Word.{low_bytes, bytes_of}
 use Rattle.word.specs.WordLaws.{length_bytes_of}
-use Rattle.fit.specs.declared.Fit.TheVariants.{All}
 use Rattle.sample.specs.Needed.{room}
 use Rattle.fit.specs.Unfit.{unfit_integers}
 use Rattle.sheet.specs.declared.Measured.TheVariants as measured
@@ -115,11 +114,11 @@ head_samples high t u x =
 -- what rows 28 and 29 have shown
 pub record Held (code : ℕ) (samples : Samples) : Type 0 where
   pub fits : fitting code samples ≡ true
-  pub all : unfit code samples ≡ All
+  pub all : unfit code samples ≡ None
 
 -- of the codes of integers the one that is neither 1 nor 2
 pub third : {code : ℕ} {row : List ℤ} → Held code (integers row) → (code ≡ 1 → ⊥) → (code ≡ 2 → ⊥)
-    → (code ≡ 3) × (length row % 4 ≡ 0) × (unfit_integers 3 row ≡ All)
+    → (code ≡ 3) × (length row % 4 ≡ 0) × (unfit_integers 3 row ≡ None)
 unfolding fitting unfit
 third {code} {row} h a b =
     let k = integers_kinded code (length row) h.fits in

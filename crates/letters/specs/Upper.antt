@@ -1,12 +1,14 @@
 -- "takes lower-case keyword letters as upper case" (document 02 §11).
 -- Assumes nothing.
 use Rattle.std.specs.Prelude.{◌≡◌, refl, Bool, true, false, ◌&&◌, ◌||◌, List, [], ◌∷◌, ℕ, zero, suc, ◌+◌, ◌-◌, ◌≤◌, ◌<◌, length, get_or, drop, leb, eqb}
-use Rattle.std.proofs.Common.{ap, ap₂, arith, leb-true, leb-false, le-leb, ne_eqb}
+use Rattle.std.proofs.Common.{ap, ap₂, arith, leb-true, leb-false, le-leb, ne_eqb, sym, ◌∙◌, lt-ltb, le-ltb}
 use Rattle.std.proofs.lemmas.Bool.{lt-leb}
 use Rattle.word.specs.Tests.{both}
 use Rattle.refusal.specs.Rows.{pick}
 use Rattle.chars.specs.Chars.{solid, key_char, key_solid}
-use Rattle.chars.specs.Runs.{all, same, same_short, same_apart, same_next, same_longer, same_ended}
+use Rattle.chars.specs.Runs.{all, same, same_short, same_apart, same_next, same_longer, same_ended, same_long}
+use Rattle.std.specs.Char.{to_ascii_uppercase}
+use Rattle.std.specs.List.{list_all, zip}
 
 -- a to z
 abbrev pub small : ℕ → Bool
@@ -111,7 +113,7 @@ unfolding uppered
 uppered_again [] = refl
 uppered_again (b ∷ bs) = ap₂ (λ (x : ℕ) (xs : List ℕ). x ∷ xs) (upper_again b) (uppered_again bs)
 
--- a turn of the loop that compares a text in upper case with another, and its ends
+-- what one letter of both tells, and what the rest does
 module _ (p k : List ℕ) (i : ℕ) where
   pub raised_short : i < length p → length k ≤ i → false ≡ same (drop i (uppered p)) (drop i k)
   raised_short h g = same_short (uppered p) k i (rw (length_uppered p) h) g
@@ -128,3 +130,30 @@ module _ (p k : List ℕ) (i : ℕ) where
 
   pub raised_ended : length p ≤ i → length k ≤ i → true ≡ same (drop i (uppered p)) (drop i k)
   raised_ended h g = same_ended (uppered p) k i (rw (length_uppered p) h) g
+
+-- ---- a text in upper case beside another, as the library goes over both
+
+pub upper_ascii : (b : ℕ) → to_ascii_uppercase b ≡ upper b
+upper_ascii b = go (leb 97 b) (leb b 122) refl refl
+  where
+    go : (w v : Bool) → leb 97 b ≡ w → leb b 122 ≡ v → to_ascii_uppercase b ≡ pick (w && v) (b - 32) b
+    go true true e f =
+        let l = leb-true 97 b e in
+        let h = leb-true b 122 f in
+        rw (le-ltb b 97 (omega arith), lt-ltb b 123 (omega arith))
+    go true false e f =
+        let l = leb-true 97 b e in
+        let h = leb-false b 122 f in
+        rw (le-ltb b 97 (omega arith), le-ltb b 123 (omega arith))
+    go false v e f = let l = leb-false 97 b e in rw (lt-ltb b 97 (omega arith))
+
+pub raised_pairs : (p k : List ℕ) → length p ≡ length k
+    → list_all (λ (q : ℕ × ℕ). eqb (to_ascii_uppercase q.0) q.1) (zip p k) ≡ same (uppered p) k
+unfolding uppered same
+raised_pairs [] [] h = refl
+raised_pairs [] (y ∷ k) h = absurd (omega arith)
+raised_pairs (x ∷ p) [] h = absurd (omega arith)
+raised_pairs (x ∷ p) (y ∷ k) h = rw (upper_ascii x, raised_pairs p k (omega arith))
+
+pub raised_long : (p k : List ℕ) → (length p ≡ length k → ⊥) → false ≡ same (uppered p) k
+raised_long p k h = same_long (uppered p) k (λ e. h (sym (length_uppered p) ∙ e))

@@ -2,16 +2,14 @@
 -- line terminator.
 -- Assumes nothing.
 use Rattle.std.specs.Prelude.{◌≡◌, refl, Bool, true, false, not, ◌&&◌, ◌||◌, List, [], ◌∷◌, ◌++◌, ℕ, zero, suc, ◌+◌, ◌-◌, ◌≤◌, ◌<◌, length, get_or, take, drop, leb, eqb}
-use Rattle.std.proofs.Common.{sym, ap, ◌∙◌, append_assoc, append-nil, le_refl, lt_of_not-le, arith, length-append, length-drop, take-append-drop, take_all, drop-drop, leb-false, le-leb, eqb-true, ne_eqb}
-use Rattle.std.proofs.Math.Decide.{dec_le}
-use Rattle.std.proofs.Math.Seq.{take-append_seam, drop-append-add, drop-append_seam}
-use Rattle.std.proofs.lemmas.Bool.{lt-leb, eqb-false, not-true}
-use Rattle.word.specs.Tests.{neither, both, never}
+use Rattle.std.proofs.Common.{sym, ap, ◌∙◌, append-nil, arith, length-drop, le-leb}
+use Rattle.std.proofs.lemmas.Bool.{not-true}
+use Rattle.word.specs.Tests.{both, never}
 use Rattle.refusal.specs.Rows.{pick}
 use Rattle.chars.specs.Chars.{note, value_char, control, control_no_value}
-use Rattle.chars.specs.Runs.{same, same_eq, same_not, all, more, none}
-use Rattle.note_line.specs.NoteLine.{starts, line_len, starts_split, starts_fits, starts_other, starts_front, line_ends}
-use Rattle.note_bytes.specs.NoteBytes.{value_or, paired, rest}
+use Rattle.chars.specs.Runs.{same, all, more, none}
+use Rattle.note_line.specs.NoteLine.{starts, line_len, starts_other}
+use Rattle.note_bytes.specs.NoteBytes.{value_or}
 
 -- value characters and whole line terminators: k bytes of a terminator are still to be passed over
 unfoldable pub lines : List ℕ → ℕ → List ℕ → Bool

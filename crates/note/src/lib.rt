@@ -18,20 +18,20 @@ pub fn walk_lines(u: &[u8], s: &[u8]) -> bool
     ensures { result ≡ lines u.now 0 s.now }
 {
     let apart = !chars::is(Kind::Value, u[0]);
-    let mut i: usize = 0;
-    while i < s.len() {
-        if apart & chars::is(Kind::Value, s[i]) {
-            i += 1;
+    let mut rest = s;
+    while let Some((b, behind)) = rest.split_first() {
+        if apart & chars::is(Kind::Value, *b) {
+            rest = behind;
             continue;
         }
-        if note_line::is_start(u, &s[i..]) {
-            i += u.len();
+        if note_line::is_start(u, rest) {
+            rest = &rest[u.len()..];
             continue;
         }
-        if !chars::is(Kind::Value, s[i]) {
+        if !chars::is(Kind::Value, *b) {
             return false;
         }
-        i += 1;
+        rest = behind;
     }
     true
 }

@@ -13,13 +13,7 @@ use chars::Kind;
 pub fn all_value_or(x: u8, s: &[u8]) -> bool
     ensures { result ≡ all (value_or x) s.now }
 {
-    let mut ok = true;
-    let mut i: usize = 0;
-    while i < s.len() {
-        ok = ok & (chars::is(Kind::Value, s[i]) | (s[i] == x));
-        i += 1;
-    }
-    ok
+    s.iter().fold(true, |ok, b| ok & (chars::is(Kind::Value, *b) | (*b == x)))
 }
 
 // Whether all are value characters, or a with b behind it. No early way out either: what a byte may be is told by
@@ -29,12 +23,9 @@ pub fn all_value_pairs(a: u8, b: u8, s: &[u8]) -> bool
 {
     let mut ok = true;
     let mut behind = false;
-    let mut i: usize = 0;
-    while i < s.len() {
-        let c = s[i];
-        ok = ok & ((behind & (c == b)) | (!behind & (chars::is(Kind::Value, c) | (c == a))));
-        behind = c == a;
-        i += 1;
+    for c in s {
+        ok &= (behind & (*c == b)) | (!behind & (chars::is(Kind::Value, *c) | (*c == a)));
+        behind = *c == a;
     }
     ok & !behind
 }

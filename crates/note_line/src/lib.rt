@@ -6,33 +6,25 @@
 ghost use Rattle.std.specs.Prelude.{◌≡◌, ◌+◌, drop};
 ghost use Rattle.note_line.specs.NoteLine.{starts, line_len};
 
-// Whether s begins with u. The first byte tells it almost always.
+// Whether s begins with u. The first byte tells it almost always, and is asked for each byte of a line: `starts_with`
+// would be a call for each.
 pub fn is_start(u: &[u8], s: &[u8]) -> bool
     ensures { result ≡ starts u.now s.now }
 {
-    let n = u.len();
-    if s.len() < n {
+    if s.len() < u.len() {
         return false;
     }
-    if n == 0 {
-        return true;
-    }
-    if s[0] != u[0] {
-        return false;
-    }
-    chars::is_same(&s[..n], u)
+    u.is_empty() || (s[0] == u[0] && chars::is_same(&s[..u.len()], u))
 }
 
 // Where the line that starts at `from` ends in a NOTE's value: at a line terminator, or at the value's end.
 pub fn line_end(u: &[u8], v: &[u8], from: usize) -> usize
     ensures { result ≡ from + line_len u.now (drop from v.now) }
 {
-    let mut i = from;
-    while i < v.len() {
+    for i in from..v.len() {
         if is_start(u, &v[i..]) {
             return i;
         }
-        i += 1;
     }
-    i
+    from.max(v.len())
 }

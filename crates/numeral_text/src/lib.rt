@@ -20,10 +20,8 @@ pub fn before_last(c: u64, k: u32) -> u64
     ensures { result ≡ c / 10 ^ k }
 {
     let mut left = c;
-    let mut i: u32 = 0;
-    while i < k {
-        left = left / 10;
-        i += 1;
+    for _ in 0..k {
+        left /= 10;
     }
     left
 }

@@ -1,17 +1,18 @@
-// Codes 4 and 5 read, on a data block alone (document 01, "Samples"): bit patterns and their classes. The definitions are
-// those of decode/Sample; Classes holds the classes against IEEE 754. `high` says that the high byte comes first.
+// Codes 4 and 5 read, on a data block alone (document 01, "Samples"): bit patterns and their classes. The definitions
+// are those of decode/Sample; Classes holds the classes against IEEE 754. `high` says that the high byte comes first.
 // Stands on `decode` for its definitions, `sample`, `word`.
 // The rules in words: docs/FORMAT.md, "Samples".
 #![tactic(auto)]
 
-ghost use Rattle.std.specs.Prelude.{◌≡◌, map, ◌≤◌, length};
+ghost use Rattle.std.specs.Prelude.{◌≡◌, true, ◌+◌, map, ◌≤◌, length};
 ghost use Rattle.sample.specs.Needed.{needed};
 ghost use Rattle.sample.specs.Run.{values_from};
-ghost use Rattle.decode.specs.Sample.{pattern_of, class_of, bits_there, patterns_read, classes_read};
+ghost use Rattle.decode.specs.Sample.{pattern_of, class_of, bits_asked, bits_there, patterns_read, classes_read};
 
 // The class that the exponent bits and the fraction bits tell (the paper's table of special cases): 0 zero, 1
 // underflow, 2 number, 3 infinity, 4 not a number. It is how many of four bounds the bits behind the sign have passed
 // as one number, which asks for no branch.
+#[tactic(auto, using(crate::proofs::Machine::one_at_most))]
 fn class4(pattern: u64) -> u8
     ensures { result ≡ class_of 4 pattern }
 {
@@ -19,6 +20,9 @@ fn class4(pattern: u64) -> u8
     (0 < m) as u8 + (8388607 < m) as u8 + (2139095039 < m) as u8 + (2139095040 < m) as u8
 }
 
+// Of code 5, which needs 64 bits for it. Code 4 is counted in 32, as a machine compares twice as many of these at a
+// time.
+#[tactic(auto, using(crate::proofs::Machine::one_at_most))]
 fn class5(pattern: u64) -> u8
     ensures { result ≡ class_of 5 pattern }
 {
@@ -29,54 +33,87 @@ fn class5(pattern: u64) -> u8
         + (9218868437227405312 < m) as u8
 }
 
-// The patterns of code 4, and their classes.
-fn patterns4(block: &[u8], high: bool, row: &mut [u64])
-    requires { needed 4 (length row.old) ≤ length block.now }
-    ensures { row.new ≡ values_from (pattern_of 4 high block.now) 0 (length row.old) }
+// Pattern i.
+fn pattern_at(code: u8, block: &[u8], high: bool, i: usize) -> u64
+    requires { (bits_asked code ≡ true) × (needed code (i + 1) ≤ length block.now) }
+    ensures { result ≡ pattern_of code high block.now i }
 {
-    let mut i = 0;
-    while i < row.len() {
-        row[i] = sample::word4_at(block, high, 4 * i) as u64;
-        i += 1;
+    if code == 4 {
+        sample::word4_at(block, high, 4 * i) as u64
+    } else {
+        sample::word8_at(block, high, 8 * i)
     }
 }
 
-fn classes4(row: &[u64], classes: &mut [u8])
-    requires { length classes.old ≡ length row.now }
-    ensures { classes.new ≡ map (class_of 4) row.now }
+fn class(code: u8, pattern: u64) -> u8
+    requires { bits_asked code ≡ true }
+    ensures { result ≡ class_of code pattern }
 {
-    let mut i = 0;
-    while i < row.len() {
-        classes[i] = class4(row[i]);
-        i += 1;
+    if code == 4 {
+        class4(pattern)
+    } else {
+        class5(pattern)
     }
 }
 
-// The same of code 5.
-fn patterns5(block: &[u8], high: bool, row: &mut [u64])
-    requires { needed 5 (length row.old) ≤ length block.now }
-    ensures { row.new ≡ values_from (pattern_of 5 high block.now) 0 (length row.old) }
+// The patterns of a row.
+fn patterns<const CODE: u8, const HIGH: bool>(block: &[u8], row: &mut [u64])
+    requires { (bits_asked CODE ≡ true) × (needed CODE (length row.old) ≤ length block.now) }
+    ensures { row.new ≡ values_from (pattern_of CODE HIGH block.now) 0 (length row.old) }
 {
-    let mut i = 0;
-    while i < row.len() {
-        row[i] = sample::word8_at(block, high, 8 * i);
-        i += 1;
+    for i in 0..row.len() {
+        row[i] = pattern_at(CODE, block, HIGH, i);
     }
 }
 
-fn classes5(row: &[u64], classes: &mut [u8])
-    requires { length classes.old ≡ length row.now }
-    ensures { classes.new ≡ map (class_of 5) row.now }
+// Their classes.
+fn classify<const CODE: u8>(row: &[u64], classes: &mut [u8])
+    requires { (bits_asked CODE ≡ true) × (length classes.old ≡ length row.now) }
+    ensures { classes.new ≡ map (class_of CODE) row.now }
 {
-    let mut i = 0;
-    while i < row.len() {
-        classes[i] = class5(row[i]);
-        i += 1;
+    for (i, pattern) in row.iter().enumerate() {
+        classes[i] = class(CODE, *pattern);
     }
 }
 
-// Fills the row with the patterns of code 4, and `classes` with their classes. Where the two differ in length, or the
-// block is too short: false, and nothing is written.
+// Both. The code and the order are const parameters, so there are loops for each: what is known of them in a loop's
+// body is settled when it is compiled, where the body of one loop for all is too long for the compiler to do so.
+fn fill<const CODE: u8, const HIGH: bool>(block: &[u8], row: &mut [u64], classes: &mut [u8])
+    requires { (bits_asked CODE ≡ true) × (length classes.old ≡ length row.old)
+        × (needed CODE (length row.old) ≤ length block.now) }
+    ensures filled { row.new ≡ values_from (pattern_of CODE HIGH block.now) 0 (length row.old) }
+    ensures classed { classes.new ≡ map (class_of CODE) row.new }
+{
+    patterns::<CODE, HIGH>(block, row);
+    classify::<CODE>(row, classes);
+}
+
+// Fills the row with the patterns of a code of bits, and `classes` with their classes. Where the two differ in length,
+// or the block is too short: false, and nothing is written.
+fn read<const CODE: u8>(block: &[u8], high: bool, row: &mut [u64], classes: &mut [u8]) -> bool
+    requires { bits_asked CODE ≡ true }
+    ensures answer { result ≡ bits_there CODE (length row.old) (length classes.old)
+        block.now }
+    ensures filled { row.new ≡ patterns_read CODE high block.now row.old
+        classes.old }
+    ensures classed { classes.new
+        ≡ classes_read CODE high block.now row.old classes.old }
+{
+    if classes.len() != row.len() {
+        return false;
+    }
+    if block.len() / sample::needed(CODE, 1) < row.len() {
+        return false;
+    }
+    if high {
+        fill::<CODE, true>(block, row, classes);
+    } else {
+        fill::<CODE, false>(block, row, classes);
+    }
+    true
+}
+
+// The same of code 4.
 pub fn read4(block: &[u8], high: bool, row: &mut [u64], classes: &mut [u8]) -> bool
     ensures answer { result ≡ bits_there 4 (length row.old) (length classes.old)
         block.now }
@@ -85,18 +122,10 @@ pub fn read4(block: &[u8], high: bool, row: &mut [u64], classes: &mut [u8]) -> b
     ensures classed { classes.new
         ≡ classes_read 4 high block.now row.old classes.old }
 {
-    if classes.len() != row.len() {
-        return false;
-    }
-    if block.len() / 4 < row.len() {
-        return false;
-    }
-    patterns4(block, high, row);
-    classes4(row, classes);
-    true
+    read::<4>(block, high, row, classes)
 }
 
-// The same of code 5. The order is settled outside of the loop, whose body is too long for the compiler to do so.
+// The same of code 5.
 pub fn read5(block: &[u8], high: bool, row: &mut [u64], classes: &mut [u8]) -> bool
     ensures answer { result ≡ bits_there 5 (length row.old) (length classes.old)
         block.now }
@@ -105,20 +134,7 @@ pub fn read5(block: &[u8], high: bool, row: &mut [u64], classes: &mut [u8]) -> b
     ensures classed { classes.new
         ≡ classes_read 5 high block.now row.old classes.old }
 {
-    if classes.len() != row.len() {
-        return false;
-    }
-    if block.len() / 8 < row.len() {
-        return false;
-    }
-    if high {
-        patterns5(block, true, row);
-        classes5(row, classes);
-        return true;
-    }
-    patterns5(block, false, row);
-    classes5(row, classes);
-    true
+    read::<5>(block, high, row, classes)
 }
 
 // Bits by the code: false for a code of integers, and for what is no code.

@@ -3,69 +3,33 @@
 // The rules in words: docs/FORMAT.md, "Samples".
 #![tactic(auto)]
 
-ghost use Rattle.std.specs.Prelude.{◌≡◌, true, false, ◌+◌, ◌*◌, ◌/◌, ◌%◌, ◌≤◌, ◌<◌, length};
+ghost use Rattle.std.specs.Prelude.{◌≡◌, None, ◌+◌, ◌*◌, ◌/◌, ◌%◌, ◌≤◌, ◌<◌, length};
 ghost use Rattle.word.specs.Put.{put};
 ghost use Rattle.sample.specs.Needed.{room};
 ghost use Rattle.fit.specs.Unfit.{unfit_integers};
 ghost use Rattle.row20.specs.Row20.{groups};
 ghost use Rattle.row20.specs.RowLaws.{Writing, pairs_from};
 
-use fit::Fit;
-
-// The pairs of groups of a row, low byte first. There is a loop for each order, as `decode` has it.
-fn write_low(row: &[i32], part: &mut [u8])
+// The pairs of groups of a row. The order is a const parameter, as `decode` has it.
+fn write_pairs<const HIGH: bool>(row: &[i32], part: &mut [u8])
     requires { (room 3 (length row.now) ≤ length part.old) × (length row.now % 4 ≡ 0)
-        × (unfit_integers 3 row.now ≡ Fit.All) }
-    ensures { Writing (pairs_from false row.now) 20 part.old (length row.now / 8)
+        × (unfit_integers 3 row.now ≡ None) }
+    ensures { Writing (pairs_from HIGH row.now) 20 part.old (length row.now / 8)
         part.new }
 {
-    let pairs = row.len() / 8;
-    let mut k = 0;
-    while k < pairs {
+    for k in 0..row.len() / 8 {
         let p = group20::group_of(row, 2 * k);
-        group20::put_front(part, false, 20 * k, p);
+        group20::put_front(part, HIGH, 20 * k, p);
         let q = group20::group_of(row, 2 * k + 1);
-        group20::put_back(part, false, 20 * k + 8, p.d, q);
-        k += 1;
+        group20::put_back(part, HIGH, 20 * k + 8, p.d, q);
     }
-}
-
-// High byte first.
-fn write_high(row: &[i32], part: &mut [u8])
-    requires { (room 3 (length row.now) ≤ length part.old) × (length row.now % 4 ≡ 0)
-        × (unfit_integers 3 row.now ≡ Fit.All) }
-    ensures { Writing (pairs_from true row.now) 20 part.old (length row.now / 8)
-        part.new }
-{
-    let pairs = row.len() / 8;
-    let mut k = 0;
-    while k < pairs {
-        let p = group20::group_of(row, 2 * k);
-        group20::put_front(part, true, 20 * k, p);
-        let q = group20::group_of(row, 2 * k + 1);
-        group20::put_back(part, true, 20 * k + 8, p.d, q);
-        k += 1;
-    }
-}
-
-fn write_pairs(row: &[i32], high: bool, part: &mut [u8])
-    requires { (room 3 (length row.now) ≤ length part.old) × (length row.now % 4 ≡ 0)
-        × (unfit_integers 3 row.now ≡ Fit.All) }
-    ensures { Writing (pairs_from high row.now) 20 part.old (length row.now / 8)
-        part.new }
-{
-    if high {
-        write_high(row, part);
-        return;
-    }
-    write_low(row, part);
 }
 
 // What is left of a row behind so many pairs of groups: one group, or nothing.
 fn write_rest(row: &[i32], high: bool, pairs: usize, part: &mut [u8])
     requires { (8 * pairs ≤ length row.now) × (length row.now < 8 * pairs + 8)
         × (room 3 (length row.now) ≤ length part.old) × (length row.now % 4 ≡ 0)
-        × (unfit_integers 3 row.now ≡ Fit.All) }
+        × (unfit_integers 3 row.now ≡ None) }
     ensures { part.new ≡ put part.old (20 * pairs)
         (pairs_from high row.now pairs) }
 {
@@ -80,9 +44,13 @@ fn write_rest(row: &[i32], high: bool, pairs: usize, part: &mut [u8])
 // The groups of a row.
 pub fn write_groups(row: &[i32], high: bool, part: &mut [u8])
     requires { (room 3 (length row.now) ≤ length part.old) × (length row.now % 4 ≡ 0)
-        × (unfit_integers 3 row.now ≡ Fit.All) }
+        × (unfit_integers 3 row.now ≡ None) }
     ensures { part.new ≡ put part.old 0 (groups high row.now) }
 {
-    write_pairs(row, high, part);
+    if high {
+        write_pairs::<true>(row, part);
+    } else {
+        write_pairs::<false>(row, part);
+    }
     write_rest(row, high, row.len() / 8, part);
 }

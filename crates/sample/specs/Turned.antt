@@ -4,8 +4,7 @@ use Rattle.std.specs.Prelude.{◌≡◌, Bool, true, false, List, reverse, ℕ, 
 use Rattle.std.proofs.Common.{sym, ap, ◌∙◌, arith, length-drop, length-take-le}
 use Rattle.word.specs.Bytes.{each_bytes, bytes_take, bytes_drop}
 use Rattle.word.specs.Word.{low_first, low_bytes, value_of, word_at, bytes_of}
-use Rattle.word.specs.WordLaws.{length_bytes_of, bytes_of_bytes, value_bytes_of, bytes_of_value, value_joined}
-use Rattle.word.specs.WordLaws.{bytes_of_joined, word_small}
+use Rattle.word.specs.WordLaws.{length_bytes_of, bytes_of_bytes, value_bytes_of, bytes_of_value, value_joined, bytes_of_joined, word_small}
 
 -- the number that the w bytes of n in the order are, read low byte first
 unfoldable pub turned : ℕ → Bool → ℕ → ℕ

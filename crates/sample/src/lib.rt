@@ -40,30 +40,21 @@ pub fn room(code: u8, count: u32) -> usize
 pub fn turned(high: bool, n: u16) -> u16
     ensures { result ≡ turned 2 high n }
 {
-    if high { n % 256 * 256 + n / 256 } else { n }
+    if high { n.swap_bytes() } else { n }
 }
 
-// Of four bytes: the halves change places, each turned.
+// Of four bytes.
 pub fn turned4(high: bool, n: u32) -> u32
     ensures { result ≡ turned 4 high n }
 {
-    if high {
-        turned(true, (n % 65536) as u16) as u32 * 65536 + turned(true, (n / 65536) as u16) as u32
-    } else {
-        n
-    }
+    if high { n.swap_bytes() } else { n }
 }
 
 // Of eight bytes.
 pub fn turned8(high: bool, n: u64) -> u64
     ensures { result ≡ turned 8 high n }
 {
-    if high {
-        turned4(true, (n % 4294967296) as u32) as u64 * 4294967296
-            + turned4(true, (n / 4294967296) as u32) as u64
-    } else {
-        n
-    }
+    if high { n.swap_bytes() } else { n }
 }
 
 // The whole number of two bytes at a place.

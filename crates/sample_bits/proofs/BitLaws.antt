@@ -1,7 +1,7 @@
 -- Theorems on what specs/BitLaws defines. They stand here, as a wrong definition there is to be refused and not to be unread.
 -- Assumes nothing.
-use Rattle.std.specs.Prelude.{◌≡◌, ℕ, zero, suc, ◌-◌, ◌*◌, ◌^◌, ◌≤◌, ◌<◌, pos, neg_ℤ, nat_abs, ◌-ℤ◌}
 use Rattle.std.proofs.Common.{lt_of_not-le, arith}
+use Rattle.std.specs.Prelude.{◌≡◌, ℕ, zero, suc, ◌-◌, ◌*◌, ◌^◌, ◌≤◌, ◌<◌, pos, neg_ℤ, nat_abs, ◌-ℤ◌}
 use Rattle.std.proofs.Math.Decide.{dec_le}
 use Rattle.sample_bits.specs.SampleBits.{ones, scaled}
 use Rattle.sample_bits.specs.BitLaws.{minus_more, minus_times, ones_minus, ones_plus}

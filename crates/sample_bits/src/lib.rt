@@ -8,26 +8,18 @@ ghost use Rattle.sample_bits.specs.SampleBits.{twos, exponent_in, ones, scaled};
 
 // ---- codes 1 and 2
 
-// Two's complement of 16 bits. Both arms are the same bits, so that nothing is left of the test in the machine's code.
+// Two's complement of 16 bits.
 pub fn twos16(n: u16) -> i16
     ensures { result ≡ twos 32768 n }
 {
-    if n < 32768 {
-        n as i16
-    } else {
-        !((65535 - n) as i16)
-    }
+    u16::cast_signed(n)
 }
 
 // Two's complement of 32 bits.
 pub fn twos32(n: u32) -> i32
     ensures { result ≡ twos 2147483648 n }
 {
-    if n < 2147483648 {
-        n as i32
-    } else {
-        !((4294967295 - n) as i32)
-    }
+    u32::cast_signed(n)
 }
 
 // ---- code 3

@@ -6,15 +6,13 @@ ghost use Rattle.std.specs.Prelude.{◌≡◌, ◌+◌, ◌-◌, ◌≤◌, leng
 ghost use Rattle.word.specs.Put.{put};
 ghost use Rattle.word.specs.Wrote.{Room, Wrote};
 
-// The bytes of `src`, stored from a place on.
+// The bytes of `src`, stored from a place on. A loop, as `copy_from_slice` is a call of C's `memcpy`.
 pub fn copy(buf: &mut [u8], at: usize, src: &[u8])
     requires { at + length src.now ≤ length buf.old }
     ensures { buf.new ≡ put buf.old at src.now }
 {
-    let mut i = 0;
-    while i < src.len() {
-        buf[at + i] = src[i];
-        i += 1;
+    for (i, b) in src.iter().enumerate() {
+        buf[at + i] = *b;
     }
 }
 
@@ -32,9 +30,7 @@ pub fn zeros(buf: &mut [u8], a: usize, e: usize)
     requires { e ≤ length buf.old }
     ensures { buf.new ≡ put buf.old a (replicate (e - a) 0) }
 {
-    let mut i = a;
-    while i < e {
-        buf[i] = 0;
-        i += 1;
+    if a < e {
+        buf[a..e].fill(0);
     }
 }

@@ -83,7 +83,7 @@ good_ends f at fits h =
     let m = good_most f at h in
     control_ends (terminator_at f at) (omega (arith, m.0)) (good_chars f at h)
 
--- ---- turns of the loops that compare terminators
+-- ---- what one character of a terminator tells, and what the rest does
 pub lacks_here : (u : List ℕ) (b i : ℕ) → i < length u → get_or u i 0 ≡ b → false ≡ lacks (drop i u) b
 unfolding all
 lacks_here u b i h e = rw (more u i h, eq-eqb _ _ e)

@@ -13,7 +13,7 @@ ghost use Rattle.terminators.specs.Terminators.{lacks, apart, bad_lines};
 fn is_control(c: u8) -> bool
     ensures { result ≡ control c }
 {
-    (c <= 31) & (c != 9)
+    c <= 31 && c != b'\t'
 }
 
 // Whether the terminator whose length stands at a place may be used.
@@ -21,16 +21,11 @@ pub fn is_good(f: &[u8], at: usize) -> bool
     requires { at + 3 ≤ length f.now }
     ensures { result ≡ good_terminator f.now at }
 {
-    let n = f[at];
-    let a = is_control(f[at + 1]);
-    let b = is_control(f[at + 2]);
-    if n == 1 {
-        return a;
+    match f[at] {
+        1 => is_control(f[at + 1]),
+        2 => is_control(f[at + 1]) && is_control(f[at + 2]),
+        _ => false,
     }
-    if n == 2 {
-        return a & b;
-    }
-    false
 }
 
 // A good terminator's characters, as the caller's own bytes.
@@ -65,29 +60,14 @@ pub fn line_end(f: &[u8]) -> &[u8]
 fn is_lacking(u: &[u8], b: u8) -> bool
     ensures { result ≡ lacks u.now b }
 {
-    let mut i: usize = 0;
-    while i < u.len() {
-        let shared = u[i] == b;
-        if shared {
-            return false;
-        }
-        i += 1;
-    }
-    true
+    u.iter().all(|x| *x != b)
 }
 
-// Whether two terminators share no character.
+// Whether two terminators share no character. Not by `contains`, which is made for long texts and takes a frame.
 fn is_apart(t: &[u8], u: &[u8]) -> bool
     ensures { result ≡ apart t.now u.now }
 {
-    let mut i: usize = 0;
-    while i < t.len() {
-        if !is_lacking(u, t[i]) {
-            return false;
-        }
-        i += 1;
-    }
-    true
+    t.iter().all(|b| is_lacking(u, *b))
 }
 
 // Whether the line terminator is bad, or shares a character with the string terminator, which is good.
@@ -95,8 +75,5 @@ pub fn is_bad_lines(f: &[u8]) -> bool
     requires { (14 ≤ length f.now) × (good_terminator f.now 8 ≡ true) }
     ensures { result ≡ bad_lines f.now }
 {
-    if !is_good(f, 11) {
-        return true;
-    }
-    !is_apart(string_end(f), line_end(f))
+    !is_good(f, 11) || !is_apart(string_end(f), line_end(f))
 }

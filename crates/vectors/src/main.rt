@@ -8,7 +8,6 @@
 use chars::Kind;
 use decimal_parts::NumberAnswer;
 use double::DoubleAnswer;
-use fit::Fit;
 use head_limits::Purpose;
 use location::LocationAnswer;
 use refusal::{Part, Verdict, Written};
@@ -103,8 +102,8 @@ fn unfit(value: i32) -> bool {
     let row = [value, 0, 0, 0];
     let fit = fit::unfit_integers(3, &row);
     match fit {
-        Fit::All => false,
-        Fit::At(i) => i == 0,
+        None => false,
+        Some(i) => i == 0,
     }
 }
 

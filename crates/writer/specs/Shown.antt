@@ -2,13 +2,12 @@
 -- document 02 (34, 35) is met. So no addition is refused that could be made, and the length that is answered is the
 -- layout's.
 -- Assumes nothing.
-use Rattle.std.specs.Prelude.{◌≡◌, refl, true, false, List, ℕ, ◌+◌, ◌*◌, ◌≤◌, length, take}
+use Rattle.std.specs.Prelude.{◌≡◌, refl, true, false, List, ℕ, ◌+◌, ◌*◌, ◌≤◌, length, take, None}
 use Rattle.std.proofs.Common.{arith, le-ltb}
 use Rattle.refusal.specs.Verdicts.{asked}
 use Rattle.refusal.specs.declared.Refusal.{Refusal}
 use Rattle.refusal.specs.declared.Verdict.{Verdict}
 use Rattle.refusal.specs.declared.Verdict.TheVariants as verdict
-use Rattle.fit.specs.declared.Fit.TheVariants.{All}
 use Rattle.sheet.specs.declared.Measured.TheVariants as measured
 use Rattle.sheet.specs.Area.{area_size, measured_of}
 use Rattle.head_words.specs.HeadWords.{room_of, count_of}
@@ -44,7 +43,7 @@ pub record Added (xs : List ℕ) (n : ℕ) (x : Trace) (end : ℕ) : Type 0 wher
       ≡ measured.Size (area_size (string_end (take n xs)) (line_end (take n xs)) x.sheet)
   pub channel : wrong_channel (take n xs) x.sheet ≡ false
   pub kind : fitting x.code x.samples ≡ true
-  pub held : unfit x.code x.samples ≡ All
+  pub held : unfit x.code x.samples ≡ None
   pub new : new_length (take n xs) n x ≡ end
   pub in_buffer : end ≤ length xs
   pub in_maximum : end ≤ maximum

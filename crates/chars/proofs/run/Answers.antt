@@ -1,24 +1,21 @@
--- `chars::run` meets its contract. The invariant: the run from here and the bytes passed make the run from the start.
--- Assumes nothing.
-use mathlib.Core.Path.{sym, ◌∙◌}
-use Prim.Native.Nat.{◌-◌}
-use Rattle.chars.specs.Runs.{run_more, run_end, run_none}
-use borrow.Author.Rules.{rules}
-use native.Mathlib.Omega.{arith}
+-- `chars::run` meets its contract: what is taken is as long as the run. Assumes nothing.
+use Rattle.std.proofs.Common.{◌≡◌, ◌∙◌, ◌≤◌, length, rules, tests}
+use Rattle.std.proofs.lemmas.Iterator.{YieldsList-from_slice}
+use Rattle.std.proofs.lemmas.Iterator.Consumers.{count_from_yields_List}
+use Rattle.std.proofs.lemmas.Iterator.Search.{YieldsList-from_take_while}
+use Rattle.std.proofs.lemmas.List.Folds.{length-prefix_len}
+use Rattle.chars.specs.Chars.{is_of}
+use Rattle.chars.specs.Runs.{run, run_prefix, run_le}
 use Rattle.chars.proofs.run.Goals as goal
-
-pub loop-i-init : goal.loop-i-init
-loop-i-init c =
-    (search rules, omega arith)
-
-pub loop-i-preserved : goal.loop-i-preserved
-loop-i-preserved c =
-    (search rules, sym (run_more _ _ _ c.loop-i-test.true (sym c.is.ensures ∙ c.if-is.true)) ∙ c.loop-i.invariant.1)
-
-pub returns-else-is : goal.returns-else-is
-returns-else-is c =
-    (run_end _ _ _ c.loop-i-test.true (sym c.is.ensures ∙ c.if-is.false) ∙ c.loop-i.invariant.1, search rules)
 
 pub returns : goal.returns
 returns c =
-    (run_none _ _ _ c.loop-i-test.false ∙ c.loop-i.invariant.1, search rules)
+    let p = is_of c.args.kind in
+    let s = c.args.s.now in
+    let e : c.count.result ≡ run p s =
+    count_from_yields_List c.take_while.result _ c.count.ensures.ran
+    (YieldsList-from_take_while _ p (YieldsList-from_slice s cc) c.take_while.ensures.closure c.take_while.ensures.done
+    (λ x b q k. search (rules, tests)))
+    ∙ length-prefix_len p s ∙ run_prefix p s in
+    let l : run p s ≤ length s = run_le p s in
+    (e, rw e l)

@@ -1,43 +1,10 @@
 -- `decode::group_sample` meets its contract. The exponent comes out of the first word, the mantissa is k words behind
 -- it and one. Assumes nothing.
-use mathlib.Core.Path.{ap, ap₂, ◌∙◌}
-use Prim.Native.Nat.{ℕ}
-use borrow.Author.Rules.{rules}
-use mir.Syntax.{w32}
+use Rattle.std.proofs.Common.{ap, ap₂, ◌∙◌, ℕ, w32}
 use Rattle.sample_bits.specs.SampleBits.{exponent_in, scaled}
 use Rattle.decode.specs.Sample.{group_sample}
 use Rattle.word.specs.Signed.{kept}
 use Rattle.decode.proofs.group_sample.Goals as goal
-
-pub exponent_in-requires : goal.exponent_in-requires
-unfolding group_sample
-exponent_in-requires c =
-    search rules
-
-pub overflow_add-k : goal.overflow_add-k
-unfolding group_sample
-overflow_add-k c =
-    search rules
-
-pub overflow_mul-k : goal.overflow_mul-k
-unfolding group_sample
-overflow_mul-k c =
-    search rules
-
-pub overflow_add-at : goal.overflow_add-at
-unfolding group_sample
-overflow_add-at c =
-    search rules
-
-pub word_at-requires : goal.word_at-requires
-unfolding group_sample
-word_at-requires c =
-    search rules
-
-pub scaled-requires : goal.scaled-requires
-unfolding group_sample
-scaled-requires c =
-    search rules
 
 pub returns : goal.returns
 unfolding group_sample

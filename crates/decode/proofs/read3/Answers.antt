@@ -1,13 +1,10 @@
 -- `decode::read3` meets its contract. Each order is read by itself. Assumes nothing.
-use native.Mathlib.Omega.{arith}
-use borrow.Author.Rules.{rules}
-use borrow.Author.Tests.{eq-eqb}
+use Rattle.std.proofs.Common.{arith, eq-eqb}
 use Rattle.sample.specs.Needed.{needed}
 use Rattle.decode.specs.SampleLaws.{too_short, no_groups, there, nothing_read, all_read}
 use Rattle.decode.proofs.read3.Goals as goal
 
 pub returns-then-row-ne0 : goal.returns-then-row-ne0
-unfolding needed
 returns-then-row-ne0 c =
     let e = nothing_read 3 _ _ _ (no_groups _ _ c.if-row-ne0.true) in record { answer = e.0; filled = e.1 }
 
@@ -16,40 +13,22 @@ unfolding needed
 returns-then-block-row c =
     let e = nothing_read 3 _ _ _ (too_short 3 _ _ (omega arith)) in record { answer = e.0; filled = e.1 }
 
-pub read_high-requires : goal.read_high-requires
+pub read_groups-requires : goal.read_groups-requires
 unfolding needed
-read_high-requires c =
-    (omega arith, omega arith)
+read_groups-requires c = (omega arith, omega arith)
 
-pub shape_of-row-then-high : goal.shape_of-row-then-high
+pub read_groups-requires-else-high : goal.read_groups-requires-else-high
 unfolding needed
-shape_of-row-then-high c =
-    search rules
+read_groups-requires-else-high c = (omega arith, omega arith)
 
 pub returns-then-high : goal.returns-then-high
 unfolding needed
 returns-then-high c =
-    rw c.if-high.true (let e = all_read 3 _ _ _ _ (there 3 _ _ (eq-eqb _ _ c.if-row-ne0.false) (omega arith))
-    c.read_high.ensures in record {
-      answer = e.0;
-      filled = e.1;
-    })
+    let h = there 3 _ _ (eq-eqb _ _ c.if-row-ne0.false) (omega arith) in
+    rw c.if-high.true (let e = all_read 3 _ _ _ _ h c.read_groups.ensures in record { answer = e.0; filled = e.1 })
 
-pub read_low-requires : goal.read_low-requires
+pub returns-else-high : goal.returns-else-high
 unfolding needed
-read_low-requires c =
-    (omega arith, omega arith)
-
-pub shape_of-row : goal.shape_of-row
-unfolding needed
-shape_of-row c =
-    search rules
-
-pub returns : goal.returns
-unfolding needed
-returns c =
-    rw c.if-high.false (let e = all_read 3 _ _ _ _ (there 3 _ _ (eq-eqb _ _ c.if-row-ne0.false) (omega arith))
-    c.read_low.ensures in record {
-      answer = e.0;
-      filled = e.1;
-    })
+returns-else-high c =
+    let h = there 3 _ _ (eq-eqb _ _ c.if-row-ne0.false) (omega arith) in
+    rw c.if-high.false (let e = all_read 3 _ _ _ _ h c.read_groups-else-high.ensures in record { answer = e.0; filled = e.1 })

@@ -1,5 +1,6 @@
 -- `decode::read_integers` meets its contract. Each arm is the decoder of its code; no other code is one of integers.
 -- Assumes nothing.
+use Rattle.std.proofs.Common.{arith}
 use Rattle.decode.specs.SampleLaws.{no_integers, nothing_read}
 use Rattle.decode.proofs.read_integers.Goals as goal
 
@@ -17,4 +18,4 @@ returns-in-3 c =
 
 pub returns-in_default : goal.returns-in_default
 returns-in_default c =
-    let r = c.in_default.in_default-own.rest in let e = nothing_read _ _ _ _ (no_integers _ _ _ r.0.0.1 r.0.1 r.1) in record { answer = e.0; filled = e.1 }
+    let e = nothing_read _ _ _ _ (no_integers c.args.code _ _ (λ e. omega arith) (λ e. omega arith) (λ e. omega arith)) in record { answer = e.0; filled = e.1 }

@@ -1,26 +1,10 @@
 -- `decode::sample1` meets its contract. Two's complement of the sample's word. Assumes nothing.
-use mathlib.Core.Path.{ap, ◌∙◌}
-use borrow.Author.Rules.{rules}
+use Rattle.std.proofs.Common.{ap, ◌∙◌}
 use Rattle.sample.specs.Needed.{width}
 use Rattle.sample_bits.specs.SampleBits.{twos}
 use Rattle.decode.specs.Sample.{pattern_of, sample_of}
 use Rattle.decode.proofs.Machine.{fits16, kept16}
 use Rattle.decode.proofs.sample1.Goals as goal
-
-pub overflow_mul-i : goal.overflow_mul-i
-unfolding sample_of pattern_of width
-overflow_mul-i c =
-    search rules
-
-pub word_at-requires : goal.word_at-requires
-unfolding sample_of pattern_of width
-word_at-requires c =
-    search rules
-
-pub twos16-requires : goal.twos16-requires
-unfolding sample_of pattern_of width
-twos16-requires c =
-    search rules
 
 pub overflow_cast-result : goal.overflow_cast-result
 unfolding sample_of pattern_of width

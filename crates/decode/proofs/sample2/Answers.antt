@@ -1,27 +1,10 @@
 -- `decode::sample2` meets its contract. Two's complement of the sample's word. Assumes nothing.
-use mathlib.Core.Path.{ap, ◌∙◌}
-use borrow.Author.Rules.{rules}
-use mir.Syntax.{w32}
+use Rattle.std.proofs.Common.{ap, ◌∙◌, w32}
 use Rattle.word.specs.Signed.{kept}
 use Rattle.sample.specs.Needed.{width}
 use Rattle.sample_bits.specs.SampleBits.{twos}
 use Rattle.decode.specs.Sample.{pattern_of, sample_of}
 use Rattle.decode.proofs.sample2.Goals as goal
-
-pub overflow_mul-i : goal.overflow_mul-i
-unfolding sample_of pattern_of width
-overflow_mul-i c =
-    search rules
-
-pub word4_at-requires : goal.word4_at-requires
-unfolding sample_of pattern_of width
-word4_at-requires c =
-    search rules
-
-pub twos32-requires : goal.twos32-requires
-unfolding sample_of pattern_of width
-twos32-requires c =
-    search rules
 
 pub returns : goal.returns
 unfolding sample_of pattern_of width

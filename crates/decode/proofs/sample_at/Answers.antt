@@ -1,6 +1,5 @@
 -- `decode::sample_at` meets its contract. Each arm is the sample of its code. Assumes nothing.
-use mathlib.Core.Path.{sym, ◌∙◌}
-use mir.Syntax.{w32}
+use Rattle.std.proofs.Common.{sym, ◌∙◌, arith, w32}
 use Rattle.word.specs.Signed.{kept}
 use Rattle.decode.specs.Sample.{sample_end}
 use Rattle.decode.specs.SampleLaws.{no_sample}
@@ -22,21 +21,17 @@ sample3-requires c =
     rw c.in-3.is at c.requires
 
 pub returns-in-1 : goal.returns-in-1
-unfolding sample_end
 returns-in-1 c =
     rw c.in-1.is (kept w32 c.sample1.result c.sample1.type_inv ∙ c.sample1.ensures)
 
 pub returns-in-2 : goal.returns-in-2
-unfolding sample_end
 returns-in-2 c =
     rw c.in-2.is (kept w32 c.sample2.result c.sample2.type_inv ∙ c.sample2.ensures)
 
 pub returns-in-3 : goal.returns-in-3
-unfolding sample_end
 returns-in-3 c =
     rw c.in-3.is (kept w32 c.sample3.result c.sample3.type_inv ∙ c.sample3.ensures)
 
 pub returns-in_default : goal.returns-in_default
-unfolding sample_end
 returns-in_default c =
-    let r = c.in_default.in_default-own.rest in sym (no_sample _ _ _ _ r.0.0.1 r.0.1 r.1)
+    sym (no_sample _ _ _ _ (λ e. omega arith) (λ e. omega arith) (λ e. omega arith))

@@ -1,13 +1,7 @@
-use mathlib.Core.Path.{◌≡◌}
-use Prim.Native.Nat.{◌-◌}
-use lib.ListN.{length, drop}
+use Rattle.std.proofs.Common.{◌≡◌, ◌-◌, length, drop}
 use Rattle.digits.specs.Value.{value, Room}
 use Rattle.digits.proofs.value.Given as goal
 
-abbrev pub invariant-loop-i : goal.invariant-loop-i
-invariant-loop-i l =
-    (value l.w (drop l.i l.s) ≡ value l.v l.s) × Room l.w (length l.s - l.i)
-
-abbrev pub decreases-loop-i : goal.decreases-loop-i
-decreases-loop-i l =
-    length l.s - l.i
+abbrev pub invariant-loop-b : goal.invariant-loop-b
+invariant-loop-b l =
+    (value l.w (drop l.b-index l.s) ≡ value l.v l.s) × Room l.w (length l.s - l.b-index)

@@ -1,6 +1,6 @@
 -- `encode::put_word8` meets its contract. A word that is turned and then written low byte first has the bytes of the
 -- order. Assumes nothing.
-use mathlib.Core.Path.{◌∙◌}
+use Rattle.std.proofs.Common.{◌∙◌}
 use Rattle.sample.specs.Turned.{turned_bytes}
 use Rattle.encode.proofs.put_word8.Goals as goal
 

@@ -1,87 +1,30 @@
 -- `encode::write4` meets its contract. The invariant: what is left to write, written, makes the whole. Assumes nothing.
-use mathlib.Core.Path.{◌∙◌}
-use Prim.Native.Nat.{◌-◌}
-use native.Mathlib.Omega.{arith}
-use lib.ListN.{get_or}
-use borrow.Author.Rules.{rules}
+use Rattle.std.proofs.Common.{refl, ◌∙◌, arith, get_or}
 use Rattle.word.specs.Word.{bytes_of}
 use Rattle.word.specs.WordLaws.{length_bytes_of}
 use Rattle.sample.specs.Needed.{needed, room}
-use Rattle.encode.specs.Write.{bits_data}
 use Rattle.row20.specs.RowLaws.{write_start}
+use Rattle.encode.specs.Write.{bits_data}
 use Rattle.encode.specs.WriteLaws.{bytes_low4, row_turn, row_end}
 use Rattle.encode.proofs.write4.Goals as goal
 
 pub loop-i-init : goal.loop-i-init
-unfolding room needed bits_data
-loop-i-init c =
-    write_start _ _ _
-
-pub overflow_mul-i : goal.overflow_mul-i
-unfolding room needed bits_data
-overflow_mul-i c =
-    search rules
-
-pub offset_bounds-row-i : goal.offset_bounds-row-i
-unfolding room needed bits_data
-offset_bounds-row-i c =
-    search rules
-
-pub bounds-row-i : goal.bounds-row-i
-unfolding room needed bits_data
-bounds-row-i c =
-    search rules
-
-pub overflow_cast-row : goal.overflow_cast-row
-unfolding room needed bits_data
-overflow_cast-row c =
-    search rules
+loop-i-init c = write_start _ _ _
 
 pub put_word4-requires : goal.put_word4-requires
-unfolding room needed bits_data
-put_word4-requires c =
-    omega arith
-
-pub overflow_add-i : goal.overflow_add-i
-unfolding room needed bits_data
-overflow_add-i c =
-    search rules
-
-pub loop-i-smaller : goal.loop-i-smaller
-unfolding room needed bits_data
-loop-i-smaller c =
-    search rules
+unfolding room needed
+put_word4-requires c = omega arith
 
 pub loop-i-preserved : goal.loop-i-preserved
-unfolding room needed bits_data
 loop-i-preserved c =
-    let args = c.args in
-    let z = get_or args.row.now c.loop-i.i 0 in
     row_turn (bytes_of 4 _) 0 _ (λ x. length_bytes_of 4 _ _) c.loop-i.invariant c.loop-i-test.true
-    (c.put_word4.ensures ∙ rw (bytes_low4 args.high z))
+    (c.put_word4.ensures ∙ rw (bytes_low4 c.args.high (get_or c.args.row.now c.loop-i.i 0)))
 
-pub overflow_mul-end : goal.overflow_mul-end
-unfolding room needed bits_data
-overflow_mul-end c =
-    omega arith
-
-pub round_up-requires : goal.round_up-requires
-unfolding room needed bits_data
-round_up-requires c =
-    omega arith
-
-pub zeros-requires : goal.zeros-requires
-unfolding room needed bits_data
-zeros-requires c =
-    omega arith
-
-pub shape_of-part : goal.shape_of-part
-unfolding room needed bits_data
-shape_of-part c =
-    search rules
+pub fill_up-requires : goal.fill_up-requires
+unfolding room needed
+fill_up-requires c = omega arith
 
 pub returns : goal.returns
-unfolding room needed bits_data
+unfolding bits_data
 returns c =
-    c.zeros.ensures ∙ row_end (bytes_of 4 _) _ c.round_up.result (λ x. length_bytes_of 4 _ _) c.loop-i.invariant
-    c.loop-i-test.false c.round_up.ensures
+    c.fill_up.ensures ∙ row_end (bytes_of 4 _) _ _ (λ x. length_bytes_of 4 _ _) c.loop-i.invariant c.loop-i-test.false refl

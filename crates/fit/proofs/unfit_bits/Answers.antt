@@ -1,4 +1,5 @@
 -- `fit::unfit_bits` meets its contract. Only code 4 has patterns that it cannot hold. Assumes nothing.
+use Rattle.std.proofs.Common.{arith}
 use Rattle.fit.specs.Unfit.{holds_patterns}
 use Rattle.fit.proofs.unfit_bits.Goals as goal
 
@@ -8,4 +9,4 @@ returns-in-4 c =
 
 pub returns-in_default : goal.returns-in_default
 returns-in_default c =
-    holds_patterns _ c.in_default.in_default-own.rest.1 _
+    holds_patterns _ (λ e. omega arith) _

@@ -1,6 +1,6 @@
 -- `fit::unfit_integers` meets its contract. Under code 3 a magnitude below 2^30 is a number between two bounds; the
 -- other codes hold every integer. Assumes nothing.
-use mathlib.Core.Path.{◌∙◌}
+use Rattle.std.proofs.Common.{◌∙◌, arith}
 use Rattle.fit.specs.Unfit.{unfit_integers, unfit_integer, first_same, magnitude_bounds, holds_integers}
 use Rattle.fit.proofs.unfit_integers.Goals as goal
 
@@ -17,4 +17,4 @@ returns-in-3 c =
 pub returns-in_default : goal.returns-in_default
 unfolding unfit_integers unfit_integer
 returns-in_default c =
-    let r = c.in_default.in_default-own.rest in holds_integers _ r.0.1 r.1 _
+    holds_integers _ (λ e. omega arith) (λ e. omega arith) _

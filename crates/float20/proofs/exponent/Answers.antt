@@ -1,5 +1,5 @@
 -- `float20::exponent` meets its contract. 17 leading zeros leave 15 bits. Assumes nothing.
-use native.Mathlib.Omega.{arith}
+use Rattle.std.proofs.Common.{arith}
 use Rattle.float20.specs.Float20Laws.{zeros_most, exponent_told}
 use Rattle.float20.proofs.exponent.Goals as goal
 

@@ -1,6 +1,6 @@
 -- `float20::exponents` meets its contract. The shifted exponents share no bit, so that `|` is their sum. Assumes
 -- nothing.
-use native.Mathlib.Omega.{arith}
+use Rattle.std.proofs.Common.{arith}
 use Rattle.float20.specs.Float20Laws.{placed}
 use Rattle.float20.proofs.exponents.Goals as goal
 

@@ -1,10 +1,6 @@
 -- `group20::group_of` meets its contract. The words are those of the exponents and mantissas of the four samples. Assumes
 -- nothing.
-use Prim.Native.Nat.{◌+◌, ◌*◌}
-use native.Mathlib.Omega.{arith}
-use lib.IntN.{pos}
-use lib.ListN.{get_or}
-use mir.Syntax.{w32}
+use Rattle.std.proofs.Common.{◌+◌, ◌*◌, arith, pos, get_or, w32}
 use Rattle.group20.specs.GroupLaws.{fit_magnitude, words_told}
 use Rattle.word.specs.Signed.{kept}
 use Rattle.group20.proofs.group_of.Goals as goal

@@ -1,5 +1,5 @@
 -- `group20::put_back` meets its contract. Three pairs of words. Assumes nothing.
-use mathlib.Core.Path.{◌∙◌}
+use Rattle.std.proofs.Common.{◌∙◌}
 use Rattle.group20.specs.GroupLaws.{put_six}
 use Rattle.group20.proofs.put_back.Goals as goal
 

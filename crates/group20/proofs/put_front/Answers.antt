@@ -1,5 +1,5 @@
 -- `group20::put_front` meets its contract. Two pairs of words. Assumes nothing.
-use mathlib.Core.Path.{◌∙◌}
+use Rattle.std.proofs.Common.{◌∙◌}
 use Rattle.group20.specs.GroupLaws.{put_four}
 use Rattle.group20.proofs.put_front.Goals as goal
 

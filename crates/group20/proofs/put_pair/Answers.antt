@@ -1,5 +1,5 @@
 -- `group20::put_pair` meets its contract. Two words are one of four bytes. Assumes nothing.
-use mathlib.Core.Path.{ap, ◌∙◌}
+use Rattle.std.proofs.Common.{ap, ◌∙◌}
 use Rattle.word.specs.Put.{put}
 use Rattle.word.specs.Word.{bytes_of}
 use Rattle.word.specs.WordLaws.{bytes_of_joined}

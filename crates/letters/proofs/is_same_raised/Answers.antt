@@ -1,36 +1,19 @@
--- `letters::is_same_raised` meets its contract. The invariant: what is left compares as the whole does. Assumes
--- nothing.
-use mathlib.Core.Path.{refl, ◌∙◌}
-use Prim.Native.Nat.{◌-◌}
-use borrow.Author.Tests.{eq-eqb, ne_eqb}
-use Rattle.letters.specs.Upper.{raised_short, raised_apart, raised_next, raised_longer, raised_ended}
-use borrow.Author.Rules.{rules}
+-- `letters::is_same_raised` meets its contract. Assumes nothing.
+use Rattle.std.proofs.Common.{◌∙◌, ℕ, eqb, ne_eqb, rules, tests}
+use Rattle.std.specs.Char.{to_ascii_uppercase}
+use Rattle.std.proofs.lemmas.Iterator.{YieldsList-from_slice, YieldsList-from_zip}
+use Rattle.std.proofs.lemmas.Iterator.Search.{all_from_yields_List}
+use Rattle.letters.specs.Upper.{raised_pairs, raised_long}
 use Rattle.letters.proofs.is_same_raised.Goals as goal
 
-pub loop-i-init : goal.loop-i-init
-loop-i-init c =
-    (search rules, refl)
+pub returns-then-p-k : goal.returns-then-p-k
+returns-then-p-k c =
+    let p = c.args.p.now in
+    let k = c.args.k.now in
+    all_from_yields_List (λ (q : ℕ × ℕ). eqb (to_ascii_uppercase q.0) q.1) c.all.new.self _ _ c.all.ensures.ran
+    (YieldsList-from_zip (YieldsList-from_slice p cc) (YieldsList-from_slice k cc)) (λ x b q h. search (rules, tests))
+    ∙ raised_pairs p k c.if-p-k.true
 
-pub returns-then-k-i : goal.returns-then-k-i
-returns-then-k-i c =
-    raised_short _ _ _ c.loop-i-test.true c.if-k-i.true ∙ c.loop-i.invariant.1
-
-pub returns-then-raised-k : goal.returns-then-raised-k
-returns-then-raised-k c =
-    raised_apart _ _ _ c.loop-i-test.true c.if-k-i.false (rw (← c.raised.ensures) (ne_eqb _ _ c.if-raised-k.true))
-    ∙ c.loop-i.invariant.1
-
-pub loop-i-preserved : goal.loop-i-preserved
-loop-i-preserved c = (
-  search rules,
-  raised_next _ _ _ c.loop-i-test.true c.if-k-i.false (rw (← c.raised.ensures) (eq-eqb _ _ c.if-raised-k.false))
-      ∙ c.loop-i.invariant.1,
-)
-
-pub returns-then-longer : goal.returns-then-longer
-returns-then-longer c =
-    raised_longer _ _ _ c.loop-i-test.false c.if-longer.true ∙ c.loop-i.invariant.1
-
-pub returns : goal.returns
-returns c =
-    raised_ended _ _ _ c.loop-i-test.false c.if-longer.false ∙ c.loop-i.invariant.1
+pub returns-else-p-k : goal.returns-else-p-k
+returns-else-p-k c =
+    ne_eqb _ _ c.if-p-k.false ∙ raised_long _ _ c.if-p-k.false

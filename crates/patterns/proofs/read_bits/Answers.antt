@@ -1,5 +1,6 @@
 -- `patterns::read_bits` meets its contract. Each arm is the decoder of its code; no other code is one of bits. Assumes
 -- nothing.
+use Rattle.std.proofs.Common.{arith}
 use Rattle.decode.specs.SampleLaws.{no_bits, no_bits_read}
 use Rattle.patterns.proofs.read_bits.Goals as goal
 
@@ -13,7 +14,7 @@ returns-in-5 c =
 
 pub returns-in_default : goal.returns-in_default
 returns-in_default c =
-    let r = c.in_default.in_default-own.rest in let e = no_bits_read _ _ _ _ _ (no_bits _ _ _ _ r.0.1 r.1) in record {
+    let e = no_bits_read _ _ _ _ _ (no_bits c.args.code _ _ _ (λ e. omega arith) (λ e. omega arith)) in record {
       answer = e.0;
       filled = e.1.0;
       classed = e.1.1;

@@ -1,6 +1,5 @@
 -- `sample::needed` meets its contract. Each arm is the row of the table that its code names. Assumes nothing.
-use mathlib.Core.Path.{sym}
-use native.Mathlib.Omega.{arith}
+use Rattle.std.proofs.Common.{sym, arith}
 use Rattle.sample.specs.Needed.{needed, by_code_none}
 use Rattle.sample.proofs.needed.Goals as goal
 
@@ -32,4 +31,4 @@ returns-in-5 c =
 pub returns-in_default : goal.returns-in_default
 unfolding needed
 returns-in_default c =
-    let r = c.in_default.in_default-own.rest in (sym (by_code_none _ _ _ _ _ _ _ r.0.0.0.0.1 r.0.0.0.1 r.0.0.1 r.0.1 r.1), omega arith)
+    (sym (by_code_none _ _ _ _ _ _ c.args.code (λ e. omega arith) (λ e. omega arith) (λ e. omega arith) (λ e. omega arith) (λ e. omega arith)), omega arith)

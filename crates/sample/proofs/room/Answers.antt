@@ -1,6 +1,5 @@
 -- `sample::room` meets its contract. It is the needed bytes, rounded up. Assumes nothing.
-use mathlib.Core.Path.{◌∙◌, ap}
-use native.Mathlib.Omega.{arith}
+use Rattle.std.proofs.Common.{◌∙◌, ap, arith}
 use Rattle.word.specs.Round.{round4}
 use Rattle.sample.specs.Needed.{room}
 use Rattle.sample.proofs.room.Goals as goal

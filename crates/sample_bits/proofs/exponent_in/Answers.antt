@@ -1,6 +1,7 @@
 -- `sample_bits::exponent_in` meets its contract. A shift divides, and a mask is a remainder. Assumes nothing.
-use Prim.Native.Nat.{◌*◌, ◌/◌, ◌^◌}
-use lib.Bits.{and_mask, mask_lt}
+use Rattle.std.proofs.Common.{◌*◌, ◌/◌, ◌^◌}
+use Rattle.std.proofs.lemmas.Nat.{and_mask}
+use Rattle.std.specs.Int.Bits.{mask_lt}
 use Rattle.sample_bits.specs.SampleBits.{exponent_in}
 use Rattle.sample_bits.proofs.exponent_in.Goals as goal
 

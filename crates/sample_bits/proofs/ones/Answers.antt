@@ -1,12 +1,7 @@
 -- `sample_bits::ones` meets its contract. A mantissa with the sign bit is 65535 less than its bits say. Assumes nothing.
-use mathlib.Core.Path.{◌≡◌, sym, ◌∙◌}
-use Prim.Native.Nat.{ℕ, ◌≤◌, ◌<◌}
-use native.Mathlib.Omega.{arith}
-use lib.IntN.{ℤ, pos, negsuc, nat_abs, ◌-ℤ◌}
-use lib.Signed.{mag}
-use mir.Syntax.{w32}
-use mir.Val.{to_z}
-use mir.Facts.{to_z_pos}
+use Rattle.std.proofs.Common.{◌≡◌, sym, ◌∙◌, ℕ, ◌≤◌, ◌<◌, arith, ℤ, pos, negsuc, nat_abs, ◌-ℤ◌, w32, to_z}
+use Rattle.std.specs.Int.Signed.{mag}
+use Rattle.std.proofs.Math.Facts.{to_z_pos}
 use Rattle.word.specs.Signed.{kept}
 use Rattle.sample_bits.specs.SampleBits.{ones}
 use Rattle.sample_bits.specs.BitLaws.{ones_plus}

@@ -1,18 +1,9 @@
--- `sample_bits::twos32` meets its contract. Minus k and one is the bits of k turned over. Assumes nothing.
-use mathlib.Core.Path.{◌∙◌, sym}
-use Prim.Native.Nat.{◌-◌}
-use native.Mathlib.Omega.{arith}
-use mir.Syntax.{w32}
-use mir.Facts.{to_z_pos}
-use Rattle.sample_bits.specs.BitLaws.{twos_plus, twos_minus}
-use Rattle.sample_bits.proofs.Machine.{flipped}
+-- `sample_bits::twos32` meets its contract. The machine reads its bits in two's complement. Assumes nothing.
+use Rattle.std.proofs.Common.{◌∙◌, w32}
+use Rattle.word.specs.Signed.{kept}
+use Rattle.sample_bits.proofs.Machine.{signed_twos}
 use Rattle.sample_bits.proofs.twos32.Goals as goal
 
-pub returns-then-n-lt2147483648 : goal.returns-then-n-lt2147483648
-returns-then-n-lt2147483648 c =
-    to_z_pos w32 {n = c.args.n} (omega arith) ∙ sym (twos_plus 2147483648 c.args.n c.if-n-lt2147483648.true)
-
-pub returns-else-n-lt2147483648 : goal.returns-else-n-lt2147483648
-returns-else-n-lt2147483648 c =
-    let args = c.args in
-    flipped (4294967295 - args.n) (omega arith) ∙ sym (twos_minus 2147483648 args.n c.if-n-lt2147483648.false c.ranges.n.fits)
+pub returns : goal.returns
+returns c =
+    kept w32 c.cast_signed.result c.cast_signed.type_inv ∙ c.cast_signed.ensures ∙ signed_twos w32 _ c.ranges.n.fits

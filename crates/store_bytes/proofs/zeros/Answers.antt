@@ -1,39 +1,22 @@
--- `store_bytes::zeros` meets its contract. The invariant: what is left to store, stored, makes the whole. Assumes nothing.
-use mathlib.Core.Path.{◌≡◌, refl, ◌∙◌}
-use Prim.Native.Nat.{◌+◌, ◌-◌}
-use native.Mathlib.Omega.{arith}
-use lib.ListN.{length-set}
-use Rattle.word.specs.Put.{put_none, fill_turn}
+-- `store_bytes::zeros` meets its contract: what stands before the zeros, the zeros, what stands behind. Assumes nothing.
+use Rattle.std.proofs.Common.{◌≡◌, ◌++◌, ◌+◌, ◌-◌, ◌≤◌, sym, replicate, List, length, take, drop, ℕ, length-take-le, length-drop, drop-drop, arith}
+use Rattle.std.proofs.lemmas.List.{length-replicate}
+use Rattle.word.specs.Put.{put, put_none, put_split}
 use Rattle.store_bytes.proofs.zeros.Goals as goal
 
-pub loop-i-init : goal.loop-i-init
-loop-i-init c =
-    (refl, refl)
+filled : (s zs : List ℕ) (a n : ℕ) → a + n ≤ length s → zs ≡ replicate (length (take n (drop a s))) 0
+    → take a s ++ (zs ++ drop n (drop a s)) ≡ put s a (replicate n 0)
+filled s zs a n h e =
+    let z : List ℕ = replicate n 0 in
+    let k : length z ≡ n = length-replicate {A = ℕ} n 0 in
+    let l : length (take n (drop a s)) ≡ n = length-take-le n (drop a s) (rw (length-drop a s) (omega arith)) in
+    let p : put s a z ≡ take a s ++ (z ++ drop (a + length z) s) = put_split z s a (omega arith) in
+    rw (e, l, drop-drop n a s) (sym (rw k at p))
 
-pub bounds-buf-i : goal.bounds-buf-i
-bounds-buf-i c =
-    omega arith
+pub returns-then-a-e : goal.returns-then-a-e
+returns-then-a-e c =
+    filled c.args.buf.now _ c.args.a (c.args.e - c.args.a) (omega arith) (c.fill.ensures.after (λ y h. h))
 
-pub overflow_add-i : goal.overflow_add-i
-overflow_add-i c =
-    omega arith
-
-pub loop-i-smaller : goal.loop-i-smaller
-loop-i-smaller c =
-    omega arith
-
-pub loop-i-preserved : goal.loop-i-preserved
-loop-i-preserved c =
-    let e = c.args.e in
-    let i = c.loop-i.i in
-    let n : e - i ≡ e - (i + 1) + 1 = omega arith in
-    (simp length-set (omega arith), fill_turn 0 _ i (e - (i + 1)) ∙ (rw n at c.loop-i.invariant.1))
-
-pub shape_of-buf : goal.shape_of-buf
-shape_of-buf c =
-    omega arith
-
-pub returns : goal.returns
-returns c =
-    let n : c.args.e - c.loop-i.i ≡ 0 = omega arith in
-    (rw (n, put_none) at c.loop-i.invariant.1)
+pub returns-else-a-e : goal.returns-else-a-e
+returns-else-a-e c =
+    let n : c.args.e - c.args.a ≡ 0 = omega arith in rw (n, put_none)

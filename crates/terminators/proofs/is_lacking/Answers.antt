@@ -1,23 +1,13 @@
--- `terminators::is_lacking` meets its contract. The invariant: what is left lacks the byte just where the whole does. Assumes
--- nothing.
-use mathlib.Core.Path.{refl, ◌∙◌}
-use Prim.Native.Nat.{◌-◌}
-use Rattle.terminators.specs.TerminatorLaws.{lacks_here, lacks_on, lacks_over}
-use borrow.Author.Rules.{rules}
+-- `terminators::is_lacking` meets its contract. Assumes nothing.
+use Rattle.std.proofs.Common.{◌∙◌, ℕ, not, eqb, rules, tests}
+use Rattle.std.proofs.lemmas.Iterator.{YieldsList-from_slice}
+use Rattle.std.proofs.lemmas.Iterator.Search.{all_from_yields_List}
+use Rattle.chars.specs.Runs.{all_list}
 use Rattle.terminators.proofs.is_lacking.Goals as goal
-
-pub loop-i-init : goal.loop-i-init
-loop-i-init c =
-    (search rules, refl)
-
-pub returns-then-shared : goal.returns-then-shared
-returns-then-shared c =
-    lacks_here _ _ _ c.loop-i-test.true c.if-shared.true ∙ c.loop-i.invariant.1
-
-pub loop-i-preserved : goal.loop-i-preserved
-loop-i-preserved c =
-    (search rules, lacks_on _ _ _ c.loop-i-test.true c.if-shared.false ∙ c.loop-i.invariant.1)
 
 pub returns : goal.returns
 returns c =
-    lacks_over _ _ _ c.loop-i-test.false ∙ c.loop-i.invariant.1
+    let p = λ (x : ℕ). not (eqb x c.args.b) in
+    let u = c.args.u.now in
+    all_from_yields_List p c.all.new.self _ _ c.all.ensures.ran (YieldsList-from_slice u cc) (λ x b q h. search (rules, tests))
+    ∙ all_list p u
