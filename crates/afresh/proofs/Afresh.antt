@@ -1,13 +1,7 @@
 -- Theorems on what specs/Afresh defines. They stand here, as a wrong definition there is to be refused and not to be unread.
 -- Assumes nothing.
-use Rattle.std.specs.Prelude.{◌≡◌, refl, Bool, get_or, take}
-use Rattle.std.proofs.Math.Path.{sym, ap}
-use Rattle.std.proofs.Common.{◌∙◌, arith}
-use Rattle.std.proofs.Math.Bool.{false}
-use mathlib.Core.List.{List, [], ◌∷◌, ◌++◌, append_assoc}
-use Prim.Native.Nat.{ℕ, ◌+◌, ◌*◌, ◌≤◌, ◌<◌}
-use Rattle.std.proofs.Math.ListN.{length}
-use Rattle.std.proofs.Math.Dec.{eqb}
+use Rattle.std.specs.Prelude.{◌≡◌, refl, Bool, get_or, take, Result, Ok, Err, false, List, [], ◌∷◌, ◌++◌, ℕ, ◌+◌, ◌*◌, ◌≤◌, ◌<◌, length, eqb}
+use Rattle.std.proofs.Common.{sym, ap, ◌∙◌, arith, append_assoc}
 use Rattle.head_limits.specs.declared.Purpose.{Purpose}
 use Rattle.head_limits.specs.declared.Purpose.TheVariants.{Grow}
 use Rattle.text.specs.declared.Manner.TheVariants.{Strict}
@@ -19,14 +13,10 @@ use Rattle.channel.specs.Channel.{channel_number}
 use Rattle.channel_line.specs.ChannelLine.{value_of_line}
 use Rattle.sheet_channel.specs.Meant.{keeps_sheet}
 use Rattle.image.specs.Accepted.{with_of}
-use Rattle.sheet.specs.declared.Measured.TheVariants.{Size}
-use Rattle.refusal.specs.declared.Verdict.TheVariants.{Accepted}
 use Rattle.image.specs.Image.{check_of}
 use Rattle.head_words.specs.HeadWords.{room_of, count_of}
 use Rattle.head.specs.Head.{maximum}
 use Rattle.terminators.specs.Terminators.{string_end, line_end}
-use Rattle.refusal.specs.declared.Written.{Written}
-use Rattle.refusal.specs.declared.Written.TheVariants.{To, Refused}
 use Rattle.layout.specs.Layout.{slots_most, nul, line_feed, start_size, Trace, trace_size}
 use Rattle.start.specs.Start.{start_answer, start_left}
 use Rattle.opening.specs.Opening.{wrong_channel}
@@ -42,6 +32,8 @@ use Rattle.afresh.proofs.Calls.{start_grows}
 use Rattle.afresh.specs.Stands.{empty_trace}
 use Rattle.afresh.proofs.Kept.{file_with, file_accepted}
 use Rattle.afresh.specs.Afresh.{Writable, lengths}
+use Rattle.refusal.specs.declared.Refusal.{Refusal}
+use Rattle.refusal.specs.Verdicts.{accepted}
 
 module _ (high : Bool) (slots : ℕ) (sheet : List ℕ) (some : 1 ≤ slots) (measures : Measures sheet) where
   -- a trace that goes on a good list meets no row 35: the first is free to choose, a later one is as the first
@@ -63,7 +55,7 @@ module _ (high : Bool) (slots : ℕ) (sheet : List ℕ) (some : 1 ≤ slots) (me
 
   -- a trace that goes on a good list is added to the file of the list where there is a slot and room
   pub add_accepted : (ts : List Trace) (xs : List ℕ) (n : ℕ) (x : Trace) → Holds high slots sheet ts xs n → AllGood (ts ++ (x ∷ [])) → length ts < slots
-      → n + trace_size nul line_feed x ≤ length xs → n + trace_size nul line_feed x ≤ maximum → add_answer xs n x ≡ To (n + trace_size nul line_feed x)
+      → n + trace_size nul line_feed x ≤ length xs → n + trace_size nul line_feed x ≤ maximum → add_answer xs n x ≡ Ok (n + trace_size nul line_feed x)
   add_accepted ts xs n x is all slot fits most =
       let g : Good x = good_next ts x [] all.0 in
       let f = file_fronted high slots sheet ts is.few is.slotted in
@@ -71,7 +63,7 @@ module _ (high : Bool) (slots : ℕ) (sheet : List ℕ) (some : 1 ≤ slots) (me
       let c : count_of (take n xs) ≡ length ts = ap count_of is.image ∙ f.count in
       let r : room_of (take n xs) ≡ 4 * slots = ap room_of is.image ∙ f.room in
       let g' = g.measures in
-      let m : measured_of (string_end (take n xs)) (line_end (take n xs)) x.sheet ≡ Size g'.0 = rw (is.image, f.strings, f.lines) g'.1 in
+      let m : measured_of (string_end (take n xs)) (line_end (take n xs)) x.sheet ≡ Ok g'.0 = rw (is.image, f.strings, f.lines) g'.1 in
       let a : Added xs n x (n + trace_size nul line_feed x) =
       record {
         accepted = file_accepted Grow high slots sheet ts xs n is some measures (omega arith) (λ z. refl);
@@ -99,7 +91,7 @@ module _ (high : Bool) (slots : ℕ) (sheet : List ℕ) (some : 1 ≤ slots) (me
       let p = (add_past high slots sheet ts xs n x is end to).1 in
       let i = goes_on calls (ts ++ (x ∷ [])) (add_left xs n x) end (add_afresh high slots sheet ts xs n x is end to) all (omega arith) (omega arith)
       (omega arith) in
-      (answers_to xs n x calls end to ∙ ap (λ (r : List Written). To end ∷ r) i.0, accepted_to xs n x calls end to ∙ ap (λ (r : List Trace). x ∷ r) i.1)
+      (answers_to xs n x calls end to ∙ ap (λ (r : List (Result ℕ Refusal)). Ok end ∷ r) i.0, accepted_to xs n x calls end to ∙ ap (λ (r : List Trace). x ∷ r) i.1)
 
 module _ (xs : List ℕ) (order slots : ℕ) (sheet : List ℕ) (ts : List Trace) (w : Writable xs order slots sheet ts) where
   abbrev begun : List ℕ
@@ -121,7 +113,7 @@ module _ (xs : List ℕ) (order slots : ℕ) (sheet : List ℕ) (ts : List Trace
       }
 
   -- the start answers the length of its image
-  pub start_accepted : start_answer xs order slots sheet ≡ To (start_size slots sheet)
+  pub start_accepted : start_answer xs order slots sheet ≡ Ok (start_size slots sheet)
   start_accepted = starts xs order slots sheet (start_size slots sheet) can_start
 
   on_from_start : (answers_of begun (start_size slots sheet) ts ≡ lengths (start_size slots sheet) ts) × (accepted_of begun (start_size slots sheet) ts ≡ ts)
@@ -152,7 +144,7 @@ module _ (xs : List ℕ) (order slots : ℕ) (sheet : List ℕ) (ts : List Trace
 
   -- a reader's check accepts it where there is a trace, an addition's check always
   pub afresh_accepted : (purpose : Purpose) → (length ts ≡ 0 → purpose ≡ Grow)
-      → check_of Strict purpose (after begun (start_size slots sheet) ts).0 (after begun (start_size slots sheet) ts).1 ≡ Accepted
+      → check_of Strict purpose (after begun (start_size slots sheet) ts).0 (after begun (start_size slots sheet) ts).1 ≡ accepted
   afresh_accepted purpose none =
       let size = written_afresh.holds.size in
       let most = w.most in
@@ -168,13 +160,13 @@ unfolding after
 after_most [] xs n h = h
 after_most (x ∷ calls) xs n h = go (add_answer xs n x) refl (after_most calls)
   where
-    go : (v : Written) → add_answer xs n x ≡ v → ((ys : List ℕ) (m : ℕ) → m ≤ maximum → (after ys m calls).1 ≤ maximum)
+    go : (v : Result ℕ Refusal) → add_answer xs n x ≡ v → ((ys : List ℕ) (m : ℕ) → m ≤ maximum → (after ys m calls).1 ≤ maximum)
         → (after (add_left xs n x) (length_left (add_answer xs n x) n) calls).1 ≤ maximum
-    go (To end) e more =
+    go (Ok end) e more =
         rw e (more (add_left xs n x) end (added xs n x end e).in_maximum)
-    go (Refused r) e more = rw e (more (add_left xs n x) n h)
+    go (Err r) e more = rw e (more (add_left xs n x) n h)
 
-pub accepted_writable : (xs : List ℕ) (order slots : ℕ) (sheet : List ℕ) (e : ℕ) → start_answer xs order slots sheet ≡ To e → (calls : List Trace)
+pub accepted_writable : (xs : List ℕ) (order slots : ℕ) (sheet : List ℕ) (e : ℕ) → start_answer xs order slots sheet ≡ Ok e → (calls : List Trace)
     → Writable xs order slots sheet (accepted_of (start_left xs order slots sheet) e calls)
 accepted_writable xs order slots sheet e to calls =
     let s = started xs order slots sheet e to in

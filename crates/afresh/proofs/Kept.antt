@@ -1,11 +1,8 @@
 -- Theorems on what specs/Kept defines. They stand here, as a wrong definition there is to be refused and not to be unread.
 -- Assumes nothing.
-use Rattle.std.specs.Prelude.{◌≡◌, refl, Bool, true, false, get_or, take, replicate, eqb}
-use Rattle.std.proofs.Common.{sym, ap, ◌∙◌, inr, arith, length-append, eqb-true}
-use mathlib.Core.List.{List, [], ◌∷◌, ◌++◌, append_assoc}
-use Rattle.std.proofs.Math.Logic.{inl}
-use Prim.Native.Nat.{ℕ, zero, suc, ◌+◌, ◌-◌, ◌*◌, ◌%◌, ◌≤◌, ◌<◌}
-use Rattle.std.proofs.Math.ListN.{length}
+use Rattle.std.specs.Prelude.{◌≡◌, refl, Bool, true, false, get_or, take, replicate, eqb, List, [], ◌∷◌, ◌++◌, ℕ, zero, suc, ◌+◌, ◌-◌, ◌*◌, ◌%◌, ◌≤◌}
+use Rattle.std.specs.Prelude.{◌<◌, length}
+use Rattle.std.proofs.Common.{sym, ap, ◌∙◌, inr, arith, length-append, eqb-true, append_assoc, inl}
 use Rattle.std.proofs.lemmas.List.{length-replicate}
 use Rattle.std.proofs.lemmas.Bool.{eqb-false}
 use Rattle.head_limits.specs.declared.Purpose.TheVariants.{Grow}
@@ -13,12 +10,10 @@ use Rattle.head_limits.specs.declared.Purpose.{Purpose}
 use Rattle.text.specs.declared.Manner.TheVariants.{Strict}
 use Rattle.word.specs.Part.{part, part_among}
 use Rattle.refusal.specs.Rows.{pick}
-use Rattle.refusal.specs.declared.Verdict.TheVariants.{Accepted}
 use Rattle.chars.specs.Runs.{all}
 use Rattle.strings.specs.Spelled.{Spells, has_key}
 use Rattle.channel.specs.Channel.{channel_number}
 use Rattle.sheet_channel.specs.Meant.{has_meant, value_meant}
-use Rattle.sample.specs.Needed.{room}
 use Rattle.sheet.specs.Area.{sheet_strings, area_of, area_size}
 use Rattle.sheet.specs.Sizes.{length_area}
 use Rattle.area.specs.Spelling.{measured_size, area_spells}
@@ -40,6 +35,7 @@ use Rattle.afresh.specs.FileLaws.{has_nth}
 use Rattle.afresh.specs.Stands.{empty_trace, Traced}
 use Rattle.afresh.proofs.Stands.{file_traces}
 use Rattle.afresh.specs.Kept.{feed_ends}
+use Rattle.refusal.specs.Verdicts.{accepted}
 
 spelled : (high : Bool) (sheet : List ℕ) → Measures sheet → Spells Strict high nul line_feed (sheet_strings line_feed sheet) (area_of high nul line_feed sheet)
 spelled high sheet m = area_spells high nul line_feed sheet m.0 feed_ends m.1
@@ -193,7 +189,7 @@ module _ (high : Bool) (slots : ℕ) (sheet : List ℕ) (ts : List Trace) (few :
 -- and the check accepts it, in any buffer that holds it
 pub file_accepted : (purpose : Purpose) (high : Bool) (slots : ℕ) (sheet : List ℕ) (ts : List Trace) (xs : List ℕ) (n : ℕ)
     → Holds high slots sheet ts xs n → 1 ≤ slots
-    → Measures sheet → n ≤ maximum → (length ts ≡ 0 → purpose ≡ Grow) → check_of Strict purpose xs n ≡ Accepted
+    → Measures sheet → n ≤ maximum → (length ts ≡ 0 → purpose ≡ Grow) → check_of Strict purpose xs n ≡ accepted
 file_accepted purpose high slots sheet ts xs n is some measures most none =
     let s = is.size in
     let k = file_keeps high slots sheet ts is.few is.good is.slotted (omega arith) some measures purpose none in

@@ -1,12 +1,8 @@
 -- Theorems on what specs/Stands defines. They stand here, as a wrong definition there is to be refused and not to be unread.
 -- Assumes nothing.
-use Rattle.std.specs.Prelude.{◌≡◌, Bool, get_or, take, drop, replicate}
-use Rattle.std.proofs.Common.{sym, ◌∙◌, length-drop, drop_at, length-take-le, take-suc}
-use Rattle.std.proofs.Math.Path.{ap}
-use mathlib.Core.List.{List, ◌∷◌, ◌++◌, append_assoc}
-use Prim.Native.Nat.{ℕ, suc, ◌+◌, ◌-◌, ◌*◌, ◌≤◌, ◌<◌}
-use native.Mathlib.Omega.{arith}
-use Rattle.std.proofs.Math.ListN.{length, length-append, length-replicate}
+use Rattle.std.specs.Prelude.{◌≡◌, Bool, get_or, take, drop, replicate, List, ◌∷◌, ◌++◌, ℕ, suc, ◌+◌, ◌-◌, ◌*◌, ◌≤◌, ◌<◌, length}
+use Rattle.std.proofs.Common.{sym, ◌∙◌, length-drop, drop_at, length-take-le, take-suc, ap, append_assoc, arith, length-append}
+use Rattle.std.proofs.Math.ListN.{length-replicate}
 use Rattle.std.proofs.Math.Seq.{take-append_seam, split_at}
 use Rattle.word.specs.Part.{part}
 use Rattle.word.specs.Word.{word_at, bytes_of}

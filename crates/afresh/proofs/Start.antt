@@ -1,16 +1,13 @@
 -- Theorems on what specs/Start defines. They stand here, as a wrong definition there is to be refused and not to be unread.
 -- Assumes nothing.
-use Rattle.std.specs.Prelude.{◌≡◌, refl, true, ◌⊎◌, ℕ, ◌*◌, ◌%◌, length, get_or, ltb, eqb}
+use Rattle.std.specs.Prelude.{◌≡◌, refl, true, ◌⊎◌, ℕ, ◌*◌, ◌%◌, length, get_or, ltb, eqb, Ok, Err, false, not, List, []}
 use Rattle.std.proofs.Common.{ap, ⊎_elim, arith, le-ltb, eq-eqb}
-use Rattle.std.proofs.Math.Bool.{false, not}
-use mathlib.Core.List.{List, []}
 use Rattle.head_limits.specs.declared.Purpose.TheVariants.{Read, Grow}
 use Rattle.text.specs.declared.Manner.TheVariants.{Strict}
-use Rattle.refusal.specs.Verdicts.{and_then}
+use Rattle.refusal.specs.Verdicts.{and_then, accepted}
 use Rattle.word.specs.Tests.{join_neither}
 use Rattle.refusal.specs.declared.Rule.TheVariants.{TraceCount}
 use Rattle.refusal.specs.declared.Part.TheVariants.{File}
-use Rattle.refusal.specs.declared.Verdict.TheVariants.{Accepted, Refused}
 use Rattle.refusal.specs.Table.{refusal}
 use Rattle.sheet.specs.Area.{area_size}
 use Rattle.head_limits.specs.HeadLimits.{known, bad_room}
@@ -19,7 +16,6 @@ use Rattle.head.specs.Head.{head_of}
 use Rattle.head.specs.HeadLaws.{own_known, own_revision, own_room, own_count}
 use Rattle.image.specs.Image.{image_of, check_of}
 use Rattle.file_length.specs.FileLength.{length_accepts}
-use Rattle.refusal.specs.declared.Written.TheVariants.{To}
 use Rattle.layout.specs.Layout.{nul, line_feed}
 use Rattle.start.specs.Start.{start_answer, start_left}
 use Rattle.start.specs.StartShown.{started}
@@ -29,20 +25,20 @@ use Rattle.afresh.proofs.Kept.{file_accepted}
 
 no_file : (f : List ℕ) → ((get_or f 0 0 ≡ 85) × (get_or f 1 0 ≡ 58)) ⊎ ((get_or f 0 0 ≡ 58) × (get_or f 1 0 ≡ 85))
     → revision_of f ≡ 1 → bad_room (room_of f) ≡ false
-    → count_of f ≡ 0 → image_of Strict Read f ≡ Refused (refusal TraceCount File 6)
+    → count_of f ≡ 0 → image_of Strict Read f ≡ Err (refusal TraceCount File 6)
 unfolding image_of head_of and_then
 no_file f a b c d =
     let k : known f ≡ true = ⊎_elim (λ e. rw (e.0, e.1)) (λ e. rw (e.0, e.1)) a in
     rw (own_known f, own_revision f, own_room f, own_count f, k, b, c, d)
 
-module _ (xs : List ℕ) (order slots : ℕ) (sheet : List ℕ) (e : ℕ) (to : start_answer xs order slots sheet ≡ To e) where
-  pub start_accepted : check_of Strict Grow (start_left xs order slots sheet) e ≡ Accepted
+module _ (xs : List ℕ) (order slots : ℕ) (sheet : List ℕ) (e : ℕ) (to : start_answer xs order slots sheet ≡ Ok e) where
+  pub start_accepted : check_of Strict Grow (start_left xs order slots sheet) e ≡ accepted
   start_accepted =
       let s = started xs order slots sheet e to in
       file_accepted Grow (eqb order 1) slots sheet [] (start_left xs order slots sheet) e (start_afresh xs order slots sheet e to) s.some
       (area_size nul line_feed sheet, s.sized) s.in_maximum (λ z. refl)
 
-  pub start_refused : check_of Strict Read (start_left xs order slots sheet) e ≡ Refused (refusal TraceCount File 6)
+  pub start_refused : check_of Strict Read (start_left xs order slots sheet) e ≡ Err (refusal TraceCount File 6)
   unfolding check_of
   start_refused =
       let s = started xs order slots sheet e to in

@@ -1,8 +1,8 @@
 -- Theorems on what specs/Step defines. They stand here, as a wrong definition there is to be refused and not to be unread.
 -- Assumes nothing.
-use Rattle.std.specs.Prelude.{◌≡◌, refl, Bool, false, List, [], ◌∷◌, ◌++◌, ℕ, suc, ◌+◌, ◌-◌, ◌*◌, ◌%◌, ◌≤◌, ◌<◌, length, get_or, take, drop, replicate, eqb}
-use Rattle.std.proofs.Common.{sym, ap, ap₂, ◌∙◌, append_assoc, inl, length-append, ne_eqb}
-use native.Mathlib.Omega.{arith}
+use Rattle.std.specs.Prelude.{◌≡◌, refl, Bool, false, List, [], ◌∷◌, ◌++◌, ℕ, suc, ◌+◌, ◌-◌, ◌*◌, ◌%◌, ◌≤◌, ◌<◌, length, get_or, take, drop}
+use Rattle.std.specs.Prelude.{replicate, eqb, Ok}
+use Rattle.std.proofs.Common.{sym, ap, ap₂, ◌∙◌, append_assoc, inl, length-append, ne_eqb, arith}
 use Rattle.std.proofs.lemmas.List.{replicate-append-replicate}
 use Rattle.head_limits.specs.declared.Purpose.TheVariants.{Grow}
 use Rattle.text.specs.declared.Manner.TheVariants.{Strict}
@@ -17,7 +17,6 @@ use Rattle.channel.specs.Channel.{channel_number}
 use Rattle.channel_line.specs.ChannelLine.{value_of_line}
 use Rattle.sheet_channel.specs.Meant.{KeepsSheet, sheet_keeps}
 use Rattle.head_words.specs.HeadWords.{room_of, count_of}
-use Rattle.refusal.specs.declared.Written.TheVariants.{To}
 use Rattle.layout.specs.Layout.{plain_ends, nul, line_feed, file_block, start_image, start_size, Trace, trace_size}
 use Rattle.layout.specs.Layout.{trace_bytes}
 use Rattle.start.specs.Start.{start_answer, start_left}
@@ -40,7 +39,7 @@ use Rattle.afresh.specs.Stands.{empty_trace}
 use Rattle.afresh.proofs.Kept.{file_with}
 use Rattle.afresh.specs.Step.{length_start, start_past}
 
-module _ (xs : List ℕ) (order slots : ℕ) (sheet : List ℕ) (e : ℕ) (to : start_answer xs order slots sheet ≡ To e) where
+module _ (xs : List ℕ) (order slots : ℕ) (sheet : List ℕ) (e : ℕ) (to : start_answer xs order slots sheet ≡ Ok e) where
   pub start_afresh : Holds (eqb order 1) slots sheet [] (start_left xs order slots sheet) e
   start_afresh =
       let l = (length_start xs order slots sheet e to) in
@@ -131,7 +130,7 @@ module _ (high : Bool) (slots : ℕ) (sheet : List ℕ) (ts : List Trace) (xs : 
   unfolding grown new_bytes
   grown_at = let z : n - n ≡ 0 = omega arith in rw (is.image, front.order, front.count, front.strings, front.lines, whole, z)
 
-  module _ (end : ℕ) (to : add_answer xs n x ≡ To end) where
+  module _ (end : ℕ) (to : add_answer xs n x ≡ Ok end) where
     shown : Added xs n x end
     shown = added xs n x end to
 

@@ -1,27 +1,20 @@
 -- Any sequence of calls: a start and additions one behind the other, refused ones in between included, leave the file
 -- of the traces that were accepted, in their order (document 01, "What we write": the file that a list defines).
 -- Assumes nothing.
-use Rattle.std.specs.Prelude.{◌≡◌, Bool, ℕ, ◌+◌, ◌-◌, ◌≤◌, length, take, drop, eqb}
-use Rattle.std.proofs.Math.Path.{refl}
-use Rattle.std.proofs.Common.{sym, ap, ◌∙◌, arith, drop-drop}
-use mathlib.Core.List.{List, [], ◌∷◌, ◌++◌, append-nil, append_assoc}
+use Rattle.std.specs.Prelude.{◌≡◌, Bool, ℕ, ◌≤◌, length, drop, Result, Ok, Err, List, [], ◌∷◌}
 use Rattle.refusal.specs.declared.Refusal.{Refusal}
-use Rattle.refusal.specs.declared.Written.{Written}
-use Rattle.refusal.specs.declared.Written.TheVariants.{To, Refused}
 use Rattle.layout.specs.Layout.{Trace}
 use Rattle.refusal.specs.Writing.{on_written}
-use Rattle.start.specs.Start.{start_answer, start_left}
 use Rattle.writer.specs.Answers.{add_answer, add_left}
-use Rattle.afresh.specs.FileOf.{file_of, file_size, Holds}
+use Rattle.afresh.specs.FileOf.{Holds}
 use Rattle.writer.specs.Shown.{add_refused}
-use Rattle.afresh.specs.Step.{start_past}
 
 -- ---- calls one behind the other, each given the bytes and the length that the calls before it left
 
 -- "The image's length is given beside the buffer and the new length is answered"; a refusal leaves it as it was
-abbrev pub length_left : Written → ℕ → ℕ
-length_left (To end) n = end
-length_left (Refused r) n = n
+abbrev pub length_left : Result ℕ Refusal → ℕ → ℕ
+length_left (Ok end) n = end
+length_left (Err r) n = n
 
 -- the buffer and the length after the calls
 unfoldable pub after : List ℕ → ℕ → List Trace → List ℕ × ℕ
@@ -29,7 +22,7 @@ after xs n [] = (xs, n)
 after xs n (x ∷ calls) = after (add_left xs n x) (length_left (add_answer xs n x) n) calls
 
 -- what they answer
-unfoldable pub answers_of : List ℕ → ℕ → List Trace → List Written
+unfoldable pub answers_of : List ℕ → ℕ → List Trace → List (Result ℕ Refusal)
 answers_of xs n [] = []
 answers_of xs n (x ∷ calls) = add_answer xs n x ∷ answers_of (add_left xs n x) (length_left (add_answer xs n x) n) calls
 
@@ -43,24 +36,24 @@ accepted_of xs n (x ∷ calls) =
 -- ---- one call
 
 module _ (xs : List ℕ) (n : ℕ) (x : Trace) (calls : List Trace) where
-  pub after_to : (end : ℕ) → add_answer xs n x ≡ To end → after xs n (x ∷ calls) ≡ after (add_left xs n x) end calls
+  pub after_to : (end : ℕ) → add_answer xs n x ≡ Ok end → after xs n (x ∷ calls) ≡ after (add_left xs n x) end calls
   unfolding after
   after_to end h = rw h
 
-  pub accepted_to : (end : ℕ) → add_answer xs n x ≡ To end → accepted_of xs n (x ∷ calls) ≡ x ∷ accepted_of (add_left xs n x) end calls
+  pub accepted_to : (end : ℕ) → add_answer xs n x ≡ Ok end → accepted_of xs n (x ∷ calls) ≡ x ∷ accepted_of (add_left xs n x) end calls
   unfolding accepted_of
   accepted_to end h = rw h
 
-  pub answers_to : (end : ℕ) → add_answer xs n x ≡ To end → answers_of xs n (x ∷ calls) ≡ To end ∷ answers_of (add_left xs n x) end calls
+  pub answers_to : (end : ℕ) → add_answer xs n x ≡ Ok end → answers_of xs n (x ∷ calls) ≡ Ok end ∷ answers_of (add_left xs n x) end calls
   unfolding answers_of
   answers_to end h = rw h
 
   -- "A refusal .. changes no caller's memory": as if the call had not been made
-  pub after_refused : (r : Refusal) → add_answer xs n x ≡ Refused r → after xs n (x ∷ calls) ≡ after xs n calls
+  pub after_refused : (r : Refusal) → add_answer xs n x ≡ Err r → after xs n (x ∷ calls) ≡ after xs n calls
   unfolding after
   after_refused r h = rw (add_refused xs n x r h, h)
 
-  pub accepted_refused : (r : Refusal) → add_answer xs n x ≡ Refused r → accepted_of xs n (x ∷ calls) ≡ accepted_of xs n calls
+  pub accepted_refused : (r : Refusal) → add_answer xs n x ≡ Err r → accepted_of xs n (x ∷ calls) ≡ accepted_of xs n calls
   unfolding accepted_of
   accepted_refused r h = rw (add_refused xs n x r h, h)
 

@@ -1,15 +1,14 @@
 -- How long the pieces of that file are, what one trace more adds to each, and what stands in its first 32 bytes.
 -- Assumes nothing.
-use Rattle.std.specs.Prelude.{◌≡◌, refl, Bool, true, false, List, [], ◌∷◌, ◌++◌, ℕ, zero, suc, ◌+◌, ◌-◌, ◌*◌, ◌%◌, ◌≤◌, ◌<◌, length, get_or, replicate}
+use Rattle.std.specs.Prelude.{◌≡◌, refl, Bool, true, false, List, [], ◌∷◌, ◌++◌, ℕ, zero, suc, ◌+◌, ◌-◌, ◌*◌, ◌%◌, ◌≤◌, ◌<◌, length, get_or}
+use Rattle.std.specs.Prelude.{replicate}
 use Rattle.std.proofs.Common.{sym, ap, ap₂, ◌∙◌, append-nil, append_assoc, subst, inl, inr, ⊎_elim, arith, length-append}
-use Rattle.std.proofs.lemmas.List.{length-replicate}
 use Rattle.word.specs.Word.{bytes_of}
 use Rattle.word.specs.WordLaws.{length_bytes_of}
 use Rattle.sheet.specs.Area.{area_of}
-use Rattle.sheet.specs.Sizes.{length_area}
-use Rattle.layout.specs.Layout.{slots_most, nul, line_feed, file_block, start_image, start_size, Trace, trace_size}
+use Rattle.layout.specs.Layout.{slots_most, nul, line_feed, start_image, start_size, Trace, trace_size}
 use Rattle.layout.specs.Layout.{trace_bytes}
-use Rattle.layout.specs.LayoutLaws.{length_file_block, Fronted, fronted, length_trace_bytes, area_whole, size_whole}
+use Rattle.layout.specs.LayoutLaws.{Fronted, fronted, length_trace_bytes, area_whole, size_whole}
 use Rattle.afresh.specs.FileOf.{sizes, pointers, blocks, file_of, file_size, has_channel, Good, EachGood, EachHas}
 use Rattle.afresh.specs.FileOf.{Together, AllGood}
 

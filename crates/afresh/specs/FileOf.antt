@@ -3,9 +3,8 @@
 -- start image's length plus B and D of all traces before k, then the blocks and data one behind the other, and nothing
 -- after the last D bytes". `high` is the byte order.
 -- Assumes nothing.
-use Rattle.std.specs.Prelude.{◌≡◌, Bool, true, false, List, [], ◌∷◌, ◌++◌, ◌⊎◌, ℕ, ◌+◌, ◌-◌, ◌*◌, ◌≤◌, length, take, replicate, None}
+use Rattle.std.specs.Prelude.{◌≡◌, Bool, true, false, List, [], ◌∷◌, ◌++◌, ◌⊎◌, ℕ, ◌+◌, ◌-◌, ◌*◌, ◌≤◌, length, take, replicate, Ok, None}
 use Rattle.word.specs.Word.{bytes_of}
-use Rattle.sheet.specs.declared.Measured.TheVariants.{Size}
 use Rattle.sheet.specs.Lines.{sheet_lines}
 use Rattle.sheet.specs.Area.{area_of, measured_of}
 use Rattle.channel.specs.Count.{Counts}
@@ -40,7 +39,7 @@ file_size slots sheet ts = start_size slots sheet + sizes ts
 
 -- a sheet that rows 25 to 27 let through in a file with these terminators
 abbrev pub Measures : List ℕ → Type 0
-Measures sheet = (b : ℕ) × (measured_of nul line_feed sheet ≡ Size b)
+Measures sheet = (b : ℕ) × (measured_of nul line_feed sheet ≡ Ok b)
 
 -- whether a trace's sheet has a channel number (document 02 §7)
 abbrev pub has_channel : Trace → Bool

@@ -1,26 +1,11 @@
 -- Where each trace of a list stands in the file that the list defines, and what is read there.
 -- Assumes nothing.
-use Rattle.std.specs.Prelude.{◌≡◌, Bool, get_or, take, drop, replicate}
-use Rattle.std.proofs.Common.{sym, ◌∙◌, length-drop, drop_at, length-take-le, take-suc}
-use Rattle.std.proofs.Math.Path.{ap}
-use mathlib.Core.List.{List, [], ◌∷◌, ◌++◌, append_assoc}
-use Prim.Native.Nat.{ℕ, suc, ◌+◌, ◌-◌, ◌*◌, ◌≤◌, ◌<◌}
-use native.Mathlib.Omega.{arith}
-use Rattle.std.proofs.Math.ListN.{length, length-append, length-replicate}
-use Rattle.std.proofs.Math.Seq.{take-append_seam, split_at}
-use Rattle.word.specs.Part.{part}
-use Rattle.word.specs.Word.{word_at, bytes_of}
-use Rattle.word.specs.WordLaws.{word_among}
+use Rattle.std.specs.Prelude.{◌≡◌, Bool, get_or, take, replicate, List, [], ◌∷◌, ◌++◌, ℕ, suc, ◌+◌, ◌-◌, ◌*◌, length}
 use Rattle.sheet.specs.Area.{area_of}
-use Rattle.sheet.specs.Sizes.{length_area}
 use Rattle.block.specs.Block.{pointer_of}
-use Rattle.layout.specs.Layout.{nul, line_feed, file_block, start_size, Trace, Samples.integers, data_bytes, trace_size}
-use Rattle.layout.specs.Layout.{trace_bytes}
-use Rattle.afresh.specs.FileOf.{sizes, pointers, blocks, file_of, file_size, Good, EachGood}
-use Rattle.layout.specs.LayoutLaws.{length_file_block, length_trace_bytes, Stands, stands}
-use Rattle.afresh.specs.FileLaws.{length_pointers, length_blocks, pointers_append, blocks_append}
-use Rattle.afresh.specs.FileLaws.{behind}
-use Rattle.head.specs.Head.{maximum}
+use Rattle.layout.specs.Layout.{nul, line_feed, file_block, start_size, Trace, Samples.integers, trace_size}
+use Rattle.afresh.specs.FileOf.{pointers, blocks, file_of, file_size, Good, EachGood}
+use Rattle.layout.specs.LayoutLaws.{Stands}
 
 -- ---- a trace of the list, with what comes before it and behind it
 module _ (high : Bool) (slots : ℕ) (sheet : List ℕ) (before : List Trace) (x : Trace) (behind-it : List Trace) where

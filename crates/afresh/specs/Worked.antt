@@ -2,7 +2,7 @@
 -- samples 1, -1, 256 and sheet STACK 1: pointer 56, B 44, D 8, length 108", byte for byte. So the file that a list
 -- defines is the one that the document shows, and there are good traces.
 -- Assumes nothing.
-use Rattle.std.specs.Prelude.{◌≡◌, refl, true, false, List, [], ◌∷◌, ◌++◌, ℕ, ◌≤◌, pos, negsuc, length, replicate}
+use Rattle.std.specs.Prelude.{◌≡◌, refl, true, false, List, [], ◌∷◌, ◌++◌, ℕ, pos, negsuc, replicate}
 use Rattle.std.proofs.Common.{sym, ◌∙◌, inr, arith}
 use Rattle.word.specs.Tests.{never}
 use Rattle.word.specs.Word.{low_bytes, bytes_of}
@@ -19,7 +19,6 @@ use Rattle.channel_line.specs.ChannelLine.{has_line}
 use Rattle.layout.specs.Layout.{nul, line_feed, file_block, start_size, Trace, Samples.integers, count, fitting, unfit}
 use Rattle.layout.specs.Layout.{samples_data, trace_block, block_bytes, data_bytes, trace_bytes}
 use Rattle.afresh.specs.FileOf.{sizes, pointers, blocks, file_of, file_size, Measures, has_channel, AllGood}
-use Rattle.afresh.specs.Afresh.{Writable}
 
 -- UNITS, tab, METERS, 0Ah
 abbrev pub units : List ℕ

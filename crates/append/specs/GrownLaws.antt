@@ -1,27 +1,26 @@
 -- What the code relies on while a buffer grows, and that its stores, one behind the other, are the grown buffer.
 -- Assumes nothing.
-use Rattle.std.specs.Prelude.{◌≡◌, refl, Bool, true, drop}
+use Rattle.std.specs.Prelude.{◌≡◌, refl, Bool, true, drop, Ok}
 use Rattle.std.proofs.Common.{sym, ◌∙◌, length-drop, length-take-le, get_or-take, drop-cons}
 use Rattle.std.proofs.Math.Path.{ap}
-use mathlib.Core.List.{List, [], ◌∷◌, ◌++◌, append_assoc}
+use mathlib.Core.List.{List, [], ◌∷◌, ◌++◌}
 use Prim.Native.Nat.{ℕ, zero, suc, ◌+◌, ◌-◌, ◌*◌, ◌≤◌, ◌<◌}
 use native.Mathlib.Omega.{arith}
 use Rattle.std.proofs.Math.ListN.{length, get_or, take, replicate, length-append, length-replicate}
-use Rattle.word.specs.Put.{put, put_append, length_put, take_put_before, lent_back}
+use Rattle.word.specs.Put.{put, put_append, length_put, lent_back}
 use Rattle.word.specs.Round.{round4}
 use Rattle.word.specs.Word.{bytes_of}
 use Rattle.sample.specs.Needed.{room}
-use Rattle.sheet.specs.declared.Measured.TheVariants.{Size}
 use Rattle.sheet.specs.Area.{area_size, measured_of}
 use Rattle.head_words.specs.HeadWords.{high_first, count_of, file_block_of}
 use Rattle.head.specs.Head.{maximum}
 use Rattle.terminators.specs.Terminators.{terminator_at, string_end, line_end, good_terminator}
 use Rattle.terminators.specs.TerminatorLaws.{good_most}
 use Rattle.head_words.specs.declared.FileBlock.{FileBlock}
-use Rattle.layout.specs.Layout.{Trace, Samples, count, fitting, samples_data, trace_bytes}
+use Rattle.layout.specs.Layout.{Trace, Samples, count, fitting, trace_bytes}
 use Rattle.layout.specs.LayoutLaws.{Kinded, room_enough, length_trace_bytes}
-use Rattle.layout.specs.Stores.{head_bytes, length_head_bytes, head_samples}
-use Rattle.append.specs.Grown.{new_length, new_bytes, grown}
+use Rattle.layout.specs.Stores.{head_bytes}
+use Rattle.append.specs.Grown.{new_length, new_bytes}
 
 -- "it is where the new trace's D bytes end"
 pub length_new_bytes : (f : List ℕ) (n : ℕ) (x : Trace) → fitting x.code x.samples ≡ true → n + length (new_bytes f n x) ≡ new_length f n x
@@ -58,7 +57,7 @@ pub record Begins (xs : List ℕ) (n : ℕ) (sheet : List ℕ) (end code s : ℕ
   pub slotted : Slotted xs n
   pub strings : good_terminator (take n xs) 8 ≡ true
   pub lines : good_terminator (take n xs) 11 ≡ true
-  pub sized : measured_of (string_end (take n xs)) (line_end (take n xs)) sheet ≡ Size (area_size (string_end (take n xs)) (line_end (take n xs)) sheet)
+  pub sized : measured_of (string_end (take n xs)) (line_end (take n xs)) sheet ≡ Ok (area_size (string_end (take n xs)) (line_end (take n xs)) sheet)
   pub kind : Kinded code s
   pub new : round4 n + (32 + area_size (string_end (take n xs)) (line_end (take n xs)) sheet + room code s) ≡ end
   pub in_buffer : end ≤ length xs
@@ -144,7 +143,7 @@ module _ {xs : List ℕ} {n : ℕ} {sheet : List ℕ} {end code s : ℕ} (g : Be
   -- the block and the strings have room, and B is what lies between the trace's place and its data's
   pub head_room : {at d : ℕ} {t u ys : List ℕ} (zs : List ℕ) → at ≡ round4 n → d ≡ room code s → t ≡ string_end (take n xs) → u ≡ line_end (take n xs)
       → ys ≡ put xs n zs → (32 + (end - d - at - 32) ≤ length (take (length ys - at) (drop at ys)))
-      × (measured_of t u sheet ≡ Size (end - d - at - 32)) × (room code s < 4294967296)
+      × (measured_of t u sheet ≡ Ok (end - d - at - 32)) × (room code s < 4294967296)
   head_room {at} {d} {t} {u} {ys} zs ea ed et eu ey =
       let z : end - d - at - 32 ≡ area_size (string_end (take n xs)) (line_end (take n xs)) sheet = omega (arith, g.new) in
       let l : length ys ≡ length xs = rw ey (length_put xs n zs) in

@@ -35,14 +35,12 @@ fn begin(buffer: &mut [u8], n: usize, sheet: &[u8], end: usize, code: u32, count
     let data = end - sample::room(c, s);
     let t = [buffer[9], buffer[10]];
     let u = [buffer[12], buffer[13]];
-    let t_len = b.strings;
-    let u_len = b.lines;
     store_bytes::zeros(buffer, n, at); // the gap
     layout::put_head(
         &mut buffer[at..],
         b.high,
-        &t[..t_len],
-        &u[..u_len],
+        &t[..b.strings],
+        &u[..b.lines],
         sheet,
         data - at - 32,
         c,

@@ -1,18 +1,16 @@
 -- The written area spells exactly the strings that the sheet means, in `strings`' sense, for every order and
 -- terminators that a file can have; its size; and every list of good lines whose area is not too large is let through.
 -- Assumes nothing.
-use Rattle.std.specs.Prelude.{◌≡◌, refl, Bool, true, false, ◌||◌, List, [], ◌∷◌, ℕ, ◌%◌, ◌≤◌, ◌<◌, length, leb, ltb, eqb}
+use Rattle.std.specs.Prelude.{◌≡◌, refl, Bool, true, false, ◌||◌, List, [], ◌∷◌, ℕ, ◌%◌, ◌≤◌, ◌<◌, length, leb, ltb, eqb, Ok, Err}
 use Rattle.std.proofs.Common.{arith, leb-true, ne_eqb, le-ltb, ltb-false}
 use Rattle.word.specs.Tests.{both}
 use Rattle.word.specs.Round.{round4}
-use Rattle.refusal.specs.Verdicts.{asked}
+use Rattle.refusal.specs.Verdicts.{asked, accepted}
 use Rattle.refusal.specs.Rows.{pick}
 use Rattle.refusal.specs.Table.{refusal}
 use Rattle.refusal.specs.declared.Rule.TheVariants.{AreaSize}
 use Rattle.refusal.specs.declared.Part.{Part}
 use Rattle.refusal.specs.declared.Part.TheVariants.{File}
-use Rattle.refusal.specs.declared.Verdict.{Verdict}
-use Rattle.refusal.specs.declared.Verdict.TheVariants.{Accepted, Refused}
 use Rattle.text.specs.declared.Manner.TheVariants.{Strict}
 use Rattle.chars.specs.Chars.{blank, value_char, control, note, blank_value}
 use Rattle.chars.specs.Runs.{all, same, same_eq, same_not, Stops, all_weaker}
@@ -20,14 +18,13 @@ use Rattle.note.specs.Note.{with_ends, Each, Characters, LineEnd, control_ends, 
 use Rattle.strings.specs.Strings as Strings
 use Rattle.strings.proofs.Paper.{spelled_accepted}
 use Rattle.strings.specs.Spelled.{GoodString, Rising, size_of, Ends.mark, Spells, Spells.full}
-use Rattle.sheet.specs.declared.Measured as measured
-use Rattle.sheet.specs.declared.Measured.TheVariants.{Size}
 use Rattle.sheet_line.specs.SheetLine.{plain, spaced, continues}
 use Rattle.sheet.specs.Lines.{Line, lines_verdict, sheet_lines}
 use Rattle.sheet.specs.Area.{area_most, str_of, values, note_of, joined, sheet_strings, text_size, padding, area_of, area_size}
 use Rattle.sheet.specs.Area.{sized, measured_of}
 use Rattle.sheet.specs.Sizes.{length_area, text_size_low}
 use Rattle.sheet.specs.Paper.{sheet_of, GoodLine, GoodLines, good_accepted, lines_read, accepted_lines}
+use Rattle.refusal.specs.Verdicts.{Verdict}
 
 -- ---- terminators (document 01, "The file block", house rule)
 
@@ -146,11 +143,11 @@ lines_rise t u prev (l ∷ ls) e n g h = go (same l.key note) refl h (lines_rise
 
 -- ---- what an answer of a size has shown
 
-pub measured_size : (t u s : List ℕ) (n : ℕ) → measured_of t u s ≡ Size n → (lines_verdict s ≡ Accepted) × (area_size t u s ≡ n) × (n ≤ area_most)
+pub measured_size : (t u s : List ℕ) (n : ℕ) → measured_of t u s ≡ Ok n → (lines_verdict s ≡ accepted) × (area_size t u s ≡ n) × (n ≤ area_most)
 unfolding measured_of
 measured_size t u s n e = go (lines_verdict s) refl e
   where
-    sizes : (w : Bool) → ltb area_most (area_size t u s) ≡ w → pick w (measured.TheVariants.Refused (refusal AreaSize File 0)) (Size (area_size t u s)) ≡ Size n
+    sizes : (w : Bool) → ltb area_most (area_size t u s) ≡ w → pick w (Err (refusal AreaSize File 0)) (Ok (area_size t u s)) ≡ Ok n
         → (area_size t u s ≡ n) × (n ≤ area_most)
     sizes true q k = let z : ◌≡◌ {A = ℕ} 0 1 = cc in absurd (omega arith)
     sizes false q k =
@@ -158,15 +155,15 @@ measured_size t u s n e = go (lines_verdict s) refl e
         let l = ltb-false area_most (area_size t u s) q in
         (a, omega arith)
 
-    go : (v : Verdict) → lines_verdict s ≡ v → asked measured.TheVariants.Refused v (sized (area_size t u s)) ≡ Size n → (lines_verdict s ≡ Accepted)
+    go : (v : Verdict) → lines_verdict s ≡ v → asked Err v (sized (area_size t u s)) ≡ Ok n → (lines_verdict s ≡ accepted)
         × (area_size t u s ≡ n) × (n ≤ area_most)
-    go Accepted q k = let b = sizes (ltb area_most (area_size t u s)) refl k in (q, b.0, b.1)
-    go (Refused r) q k = let z : ◌≡◌ {A = ℕ} 0 1 = cc in absurd (omega arith)
+    go (Ok _) q k = let b = sizes (ltb area_most (area_size t u s)) refl k in (q, b.0, b.1)
+    go (Err r) q k = let z : ◌≡◌ {A = ℕ} 0 1 = cc in absurd (omega arith)
 
 -- ---- the theorems
 
 -- an area is a multiple of 4, at least 4 and at most 65,500 bytes long
-pub area_bounds : (high : Bool) (t u s : List ℕ) (n : ℕ) → measured_of t u s ≡ Size n
+pub area_bounds : (high : Bool) (t u s : List ℕ) (n : ℕ) → measured_of t u s ≡ Ok n
     → (length (area_of high t u s) ≡ n) × (n % 4 ≡ 0) × (4 ≤ n) × (n ≤ area_most)
 unfolding area_size
 area_bounds high t u s n e =
@@ -176,7 +173,7 @@ area_bounds high t u s n e =
     let low = text_size_low t (sheet_strings u s) in
     (omega arith, omega arith, omega arith, b.2)
 
-pub area_spells : (high : Bool) (t u s : List ℕ) (n : ℕ) → LineEnd u → measured_of t u s ≡ Size n → Spells Strict high t u (sheet_strings u s) (area_of high t u s)
+pub area_spells : (high : Bool) (t u s : List ℕ) (n : ℕ) → LineEnd u → measured_of t u s ≡ Ok n → Spells Strict high t u (sheet_strings u s) (area_of high t u s)
 unfolding area_of area_size sheet_strings same
 area_spells high t u s n e m =
     let b = measured_size t u s n m in
@@ -186,15 +183,15 @@ area_spells high t u s n e m =
     full (mark (padding (text_size t (joined u (sheet_lines s))))) (lines_rise t u [] (sheet_lines s) e refl g (omega arith))
 
 -- so in a file with these terminators `strings`' check accepts the area, wherever it stands
-pub area_accepted : (high : Bool) (t u s : List ℕ) (n : ℕ) (p : Part) (at : ℕ) → Terminators t u → measured_of t u s ≡ Size n
-    → Strings.strings_of Strict high t u p (area_of high t u s) at ≡ Accepted
+pub area_accepted : (high : Bool) (t u s : List ℕ) (n : ℕ) (p : Part) (at : ℕ) → Terminators t u → measured_of t u s ≡ Ok n
+    → Strings.strings_of Strict high t u p (area_of high t u s) at ≡ accepted
 area_accepted high t u s n p at e m =
     let ends = terminators_end t u e in
     spelled_accepted Strict p at ends (area_spells high t u s n ends m)
 
 -- every list of good lines whose area is not too large is let through, and means the strings of those lines
 pub good_measured : (t u : List ℕ) (ls : List Line) → GoodLines [] ls → round4 (text_size t (joined u ls)) ≤ area_most
-    → (measured_of t u (sheet_of ls) ≡ Size (round4 (text_size t (joined u ls)))) × (sheet_strings u (sheet_of ls) ≡ joined u ls)
+    → (measured_of t u (sheet_of ls) ≡ Ok (round4 (text_size t (joined u ls)))) × (sheet_strings u (sheet_of ls) ≡ joined u ls)
 unfolding measured_of area_size sheet_strings
 good_measured t u ls g h =
     let l : sheet_lines (sheet_of ls) ≡ ls = lines_read [] ls g in

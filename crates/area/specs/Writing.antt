@@ -1,13 +1,12 @@
 -- The bytes of an area as they are stored: the strings, then the end mark and the zeros.
 -- Assumes nothing.
-use Rattle.std.specs.Prelude.{◌≡◌, refl, Bool, List, [], ◌∷◌, ◌++◌, ℕ, ◌+◌, ◌-◌, ◌≤◌, length, replicate}
+use Rattle.std.specs.Prelude.{◌≡◌, refl, Bool, List, [], ◌∷◌, ◌++◌, ℕ, ◌+◌, ◌-◌, ◌≤◌, length, replicate, Ok}
 use Rattle.std.proofs.Common.{sym, ◌∙◌, append_assoc, arith}
 use Rattle.word.specs.Put.{put}
 use Rattle.word.specs.Round.{round4}
 use Rattle.word.specs.Word.{bytes_of}
 use Rattle.word.specs.WordLaws.{length_bytes_of}
 use Rattle.strings.specs.Spelled.{Str, texts, written}
-use Rattle.sheet.specs.declared.Measured.TheVariants.{Size}
 use Rattle.sheet.specs.Area.{sheet_strings, text_size, padding, area_of, area_size, measured_of}
 use Rattle.area.specs.Spelling.{measured_size}
 use Rattle.sheet_string.specs.StringBytes.{string_bytes, put_then}
@@ -19,7 +18,7 @@ written_texts high t [] rest = refl
 written_texts high t (s ∷ ss) rest = rw (written_texts high t ss rest) (sym (simp append_assoc))
 
 -- `measure` let the sheet through, and there is room: it may be written
-pub writable : (t u s : List ℕ) (n room : ℕ) → measured_of t u s ≡ Size n → n ≤ room → Writable t u s room
+pub writable : (t u s : List ℕ) (n room : ℕ) → measured_of t u s ≡ Ok n → n ≤ room → Writable t u s room
 writable t u s n room e h =
     let b = measured_size t u s n e in
     let a : area_size t u s ≡ n = b.1 in

@@ -10,7 +10,7 @@ ghost use Rattle.reader.specs.Questions.{classes_in, kept};
 ghost use Rattle.reader.specs.Leaves.{Fits};
 
 use block::TraceBlock;
-use refusal::{Rule, Verdict};
+use refusal::{Refusal, Rule};
 
 // Codes 4 and 5.
 fn is_bits(code: u8) -> bool
@@ -24,7 +24,7 @@ fn is_bits(code: u8) -> bool
 }
 
 // The patterns of the trace whose block is t, and their classes.
-pub fn bits(f: &[u8], t: TraceBlock, row: &mut [u64], classes: &mut [u8]) -> Verdict
+pub fn bits(f: &[u8], t: TraceBlock, row: &mut [u64], classes: &mut [u8]) -> Result<(), Refusal>
     requires { (2 ≤ length f.now) × Fits (length f.now) t }
     ensures answer { result ≡ bits_verdict t (length row.old) (length classes.old) }
     ensures row { row.new ≡ kept (bits_verdict t (length row.old)
@@ -55,5 +55,5 @@ pub fn bits(f: &[u8], t: TraceBlock, row: &mut [u64], classes: &mut [u8]) -> Ver
         row,
         classes,
     );
-    Verdict::Accepted
+    Ok(())
 }

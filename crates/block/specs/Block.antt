@@ -1,20 +1,18 @@
 -- The trace block (document 01, "The trace block" and rows 8 to 13). f is the image; b is a block's first 32 bytes, and
 -- all that is said of the block stands there.
 -- Assumes nothing.
-use Rattle.std.specs.Prelude.{Bool, not, List, [], ◌∷◌, ℕ, ◌+◌, ◌*◌, get_or, eqb}
+use Rattle.std.specs.Prelude.{Bool, not, List, [], ◌∷◌, ℕ, ◌+◌, ◌*◌, get_or, eqb, Result, Ok, Err}
 use Rattle.word.specs.Word.{word_at}
 use Rattle.refusal.specs.declared.Rule.{Rule}
 use Rattle.refusal.specs.declared.Rule.TheVariants.{Pointer, TraceMark, BlockSize, DataSize, FormatCode, SampleCount}
 use Rattle.refusal.specs.declared.Part.TheVariants.{Trace}
-use Rattle.refusal.specs.declared.Verdict.{Verdict}
-use Rattle.refusal.specs.declared.Verdict.TheVariants.{Accepted, Refused}
 use Rattle.refusal.specs.Table.{refusal}
 use Rattle.refusal.specs.Rows.{Rows, first, pick}
 use Rattle.limits.specs.Limits.{bad_pointer, bad_block, bad_data, bad_code, bad_samples}
-use Rattle.refusal.specs.Verdicts.{asked}
+use Rattle.refusal.specs.Verdicts.{asked, accepted}
 use Rattle.block.specs.declared.TraceBlock.{TraceBlock}
-use Rattle.block.specs.declared.TraceAnswer.{TraceAnswer}
-use Rattle.block.specs.declared.TraceAnswer.TheVariants as trace
+use Rattle.refusal.specs.declared.Refusal.{Refusal}
+use Rattle.refusal.specs.Verdicts.{Verdict}
 
 -- ---- what stands in a trace block, in the file's order
 
@@ -52,11 +50,11 @@ end_at high f p = data_at high f p + data_size_of high f p
 -- ---- rows 8 to 13 of the trace k, which follows what ends at prev; end is the image's length
 
 abbrev pub wrong : Rule → ℕ → ℕ → Verdict
-wrong r k at = Refused (refusal r (Trace k) at)
+wrong r k at = Err (refusal r (Trace k) at)
 
 -- its pointer is p
 unfoldable pub pointer_row : ℕ → ℕ → ℕ → ℕ → Verdict
-pointer_row end k prev p = pick (bad_pointer end prev p) (wrong Pointer k (32 + 4 * k)) Accepted
+pointer_row end k prev p = pick (bad_pointer end prev p) (wrong Pointer k (32 + 4 * k)) accepted
 
 -- its block begins at p with the 32 bytes b
 abbrev pub block_rows : Bool → List ℕ → ℕ → ℕ → ℕ → Rows Verdict
@@ -69,7 +67,7 @@ block_rows high b end k p =
     ∷ []
 
 unfoldable pub block_of : Bool → List ℕ → ℕ → ℕ → ℕ → Verdict
-block_of high b end k p = first (block_rows high b end k p) Accepted
+block_of high b end k p = first (block_rows high b end k p) accepted
 
 -- ---- the block as an answer
 
@@ -77,12 +75,9 @@ block_of high b end k p = first (block_rows high b end k p) Accepted
 unfoldable pub block_in : Bool → List ℕ → ℕ → TraceBlock
 block_in high b p = record { p = p; b = block_size_of high b 0; d = data_size_of high b 0; s = sample_count_of high b 0; code = format_code_of b 0 }
 
-abbrev pub bad_trace : Rule → ℕ → ℕ → TraceAnswer
-bad_trace r k at = trace.Refused (refusal r (Trace k) at)
-
 -- the check hands on what it read
-unfoldable pub block_answer : Bool → List ℕ → ℕ → ℕ → ℕ → TraceAnswer
-block_answer high b end k p = asked trace.Refused (block_of high b end k p) (trace.Is (block_in high b p))
+unfoldable pub block_answer : Bool → List ℕ → ℕ → ℕ → ℕ → Result TraceBlock Refusal
+block_answer high b end k p = asked Err (block_of high b end k p) (Ok (block_in high b p))
 
 -- of the trace k of an image
 unfoldable pub trace_block_of : Bool → List ℕ → ℕ → TraceBlock

@@ -1,16 +1,15 @@
 -- The laws of the trace block: what rows 8 to 13 have shown, and what passes them.
 -- Assumes nothing.
-use Rattle.std.specs.Prelude.{◌≡◌, refl, Bool, true, false, not, ◌&&◌, ◌||◌, List, ℕ, ◌+◌, ◌-◌, ◌*◌, ◌%◌, ◌≤◌, length, ltb, eqb}
+use Rattle.std.specs.Prelude.{◌≡◌, refl, Bool, true, false, not, ◌&&◌, ◌||◌, List, ℕ, ◌+◌, ◌*◌, ◌%◌, ◌≤◌, length, ltb, eqb}
 use Rattle.std.proofs.Common.{ap, le-ltb, eq-eqb, ltb-false, eqb-true}
-use native.Mathlib.Omega.{arith}
+use Rattle.std.proofs.Common.{arith}
 use Rattle.std.proofs.lemmas.Bool.{not-false}
-use Rattle.refusal.specs.Verdicts.{is_accepted, refused_not}
+use Rattle.refusal.specs.Verdicts.{is_accepted, refused_not, accepted}
 use Rattle.word.specs.Tests.{neither, join_neither, not_both}
 use Rattle.word.specs.Part.{part, get_d_part}
 use Rattle.word.specs.WordLaws.{word_part}
 use Rattle.refusal.specs.Rows.{pick, clear, through}
 use Rattle.refusal.specs.declared.Rule.TheVariants.{Pointer}
-use Rattle.refusal.specs.declared.Verdict.TheVariants.{Accepted}
 use Rattle.sample.specs.Needed.{needed}
 use Rattle.block.specs.declared.TraceBlock.{TraceBlock}
 use Rattle.block.specs.Block.{trace_mark, pointer_of, mark_at, block_size_of, data_size_of, sample_count_of, format_code_of, data_at}
@@ -23,18 +22,18 @@ pub record Pointed (end prev p : ℕ) : Type 0 where
   pub behind : prev ≤ p
   pub fits : p + 32 ≤ end
 
-pub pointed : (end k prev p : ℕ) → pointer_row end k prev p ≡ Accepted → Pointed end prev p
+pub pointed : (end k prev p : ℕ) → pointer_row end k prev p ≡ accepted → Pointed end prev p
 unfolding pointer_row
 pointed end k prev p e = go (bad_pointer end prev p) refl e
   where
-    go : (w : Bool) → bad_pointer end prev p ≡ w → pick w (wrong Pointer k (32 + 4 * k)) Accepted ≡ Accepted → Pointed end prev p
+    go : (w : Bool) → bad_pointer end prev p ≡ w → pick w (wrong Pointer k (32 + 4 * k)) accepted ≡ accepted → Pointed end prev p
     go true q h = absurd (refused_not _ h)
     go false q h =
         let a = neither (not (eqb (p % 4) 0)) (ltb p prev || ltb end (p + 32)) q in
         let b = neither (ltb p prev) (ltb end (p + 32)) a.1 in
         record { whole = eqb-true _ _ (not-false _ a.0); behind = ltb-false _ _ b.0; fits = ltb-false end (p + 32) b.1 }
 
-pub pointer_accepts : (end k prev p : ℕ) → Pointed end prev p → pointer_row end k prev p ≡ Accepted
+pub pointer_accepts : (end k prev p : ℕ) → Pointed end prev p → pointer_row end k prev p ≡ accepted
 unfolding pointer_row
 pointer_accepts end k prev p h =
     rw (join_neither (not (eqb (p % 4) 0)) (ltb p prev || ltb end (p + 32)) (ap not (eq-eqb _ _ h.whole))
@@ -84,11 +83,11 @@ pub record Blocked (high : Bool) (f : List ℕ) (p : ℕ) : Type 0 where
   pub groups : format_code_of f p ≡ 3 → sample_count_of high f p % 4 ≡ 0
   pub samples : needed (format_code_of f p) (sample_count_of high f p) ≤ data_size_of high f p
 
-pub blocked : (high : Bool) (f : List ℕ) (k p : ℕ) → block_of high (head_at f p) (length f) k p ≡ Accepted → Blocked high f p
+pub blocked : (high : Bool) (f : List ℕ) (k p : ℕ) → block_of high (head_at f p) (length f) k p ≡ accepted → Blocked high f p
 unfolding block_of
 blocked high f k p e =
     let c = rw (own_mark high f p, own_size high f p, own_data high f p, own_samples high f p, own_code high f p)
-    at (clear is_accepted Accepted refl (block_rows high (head_at f p) (length f) k p) Accepted refl e).0 in
+    at (clear is_accepted accepted refl (block_rows high (head_at f p) (length f) k p) accepted refl e).0 in
     let b = neither (ltb (block_size_of high f p) 32) (not (eqb (block_size_of high f p % 4) 0) || ltb (length f) (p + block_size_of high f p)) c.1.0 in
     let g = neither (not (eqb (block_size_of high f p % 4) 0)) (ltb (length f) (p + block_size_of high f p)) b.1 in
     let d = neither (not (eqb (data_size_of high f p % 4) 0)) (ltb (length f) (data_at high f p + data_size_of high f p)) c.1.1.0 in
@@ -107,11 +106,11 @@ blocked high f k p e =
       samples = ltb-false _ _ s.1;
     }
 
-pub block_accepts : (high : Bool) (f : List ℕ) (k p : ℕ) → Blocked high f p → block_of high (head_at f p) (length f) k p ≡ Accepted
+pub block_accepts : (high : Bool) (f : List ℕ) (k p : ℕ) → Blocked high f p → block_of high (head_at f p) (length f) k p ≡ accepted
 unfolding block_of
 block_accepts high f k p h =
     let groups : (eqb (format_code_of f p) 3 && not (eqb (sample_count_of high f p % 4) 0)) ≡ false = go (eqb (format_code_of f p) 3) refl in
-    through (block_rows high (head_at f p) (length f) k p) Accepted
+    through (block_rows high (head_at f p) (length f) k p) accepted
     (rw (own_mark high f p, own_size high f p, own_data high f p, own_samples high f p, own_code high f p) (
       ap not (eq-eqb _ _ h.mark),
       (

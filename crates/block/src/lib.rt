@@ -5,9 +5,10 @@
 #![tactic(auto)]
 
 ghost use Rattle.std.specs.Prelude.{◌≡◌, ◌+◌, ◌*◌, ◌≤◌, ◌<◌, length};
-ghost use Rattle.block.specs.Block.{bad_trace, pointer_of, pointer_row, block_in, block_answer, trace_block_of};
+ghost use Rattle.refusal.specs.Table.{refusal};
+ghost use Rattle.block.specs.Block.{pointer_of, pointer_row, block_in, block_answer, trace_block_of};
 
-use refusal::{Part, Refusal, Rule, Verdict};
+use refusal::{Part, Refusal, Rule};
 
 // Where the block stands, its size B, the data's size D, the sample count S and the format code. The strings stand from
 // p+32 to p+B, the data from p+B on.
@@ -20,13 +21,19 @@ pub struct TraceBlock {
     pub code: u8,
 }
 
-#[derive(Clone, Copy)]
-pub enum TraceAnswer {
-    Is(TraceBlock),
-    Refused(Refusal),
+// A refusal whose part is the trace k.
+fn of_trace(rule: Rule, k: u16, place: usize) -> Refusal
+    ensures { result ≡ refusal rule (Part.Trace k) place }
+{
+    Refusal {
+        rule,
+        part: Part::Trace(k),
+        place,
+    }
 }
 
 // The pointer to the trace k.
+#[tactic(auto, unfolding(crate::specs::Block::pointer_of))]
 pub fn pointer(f: &[u8], high: bool, k: u16) -> usize
     requires { 36 + 4 * k ≤ length f.now }
     ensures { (result ≡ pointer_of high f.now k) × (result < 4294967296) }
@@ -35,18 +42,15 @@ pub fn pointer(f: &[u8], high: bool, k: u16) -> usize
 }
 
 // Row 8 of the trace k, whose pointer is p, behind what ends at prev, in an image that ends at `end`.
-pub fn pointer_row(end: usize, k: u16, prev: usize, p: usize) -> Verdict
+#[tactic(auto, unfolding(crate::specs::Block::pointer_row))]
+pub fn pointer_row(end: usize, k: u16, prev: usize, p: usize) -> Result<(), Refusal>
     requires { p < 4294967296 }
     ensures { result ≡ pointer_row end k prev p }
 {
     if limits::is_bad_pointer(end, prev, p) {
-        return Verdict::Refused(Refusal {
-            rule: Rule::Pointer,
-            part: Part::Trace(k),
-            place: 32 + 4 * (k as usize),
-        });
+        return Err(of_trace(Rule::Pointer, k, 32 + 4 * (k as usize)));
     }
-    Verdict::Accepted
+    Ok(())
 }
 
 // The block whose first 32 bytes are b, at p.
@@ -55,53 +59,38 @@ pub fn block_in(b: &[u8], high: bool, p: usize) -> TraceBlock
     ensures { (result ≡ block_in high b.now p) × (result.b < 65536) × (result.d < 4294967296)
         × (result.s < 4294967296) }
 {
-    let size = word::word2(b, high, 2);
-    let d = word::word4(b, high, 4);
-    let s = word::word4(b, high, 8);
-    let code = b[12];
     TraceBlock {
         p,
-        b: size,
-        d,
-        s,
-        code,
+        b: word::word2(b, high, 2),
+        d: word::word4(b, high, 4),
+        s: word::word4(b, high, 8),
+        code: b[12],
     }
-}
-
-fn bad_trace(rule: Rule, k: u16, place: usize) -> TraceAnswer
-    ensures { result ≡ bad_trace rule k place }
-{
-    TraceAnswer::Refused(Refusal {
-        rule,
-        part: Part::Trace(k),
-        place,
-    })
 }
 
 // Rows 9 to 13 of the trace k, whose block begins with the 32 bytes b at p, in an image that ends at `end`; and the
 // block. 4422h is 17442.
-pub fn block_rows(b: &[u8], high: bool, end: usize, k: u16, p: usize) -> TraceAnswer
+pub fn block_rows(b: &[u8], high: bool, end: usize, k: u16, p: usize) -> Result<TraceBlock, Refusal>
     requires { (p < 4294967296) × (32 ≤ length b.now) }
     ensures { result ≡ block_answer high b.now end k p }
 {
-    let mark = word::word2(b, high, 0);
-    let x = block_in(b, high, p);
-    if mark != 17442 {
-        return bad_trace(Rule::TraceMark, k, p);
+    if word::word2(b, high, 0) != 17442 {
+        return Err(of_trace(Rule::TraceMark, k, p));
     }
+    let x = block_in(b, high, p);
     if limits::is_bad_block(end, p, x.b) {
-        return bad_trace(Rule::BlockSize, k, p + 2);
+        return Err(of_trace(Rule::BlockSize, k, p + 2));
     }
     if limits::is_bad_data(end, p + x.b, x.d) {
-        return bad_trace(Rule::DataSize, k, p + 4);
+        return Err(of_trace(Rule::DataSize, k, p + 4));
     }
     if limits::is_bad_code(x.code) {
-        return bad_trace(Rule::FormatCode, k, p + 12);
+        return Err(of_trace(Rule::FormatCode, k, p + 12));
     }
     if limits::is_bad_samples(x.code, x.s as u32, x.d) {
-        return bad_trace(Rule::SampleCount, k, p + 8);
+        return Err(of_trace(Rule::SampleCount, k, p + 8));
     }
-    TraceAnswer::Is(x)
+    Ok(x)
 }
 
 // The block of a trace of which rows 8 to 13 are known to be kept.
@@ -110,6 +99,5 @@ pub fn trace_block(f: &[u8], high: bool, k: u16) -> TraceBlock
     ensures { result ≡ trace_block_of high f.now k }
 {
     let p = pointer(f, high, k);
-    let e = p + 32;
-    block_in(&f[p..e], high, p)
+    block_in(&f[p..p + 32], high, p)
 }

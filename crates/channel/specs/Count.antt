@@ -1,7 +1,7 @@
 -- Counts in values: "a number by document 01, 1 to 32,767, without point or E" (document 02, §7 of CHANNEL_NUMBER, §6 of
 -- STACK). `count_in` is how the code finds it, `Counts` the rule in the document's words; they are proved to be the same.
 -- Assumes nothing.
-use Rattle.std.specs.Prelude.{◌≡◌, refl, Bool, true, false, not, ◌&&◌, List, [], ◌∷◌, ◌++◌, ℕ, ◌+◌, ◌≤◌, ◌<◌, pos, length, ltb, eqb}
+use Rattle.std.specs.Prelude.{◌≡◌, refl, Bool, true, false, not, ◌&&◌, List, [], ◌∷◌, ◌++◌, ℕ, ◌+◌, ◌≤◌, ◌<◌, pos, length, ltb, eqb, Ok}
 use Rattle.std.proofs.Common.{sym, ap, ◌∙◌, append-nil, arith}
 use borrow.Author.Tests.{le-ltb, lt-ltb, ltb-false, ne_eqb, not-false}
 use Rattle.word.specs.Tests.{both}
@@ -10,7 +10,6 @@ use Rattle.chars.specs.Chars.{digit}
 use Rattle.chars.specs.Runs.{all, all_weaker}
 use Rattle.digits.specs.Value.{value, worth_digit}
 use Rattle.decimal_parts.specs.declared.Decimal.{Decimal}
-use Rattle.decimal_parts.specs.declared.NumberAnswer.TheVariants.{Is}
 use Rattle.front_bytes.specs.Run.{All}
 use Rattle.decimal_parts.specs.Grammar.{Parts, Sign, Sign.dash, Sign.nothing, Fraction, Fraction.no_point, Fraction.point, Power}
 use Rattle.decimal_parts.specs.Grammar.{Power.no_power, Power.power, Writes}
@@ -43,7 +42,7 @@ abbrev pub pointless : ℕ → Bool
 pointless b = not (eqb b 46) && not (eqb b 69)
 
 pub record Counts (v : List ℕ) (n : ℕ) : Type 0 where
-  pub number : number_in v ≡ Is (wholly n)
+  pub number : number_in v ≡ Ok (wholly n)
   pub without : all pointless v ≡ true
   pub least : 1 ≤ n
   pub most : n ≤ count_most

@@ -2,16 +2,16 @@
 -- digits, 20 exactly where it does not write it, 21 exactly where it does with too many digits; and the parts are
 -- unique.
 -- Assumes nothing.
-use Rattle.std.specs.Prelude.{◌≡◌, Bool, true, false, not, ◌&&◌, List, [], ◌∷◌, ◌++◌, ◌⊎◌, ◌↔◌, ℕ, suc, ◌+◌, length, ltb, eqb}
+use Rattle.std.specs.Prelude.{◌≡◌, Bool, true, false, not, ◌&&◌, List, [], ◌∷◌, ◌++◌, ◌⊎◌, ◌↔◌, ℕ, suc, ◌+◌, length, ltb, eqb, Result, Ok}
 use Rattle.std.proofs.Math.Path.{refl, ap}
 use Rattle.std.proofs.Common.{sym, subst, ◌∙◌, append-nil, inl, inr, ⊎_elim, arith, ltb-true, ltb-false, eqb-true, lt-ltb, ne_eqb}
 use Rattle.std.proofs.lemmas.Bool.{eqb-false, not-false}
 use Rattle.word.specs.Tests.{and_false}
-use Rattle.refusal.specs.Table.{number_of as code_of}
+use Rattle.refusal.specs.Table.{refusal}
+use Rattle.refusal.specs.declared.Rule.TheVariants.{NoNumber, Digits as Digits_rule}
+use Rattle.refusal.specs.declared.Part.TheVariants.{File}
 use Rattle.refusal.specs.Rows.{Rows, pick, first, Clear, through}
 use Rattle.decimal_parts.specs.declared.Decimal.{Decimal}
-use Rattle.decimal_parts.specs.declared.NumberAnswer.{NumberAnswer}
-use Rattle.decimal_parts.specs.declared.NumberAnswer.TheVariants.{Is, Refused}
 use Rattle.chars.specs.Runs.{run, Stops, run_stops}
 use Rattle.front_bytes.specs.Run.{front, behind, run_none, parts, front_all, front_length, run_length, front_is}
 use Rattle.front_bytes.specs.Run.{behind_is, run_all, behind_all, front_of_all}
@@ -23,6 +23,7 @@ use Rattle.decimal_parts.specs.Answer.{decimal_of, too_long}
 use Rattle.decimal.specs.Number.{no_number}
 use Rattle.decimal_parts.specs.Answer.{judged}
 use Rattle.decimal.specs.Number.{tail_rows, shape_rows, parts_of, number_in}
+use Rattle.refusal.specs.declared.Refusal.{Refusal}
 
 -- ---- from the parts to the text: what is read is what was written
 
@@ -203,11 +204,11 @@ shape_write t h =
 -- ---- the three answers
 
 -- rows of one answer: it is given, or no row's test holds
-abbrev Same : NumberAnswer → Rows NumberAnswer → Type 0
+abbrev Same : Result Decimal Refusal → Rows (Result Decimal Refusal) → Type 0
 Same a [] = Unit {0}
 Same a (r ∷ rs) = (r.1 ≡ a) × Same a rs
 
-one_answer : (a : NumberAnswer) (rs : Rows NumberAnswer) (y : NumberAnswer) → Same a rs → (first rs y ≡ a) ⊎ Clear rs
+one_answer : (a : Result Decimal Refusal) (rs : Rows (Result Decimal Refusal)) (y : Result Decimal Refusal) → Same a rs → (first rs y ≡ a) ⊎ Clear rs
 one_answer a [] y s = inr tt
 one_answer a ((true, b) ∷ rs) y s = inl s.0
 one_answer a ((false, b) ∷ rs) y s = ⊎_elim (λ e. inl e) (λ c. inr (refl, c)) (one_answer a rs y s.1)
@@ -216,13 +217,13 @@ shape_or_none : (t : List ℕ) → (number_in t ≡ no_number) ⊎ Clear (shape_
 unfolding number_in
 shape_or_none t = one_answer no_number (shape_rows t) (judged (parts_of t)) (refl, (refl, (refl, (refl, (refl, tt)))))
 
-short_or_long : (p : Parts) → (Short p × (judged p ≡ Is (decimal_of p))) ⊎ ((Short p → ⊥) × (judged p ≡ too_long))
+short_or_long : (p : Parts) → (Short p × (judged p ≡ Ok (decimal_of p))) ⊎ ((Short p → ⊥) × (judged p ≡ too_long))
 unfolding judged
 short_or_long p = go (ltb 18 (length p.whole + length p.decimals)) (ltb 2 (length p.exponent)) refl refl
   where
     go : (a b : Bool) → ltb 18 (length p.whole + length p.decimals) ≡ a → ltb 2 (length p.exponent) ≡ b
-        → (Short p × (pick a too_long (pick b too_long (Is (decimal_of p))) ≡ Is (decimal_of p)))
-        ⊎ ((Short p → ⊥) × (pick a too_long (pick b too_long (Is (decimal_of p))) ≡ too_long))
+        → (Short p × (pick a too_long (pick b too_long (Ok (decimal_of p))) ≡ Ok (decimal_of p)))
+        ⊎ ((Short p → ⊥) × (pick a too_long (pick b too_long (Ok (decimal_of p))) ≡ too_long))
     go true b e f = inr (λ (s : Short p). let l = ltb-true 18 (length p.whole + length p.decimals) e in omega (arith, s.before), refl)
     go false true e f = inr (λ (s : Short p). let l = ltb-true 2 (length p.exponent) f in omega (arith, s.after), refl)
     go false false e f = inl (
@@ -233,23 +234,18 @@ short_or_long p = go (ltb 18 (length p.whole + length p.decimals)) (ltb 2 (lengt
       refl,
     )
 
--- the three are apart: by the table's number of a refusal, and 0 for a number
-code : NumberAnswer → ℕ
-code (Is n) = 0
-code (Refused r) = code_of r.rule
-
-apart : (a b c : NumberAnswer) → a ≡ b → a ≡ c → code b ≡ code c
-apart a b c e f = ap code (sym e ∙ f)
+-- 20 and 21 are apart
+rules_apart : no_number ≡ too_long → ⊥
+rules_apart e =
+    let r : refusal NoNumber File 0 ≡ refusal Digits_rule File 0 = cc in
+    let z : NoNumber ≡ Digits_rule = ap (λ (q : Refusal). q.rule) r in
+    cc
 
 unclear : (p : Parts) → judged p ≡ no_number → ⊥
-unfolding code
-unclear p e = ⊎_elim
-    (λ s. let z = apart (judged p) (Is (decimal_of p)) no_number s.1 e in omega arith)
-    (λ l. let z = apart (judged p) too_long no_number l.1 e in omega arith)
-    (short_or_long p)
+unclear p e = ⊎_elim (λ s. cc (s.1, e)) (λ l. rules_apart (sym e ∙ l.1)) (short_or_long p)
 
 -- there is no other answer
-pub answers : (t : List ℕ) → ((n : Decimal) × (number_in t ≡ Is n)) ⊎ ((number_in t ≡ no_number) ⊎ (number_in t ≡ too_long))
+pub answers : (t : List ℕ) → ((n : Decimal) × (number_in t ≡ Ok n)) ⊎ ((number_in t ≡ no_number) ⊎ (number_in t ≡ too_long))
 answers t = ⊎_elim (λ e. inr (inl e)) (λ c. (
     let h = written (parts_of t) t (shape_write t c) in
     ⊎_elim (λ s. inl (decimal_of (parts_of t), h ∙ s.1)) (λ l. inr (inr (h ∙ l.1))) (short_or_long (parts_of t)))) (shape_or_none t)
@@ -260,28 +256,26 @@ no_number_lem t = (λ e p h. unclear p (sym (written p t h) ∙ e), λ h. ⊎_el
 
 -- 21 exactly where it does, with too many digits
 pub too_long_lem : (t : List ℕ) → (number_in t ≡ too_long) ↔ ((p : Parts) × Writes p t × (Short p → ⊥))
-unfolding code
 too_long_lem t = (
-  λ e. ⊎_elim (λ f. let z = apart (number_in t) too_long no_number e f in absurd (omega arith)) (λ c. (
+  λ e. ⊎_elim (λ f. absurd (rules_apart (sym f ∙ e))) (λ c. (
       let h = shape_write t c in
       ⊎_elim
-      (λ s. let z = apart (number_in t) too_long (Is (decimal_of (parts_of t))) e (written (parts_of t) t h ∙ s.1) in absurd (omega arith))
+      (λ s. cc (e, written (parts_of t) t h, s.1))
       (λ l. (parts_of t, h, l.0)) (short_or_long (parts_of t)))) (shape_or_none t),
   λ w. ⊎_elim (λ s. absurd (w.2 s.0)) (λ l. written w.0 t w.1 ∙ l.1) (short_or_long w.0),
 )
 
 -- a number exactly where it does within its digits; and then it is the parts' number
-pub is_number : (t : List ℕ) (n : Decimal) → (number_in t ≡ Is n) ↔ ((p : Parts) × Writes p t × Short p × (n ≡ decimal_of p))
-unfolding code
+pub is_number : (t : List ℕ) (n : Decimal) → (number_in t ≡ Ok n) ↔ ((p : Parts) × Writes p t × Short p × (n ≡ decimal_of p))
 is_number t n = (
-  λ e. ⊎_elim (λ f. let z = apart (number_in t) (Is n) no_number e f in absurd (omega arith)) (λ c. (
+  λ e. ⊎_elim (λ f. cc (e, f)) (λ c. (
       let h = shape_write t c in
       ⊎_elim
       (λ s. (parts_of t, h, s.0, same_number (sym e ∙ (written (parts_of t) t h ∙ s.1))))
-      (λ l. let z = apart (number_in t) (Is n) too_long e (written (parts_of t) t h ∙ l.1) in absurd (omega arith))
+      (λ l. cc (e, written (parts_of t) t h, l.1))
       (short_or_long (parts_of t)))) (shape_or_none t),
-  λ w. ⊎_elim (λ s. written w.0 t w.1 ∙ s.1 ∙ ap Is (sym w.3)) (λ l. absurd (l.0 w.2)) (short_or_long w.0),
+  λ w. ⊎_elim (λ s. written w.0 t w.1 ∙ s.1 ∙ ap Ok (sym w.3)) (λ l. absurd (l.0 w.2)) (short_or_long w.0),
 )
   where
-    same_number : {m k : Decimal} → Is m ≡ Is k → m ≡ k
+    same_number : {m k : Decimal} → ◌≡◌ {A = Result Decimal Refusal} (Ok m) (Ok k) → m ≡ k
     same_number e = cc

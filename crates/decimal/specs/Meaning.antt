@@ -1,12 +1,11 @@
 -- What an answer means: the coefficient is the digits as written, read by their places, and coefficient times ten to
 -- the power is the decimal value that the parts write.
 -- Assumes nothing.
-use Rattle.std.specs.Prelude.{◌≡◌, refl, Bool, true, false, ◌&&◌, List, [], ◌∷◌, ◌++◌, ℕ, zero, suc, ◌+◌, ◌-◌, ◌*◌, ◌^◌, ◌<◌, ℤ, pos, negsuc, neg_ℤ, length, ltb, leb}
+use Rattle.std.specs.Prelude.{◌≡◌, refl, Bool, true, false, ◌&&◌, List, [], ◌∷◌, ◌++◌, ℕ, zero, suc, ◌+◌, ◌-◌, ◌*◌, ◌^◌, ◌<◌, ℤ, pos, negsuc, neg_ℤ, length, ltb, leb, Ok}
 use Rattle.std.proofs.Common.{sym, subst, ◌∙◌, zero-add, zero-mul, add-mul, mul_assoc, add_assoc, mul-pos, arith, length-append, pow-add, leb-true, leb-false}
 use Rattle.std.proofs.Math.Nat.{one-le-pow, pow-succ'}
 use Rattle.refusal.specs.Rows.{pick}
 use Rattle.decimal_parts.specs.declared.Decimal.{Decimal}
-use Rattle.decimal_parts.specs.declared.NumberAnswer.TheVariants.{Is}
 use Rattle.front_bytes.specs.Run.{All}
 use Rattle.chars.specs.Chars.{digit}
 use Rattle.decimal_parts.specs.Grammar.{Parts, Fraction, Fraction.no_point, Fraction.point, Power, Power.no_power}
@@ -129,7 +128,7 @@ means p t h =
     }
 
 -- an answer that is a number means the value of its text, whose parts are unique (`parts_unique`)
-pub number_means : (t : List ℕ) (n : Decimal) → number_in t ≡ Is n → (p : Parts) × Writes p t × Means n p
+pub number_means : (t : List ℕ) (n : Decimal) → number_in t ≡ Ok n → (p : Parts) × Writes p t × Means n p
 number_means t n e =
     let w = (is_number t n).0 e in
     (w.0, w.1, subst (λ (m : Decimal). Means m w.0) (sym w.3) (means w.0 t w.1))

@@ -2,27 +2,27 @@
 -- left in the longest runs, and the answer is the first row that is met. decimal_parts/Grammar says what a number is
 -- without any order of reading, and `Agreed` that the two agree.
 -- Assumes nothing.
-use Rattle.std.specs.Prelude.{◌≡◌, Bool, true, false, not, ◌&&◌, List, [], ◌∷◌, ℕ, ◌≤◌, ◌<◌, length, take, drop, ltb, eqb}
-use borrow.Author.Tests.{lt-ltb, le-ltb, eq-eqb, ne_eqb}
+use Rattle.std.specs.Prelude.{◌≡◌, Bool, true, false, not, ◌&&◌, List, [], ◌∷◌, ℕ, ◌≤◌, ◌<◌, length, take, drop, ltb, eqb, Result, Err}
+use Rattle.std.proofs.Common.{lt-ltb, le-ltb, eq-eqb, ne_eqb}
 use Rattle.refusal.specs.Rows.{Rows, first}
 use Rattle.refusal.specs.Table.{refusal}
 use Rattle.refusal.specs.declared.Rule.TheVariants.{NoNumber}
 use Rattle.refusal.specs.declared.Part.TheVariants.{File}
-use Rattle.decimal_parts.specs.declared.NumberAnswer.{NumberAnswer}
-use Rattle.decimal_parts.specs.declared.NumberAnswer.TheVariants.{Refused}
 use Rattle.chars.specs.Runs.{run}
 use Rattle.front_bytes.specs.Run.{front, behind}
 use Rattle.front_bytes.specs.OneByte.{has, past}
 use Rattle.chars.specs.Chars.{digit}
 use Rattle.decimal_parts.specs.Grammar.{Parts}
 use Rattle.decimal_parts.specs.Answer.{judged, parts_are}
+use Rattle.refusal.specs.declared.Refusal.{Refusal}
+use Rattle.decimal_parts.specs.declared.Decimal.{Decimal}
 
 -- a lone number's refusals have place 0, as with `too_long`
-abbrev pub no_number : NumberAnswer
-no_number = Refused (refusal NoNumber File 0)
+abbrev pub no_number : Result Decimal Refusal
+no_number = Err (refusal NoNumber File 0)
 
 -- behind the digits stands x: nothing, or E, a minus or nothing, digits (at y), and no more
-abbrev pub tail_rows : List ℕ → Rows NumberAnswer
+abbrev pub tail_rows : List ℕ → Rows (Result Decimal Refusal)
 tail_rows x =
     let y = past 45 (past 69 x) in
     (ltb 0 (length x) && not (has 69 x), no_number)
@@ -33,11 +33,11 @@ tail_rows x =
 abbrev pub tail_parts : Bool → List ℕ → List ℕ → List ℕ → Parts
 tail_parts m w d x = parts_are m w d (has 45 (past 69 x)) (front digit (past 45 (past 69 x)))
 
-unfoldable pub tail_of : Bool → List ℕ → List ℕ → List ℕ → NumberAnswer
+unfoldable pub tail_of : Bool → List ℕ → List ℕ → List ℕ → Result Decimal Refusal
 tail_of m w d x = first (tail_rows x) (judged (tail_parts m w d x))
 
 -- a minus or nothing, one or more digits (at s), and where a point follows (at u), one or more digits behind it (at v)
-abbrev pub shape_rows : List ℕ → Rows NumberAnswer
+abbrev pub shape_rows : List ℕ → Rows (Result Decimal Refusal)
 shape_rows t =
     let s = past 45 t in
     let u = behind digit s in
@@ -50,7 +50,7 @@ parts_of t =
     let v = past 46 (behind digit s) in
     tail_parts (has 45 t) (front digit s) (front digit v) (behind digit v)
 
-unfoldable pub number_in : List ℕ → NumberAnswer
+unfoldable pub number_in : List ℕ → Result Decimal Refusal
 number_in t = first (shape_rows t) (judged (parts_of t))
 
 -- ---- a law for each answer, with what the code found and tested

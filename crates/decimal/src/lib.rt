@@ -5,38 +5,37 @@
 // The rules in words: docs/FORMAT.md, "Numbers in values".
 #![tactic(auto)]
 
-ghost use Rattle.std.specs.Prelude.{◌≡◌};
+ghost use Rattle.std.specs.Prelude.{◌≡◌, Err};
 ghost use Rattle.decimal.specs.Number.{no_number, tail_of, number_in};
 
 use chars::Kind;
-use decimal_parts::NumberAnswer;
-use refusal::Rule;
+use decimal_parts::Decimal;
+use refusal::{Refusal, Rule};
 
 // Refusal 20: no number. The place of a lone number is 0.
-fn no_number() -> NumberAnswer
-    ensures { result ≡ no_number }
+fn no_number() -> Refusal
+    ensures { Err result ≡ no_number }
 {
-    NumberAnswer::Refused(refusal::of_file(Rule::NoNumber, 0))
+    refusal::of_file(Rule::NoNumber, 0)
 }
 
 // The answer once the digits before E are found: behind them stands the tail, nothing or E with its digits.
-fn tail(minus: bool, whole: &[u8], decimals: &[u8], x: &[u8]) -> NumberAnswer
+fn tail(minus: bool, whole: &[u8], decimals: &[u8], x: &[u8]) -> Result<Decimal, Refusal>
     ensures { result ≡ tail_of minus whole.now decimals.now x.now }
 {
     let e = front_bytes::has(x, b'E');
     if (0 < x.len()) & !e {
-        return no_number();
+        return Err(no_number());
     }
     let z = front_bytes::past(x, b'E');
     let y = front_bytes::past(z, b'-');
     let n = chars::run(Kind::Digit, y);
     if e & (n == 0) {
-        return no_number();
+        return Err(no_number());
     }
     let rest = front_bytes::behind(y, n);
-    let more = 0 < rest.len();
-    if more {
-        return no_number();
+    if !rest.is_empty() {
+        return Err(no_number());
     }
     decimal_parts::judged(
         minus,
@@ -49,20 +48,20 @@ fn tail(minus: bool, whole: &[u8], decimals: &[u8], x: &[u8]) -> NumberAnswer
 
 // The number that a text is (document 01, "Numbers in values"): a comma, a plus, a space and any other byte end the
 // reading, and what is left then makes it no number.
-pub fn number(text: &[u8]) -> NumberAnswer
+pub fn number(text: &[u8]) -> Result<Decimal, Refusal>
     ensures { result ≡ number_in text.now }
 {
     let s = front_bytes::past(text, b'-');
     let n = chars::run(Kind::Digit, s);
     if n == 0 {
-        return no_number();
+        return Err(no_number());
     }
     let u = front_bytes::behind(s, n);
     let point = front_bytes::has(u, b'.');
     let v = front_bytes::past(u, b'.');
     let m = chars::run(Kind::Digit, v);
     if point & (m == 0) {
-        return no_number();
+        return Err(no_number());
     }
     tail(
         front_bytes::has(text, b'-'),

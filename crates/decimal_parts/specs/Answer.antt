@@ -1,19 +1,18 @@
 -- The answer for the parts of a number (document 01, "Numbers in values"): sign, coefficient and power, unless there are
 -- too many digits.
 -- Assumes nothing.
-use Rattle.std.specs.Prelude.{◌≡◌, Bool, ◌&&◌, List, [], ◌∷◌, ℕ, ◌+◌, ◌≤◌, ◌<◌, ltb}
+use Rattle.std.specs.Prelude.{◌≡◌, Bool, ◌&&◌, List, [], ◌∷◌, ℕ, ◌+◌, ◌≤◌, ◌<◌, ltb, Result, Ok, Err}
 use Rattle.std.proofs.Math.ListN.{length}
-use borrow.Author.Tests.{lt-ltb, le-ltb}
+use Rattle.std.proofs.Common.{lt-ltb, le-ltb}
 use Rattle.refusal.specs.Rows.{Rows, first}
 use Rattle.refusal.specs.Table.{refusal}
 use Rattle.refusal.specs.declared.Rule.TheVariants.{Digits}
 use Rattle.refusal.specs.declared.Part.TheVariants.{File}
 use Rattle.decimal_parts.specs.declared.Decimal.{Decimal}
-use Rattle.decimal_parts.specs.declared.NumberAnswer.{NumberAnswer}
-use Rattle.decimal_parts.specs.declared.NumberAnswer.TheVariants.{Is, Refused}
 use Rattle.digits.specs.Value.{value}
 use Rattle.decimal_parts.specs.Grammar.{Parts}
 use Rattle.decimal_power.specs.Power.{power_of}
+use Rattle.refusal.specs.declared.Refusal.{Refusal}
 
 abbrev pub parts_are : Bool → List ℕ → List ℕ → Bool → List ℕ → Parts
 parts_are m w d down e = record { minus = m; whole = w; decimals = d; down = down; exponent = e }
@@ -29,15 +28,15 @@ decimal_of p = record {
 }
 
 -- a lone number's refusals have place 0; whoever asks for a number inside a text puts the place in
-abbrev pub too_long : NumberAnswer
-too_long = Refused (refusal Digits File 0)
+abbrev pub too_long : Result Decimal Refusal
+too_long = Err (refusal Digits File 0)
 
 -- "At most 18 digits before E, leading zeros counted, and at most 2 after it"
-abbrev pub limits : Parts → Rows NumberAnswer
+abbrev pub limits : Parts → Rows (Result Decimal Refusal)
 limits p = (ltb 18 (length p.whole + length p.decimals), too_long) ∷ (ltb 2 (length p.exponent), too_long) ∷ []
 
-unfoldable pub judged : Parts → NumberAnswer
-judged p = first (limits p) (Is (decimal_of p))
+unfoldable pub judged : Parts → Result Decimal Refusal
+judged p = first (limits p) (Ok (decimal_of p))
 
 -- ---- a law for each answer, with what the code found and tested
 
@@ -51,6 +50,6 @@ module _ (m : Bool) (w d : List ℕ) (n : Bool) (e : List ℕ) where
     unfolding judged
     long_after h = rw (le-ltb 18 (length w + length d) few, lt-ltb 2 (length e) h)
 
-    pub within : length e ≤ 2 → Is (decimal_of (parts_are m w d n e)) ≡ judged (parts_are m w d n e)
+    pub within : length e ≤ 2 → Ok (decimal_of (parts_are m w d n e)) ≡ judged (parts_are m w d n e)
     unfolding judged
     within h = rw (le-ltb 18 (length w + length d) few, le-ltb 2 (length e) h)

@@ -5,7 +5,7 @@
 #![tactic(auto)]
 
 ghost use Rattle.std.specs.Prelude.{◌≡◌, ◌+◌, ◌≤◌, length};
-ghost use Rattle.decimal_parts.specs.Answer.{parts_are, decimal_of, too_long, judged};
+ghost use Rattle.decimal_parts.specs.Answer.{parts_are, decimal_of, judged};
 
 use refusal::{Refusal, Rule};
 
@@ -18,12 +18,6 @@ pub struct Decimal {
     pub coefficient: u64,
     pub power: i32,
     pub decimals: u32,
-}
-
-#[derive(Clone, Copy)]
-pub enum NumberAnswer {
-    Is(Decimal),
-    Refused(Refusal),
 }
 
 // The number that the parts of a text make. Their digits are few enough: the coefficient fits 64 bits.
@@ -44,13 +38,6 @@ fn made(minus: bool, whole: &[u8], decimals: &[u8], down: bool, exponent: &[u8])
     }
 }
 
-// Refusal 21: too many digits.
-fn too_long() -> NumberAnswer
-    ensures { result ≡ too_long }
-{
-    NumberAnswer::Refused(refusal::of_file(Rule::Digits, 0))
-}
-
 // The answer for the parts of a text that the grammar writes: a number, unless it has more than 18 digits before E,
 // leading zeros counted, or more than 2 after it. The counts are compared one by one, so that no sum of them can wrap.
 pub fn judged(
@@ -59,18 +46,12 @@ pub fn judged(
     decimals: &[u8],
     down: bool,
     exponent: &[u8],
-) -> NumberAnswer
+) -> Result<Decimal, Refusal>
     ensures { result ≡ judged (parts_are minus whole.now decimals.now down
         exponent.now) }
 {
-    if 18 < whole.len() {
-        return too_long();
+    if 18 < whole.len() || 18 - whole.len() < decimals.len() || 2 < exponent.len() {
+        return Err(refusal::of_file(Rule::Digits, 0));
     }
-    if 18 - whole.len() < decimals.len() {
-        return too_long();
-    }
-    if 2 < exponent.len() {
-        return too_long();
-    }
-    NumberAnswer::Is(made(minus, whole, decimals, down, exponent))
+    Ok(made(minus, whole, decimals, down, exponent))
 }

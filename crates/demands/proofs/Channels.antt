@@ -1,10 +1,7 @@
 -- Theorems on what specs/Channels defines. They stand here, as a wrong definition there is to be refused and not to be unread.
 -- Assumes nothing.
-use Rattle.std.specs.Prelude.{◌≡◌, Bool, true, ◌⊎◌}
+use Rattle.std.specs.Prelude.{◌≡◌, Bool, true, false, List, [], ◌∷◌, ℕ}
 use Rattle.std.proofs.Common.{sym, ◌∙◌, ⊎_elim}
-use Rattle.std.proofs.Math.Bool.{false}
-use mathlib.Core.List.{List, [], ◌∷◌}
-use Prim.Native.Nat.{ℕ}
 use Rattle.word.specs.Tests.{never}
 use Rattle.layout.specs.Layout.{Trace}
 use Rattle.afresh.specs.FileOf.{has_channel, EachHas}

@@ -1,19 +1,16 @@
 -- Theorems on what specs/Excluded defines. They stand here, as a wrong definition there is to be refused and not to be unread.
 -- Assumes nothing.
-use Rattle.std.specs.Prelude.{◌≡◌, refl, List, [], ◌∷◌, ℕ, ◌*◌, ◌≤◌, ◌<◌, length, eqb}
+use Rattle.std.specs.Prelude.{◌≡◌, refl, List, [], ◌∷◌, ℕ, ◌*◌, ◌≤◌, ◌<◌, length, eqb, Ok}
 use Rattle.std.proofs.Common.{sym, ap, ◌∙◌, inr, arith}
 use Rattle.head_limits.specs.declared.Purpose.TheVariants.{Read}
 use Rattle.text.specs.declared.Manner.TheVariants.{Strict}
-use Rattle.refusal.specs.declared.Verdict.TheVariants.{Accepted}
 use Rattle.sample.specs.Needed.{needed, room}
 use Rattle.chars.specs.Runs.{run, same}
 use Rattle.sheet_line.specs.SheetLine.{line_len, line_key_len}
 use Rattle.sheet.specs.Lines.{sheet_lines_from, sheet_lines}
 use Rattle.sheet.specs.Area.{joined, sheet_strings, text_size, area_size}
 use Rattle.image.specs.Image.{check_of}
-use Rattle.head.specs.declared.FileAnswer.TheVariants as file
 use Rattle.reader.specs.Questions.{file_answer}
-use Rattle.refusal.specs.declared.Written.TheVariants.{To}
 use Rattle.layout.specs.Layout.{nul, line_feed, start_size, Trace, count, trace_size}
 use Rattle.start.specs.Start.{start_answer, start_left}
 use Rattle.afresh.specs.FileOf.{sizes, file_size}
@@ -26,12 +23,13 @@ use Rattle.demands.specs.ListReads.{list_file_block}
 use Rattle.demands.specs.GoodLists.{GoodList}
 use Rattle.demands.proofs.GoodLists.{writable_is_good, good_is_writable}
 use Rattle.demands.specs.Excluded.{buffer_of, length_of, traces_in}
+use Rattle.refusal.specs.Verdicts.{accepted}
 
 -- every list that can be written is a file that the reader takes, with as many traces as the list
 pub not_all_files_refused : (xs : List ℕ) (order slots : ℕ) (sheet : List ℕ) (ts : List Trace) → GoodList xs order slots sheet ts → 0 < length ts
-    → (check_of Strict Read (buffer_of xs order slots sheet ts) (length_of xs order slots sheet ts) ≡ Accepted)
+    → (check_of Strict Read (buffer_of xs order slots sheet ts) (length_of xs order slots sheet ts) ≡ accepted)
     × (file_answer Strict (buffer_of xs order slots sheet ts) (length_of xs order slots sheet ts)
-    ≡ file.Is (record { high = eqb order 1; m = 4 * slots; n = length ts; strings = 1; lines = 1 }))
+    ≡ Ok (record { high = eqb order 1; m = 4 * slots; n = length ts; strings = 1; lines = 1 }))
 not_all_files_refused xs order slots sheet ts g some =
     let w = good_is_writable g in
     let h = (written_afresh xs order slots sheet ts w).holds in
@@ -74,14 +72,14 @@ not_the_same_for_all xs h e =
 -- ---- "a start or an addition that refuses every list": none of the calls for a list that can be written is refused
 
 pub no_good_list_refused : (xs : List ℕ) (order slots : ℕ) (sheet : List ℕ) (ts : List Trace) → GoodList xs order slots sheet ts
-    → (start_answer xs order slots sheet ≡ To (start_size slots sheet))
+    → (start_answer xs order slots sheet ≡ Ok (start_size slots sheet))
     × (answers_of (start_left xs order slots sheet) (start_size slots sheet) ts ≡ lengths (start_size slots sheet) ts)
 no_good_list_refused xs order slots sheet ts g = let w = good_is_writable g in
     (start_accepted xs order slots sheet ts w, none_refused xs order slots sheet ts w)
 
 -- such a list is document 01's: the start answers 56, the addition 108, in every buffer that has room
 pub a_list_is_written : (xs : List ℕ) → 108 ≤ length xs
-    → (start_answer xs 0 1 units ≡ To 56) × (answers_of (start_left xs 0 1 units) 56 (shot ∷ []) ≡ To 108 ∷ [])
+    → (start_answer xs 0 1 units ≡ Ok 56) × (answers_of (start_left xs 0 1 units) 56 (shot ∷ []) ≡ Ok 108 ∷ [])
 unfolding lengths
 a_list_is_written xs h =
     let r = no_good_list_refused xs 0 1 units (shot ∷ []) (writable_is_good (worked_writable xs h)) in

@@ -1,9 +1,7 @@
 -- Theorems on what specs/Repeats defines. They stand here, as a wrong definition there is to be refused and not to be unread.
 -- Assumes nothing.
-use Rattle.std.specs.Prelude.{◌≡◌, true, false, ◌⊎◌, ℕ, ◌≤◌, ◌<◌, ℤ, pos, length, take}
-use Rattle.std.proofs.Math.Path.{refl}
+use Rattle.std.specs.Prelude.{◌≡◌, true, false, ℕ, ◌≤◌, ◌<◌, ℤ, pos, length, take, Ok, refl, List, [], ◌∷◌}
 use Rattle.std.proofs.Common.{sym, ap, subst, ◌∙◌, inl, inr, ⊎_elim, arith}
-use mathlib.Core.List.{List, [], ◌∷◌}
 use Rattle.word.specs.Tests.{never}
 use Rattle.text.specs.declared.Manner.TheVariants.{Strict}
 use Rattle.chars.specs.Chars.{key_char, note}
@@ -13,7 +11,6 @@ use Rattle.key_order.specs.Order.{rises_first}
 use Rattle.note.specs.Note.{Each}
 use Rattle.strings.specs.Spelled.{Str, nth_str}
 use Rattle.sample.specs.Needed.{needed, room}
-use Rattle.sheet.specs.declared.Measured.TheVariants.{Size}
 use Rattle.sheet_line.specs.SheetLine.{line_len, line_key_len}
 use Rattle.sheet.specs.Lines.{Line, sheet_lines_from, sheet_lines}
 use Rattle.sheet.specs.Area.{area_most, joined, sheet_strings, text_size, area_size, area_of, measured_of}
@@ -24,7 +21,6 @@ use Rattle.channel_line.specs.ChannelLine.{has_line}
 use Rattle.area.specs.Meaning.{strs_of}
 use Rattle.reader.specs.Questions.{nth_answer, find_answer, value_answer}
 use Rattle.reader.specs.Listed.{Lists}
-use Rattle.refusal.specs.declared.Written.TheVariants.{To}
 use Rattle.layout.specs.Layout.{nul, line_feed, start_size, count, trace_size}
 use Rattle.start.specs.Start.{start_answer, start_left}
 use Rattle.growth.specs.Answered.{AnswersBy}
@@ -71,7 +67,7 @@ module _ (key : List ℕ) (two : Geometry key) where
   pub lines_of_the_two : (t u : List ℕ) (vs : List (List ℕ)) → Each GoodValue vs
       → (sheet_strings u (sheet_of (each_line key vs)) ≡ strs_of (each_line key vs))
       × (length (area_of false t u (sheet_of (each_line key vs))) ≤ area_most
-      → measured_of t u (sheet_of (each_line key vs)) ≡ Size (length (area_of false t u (sheet_of (each_line key vs)))))
+      → measured_of t u (sheet_of (each_line key vs)) ≡ Ok (length (area_of false t u (sheet_of (each_line key vs)))))
   unfolding sheet_strings
   lines_of_the_two t u vs g =
       let ls = good_lines [] vs (rises_first key (one_of_two key two).0) g in
@@ -111,8 +107,8 @@ can_be_written xs h =
     }
 
 pub six_receivers : (xs : List ℕ) → 236 ≤ length xs
-    → (start_answer xs 0 1 units ≡ To 56)
-    × (answers_of (start_left xs 0 1 units) 56 (group ∷ []) ≡ To 236 ∷ [])
+    → (start_answer xs 0 1 units ≡ Ok 56)
+    × (answers_of (start_left xs 0 1 units) 56 (group ∷ []) ≡ Ok 236 ∷ [])
     × (take 236 (buffer_of xs 0 1 units (group ∷ [])) ≡ file_of false 1 units (group ∷ []))
     × AnswersBy Strict (buffer_of xs 0 1 units (group ∷ [])) 236 (pos 0) (strs_of phones)
 unfolding lengths

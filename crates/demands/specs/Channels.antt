@@ -4,24 +4,15 @@
 -- `Writable` (afresh/Afresh) and `GoodList` (GoodLists) have the rule, and their theorems hold of them. Here it is said
 -- once more by what the questions answer.
 -- Assumes nothing.
-use Rattle.std.specs.Prelude.{◌≡◌, refl, Bool, true, ◌↔◌, ◌⊎◌, pos}
-use Rattle.std.proofs.Common.{sym, ◌∙◌, ⊎_elim, arith}
-use Rattle.std.proofs.Math.Path.{ap}
-use Rattle.std.proofs.Math.Bool.{false}
-use mathlib.Core.List.{List, [], ◌∷◌}
-use Prim.Native.Nat.{ℕ, ◌+◌, ◌≤◌, ◌<◌}
-use Rattle.std.proofs.Math.ListN.{take}
-use Rattle.std.proofs.Math.Dec.{eqb}
-use borrow.Author.Tests.{eq-eqb, ne_eqb}
+use Rattle.std.specs.Prelude.{◌≡◌, refl, Bool, true, ◌↔◌, ◌⊎◌, pos, Result, Ok, false, List, [], ◌∷◌, ℕ, ◌+◌, ◌≤◌, ◌<◌, take, eqb}
+use Rattle.std.proofs.Common.{sym, ◌∙◌, arith, ap, eq-eqb, ne_eqb}
 use Rattle.word.specs.Tests.{never}
 use Rattle.word.specs.Bytes.{Bytes}
 use Rattle.refusal.specs.Rows.{pick}
-use Rattle.refusal.specs.declared.Verdict.TheVariants.{Accepted}
-use Rattle.refusal.specs.declared.Written.TheVariants.{To}
+use Rattle.refusal.specs.declared.Refusal.{Refusal}
 use Rattle.text.specs.declared.Manner.TheVariants.{Strict}
 use Rattle.head_limits.specs.declared.Purpose.TheVariants.{Read}
 use Rattle.strings.specs.Spelled.{Str, has_key}
-use Rattle.decimal_parts.specs.declared.NumberAnswer.TheVariants.{Is}
 use Rattle.channel.specs.Count.{count_most, count_in, wholly, pointless, Counts, counted}
 use Rattle.channel.proofs.CountLaws.{counts}
 use Rattle.channel.specs.Channel.{channel_number}
@@ -35,7 +26,6 @@ use Rattle.image.specs.Image.{check_of}
 use Rattle.image.specs.Keeps.{trace_at, Keeps}
 use Rattle.image.specs.Accepted.{with_of, as_first}
 use Rattle.image.proofs.Accepted.{accepted_keeps}
-use Rattle.reader.specs.declared.KeywordAnswer.TheVariants.{Yes, No}
 use Rattle.reader.specs.Questions.{keyword_answer, value_answer, number_answer}
 use Rattle.reader.specs.Listed.{Lists, trace_area, listed_keyword, listed_value, listed_number}
 use Rattle.layout.specs.Layout.{Trace}
@@ -45,8 +35,8 @@ use Rattle.writer.specs.Shown.{added, add_left_lem}
 use Rattle.growth.specs.Grows.{grown_grows}
 use Rattle.growth.specs.StillKeeps.{grown_numbered}
 use Rattle.growth.proofs.StillKeeps.{grown_accepted}
-use Rattle.afresh.specs.FileOf.{has_channel, EachHas}
-use Rattle.demands.specs.GoodLists.{GoodList}
+use Rattle.afresh.specs.FileOf.{has_channel}
+use Rattle.refusal.specs.Verdicts.{accepted}
 
 -- ---- "a number by document 01, 1 to 32,767, without point or E": how the code finds it, and the words. Rules out 0,
 -- 32,768, -1, 1.0, 1E0 and a text that is no number.
@@ -56,13 +46,13 @@ count_exactly v n = (λ h. counted v n h.1 h.0, λ c. (counts v n c, c.least))
 
 -- ---- an accepted file
 
-yes_or_no_lem : (a b : Bool) → pick a Yes No ≡ pick b Yes No → a ≡ b
+yes_or_no_lem : (a b : Bool) → ◌≡◌ {A = Result Bool Refusal} (pick a (Ok true) (Ok false)) (pick b (Ok true) (Ok false)) → a ≡ b
 yes_or_no_lem true true e = refl
 yes_or_no_lem false false e = refl
 yes_or_no_lem true false e = let z : ◌≡◌ {A = ℕ} 0 1 = cc in absurd (omega arith)
 yes_or_no_lem false true e = let z : ◌≡◌ {A = ℕ} 0 1 = cc in absurd (omega arith)
 
-module _ (xs : List ℕ) (n : ℕ) (by : Bytes xs) (ok : check_of Strict Read xs n ≡ Accepted) where
+module _ (xs : List ℕ) (n : ℕ) (by : Bytes xs) (ok : check_of Strict Read xs n ≡ accepted) where
   kept : Keeps Strict Read (take n xs)
   kept = (accepted_keeps Strict Read xs n by ok).1
 
@@ -78,7 +68,7 @@ module _ (xs : List ℕ) (n : ℕ) (by : Bytes xs) (ok : check_of Strict Read xs
         spells = (kept.traces k l).strings.1;
       }
 
-  answered : (k : ℕ) (l : k < count_of (take n xs)) → keyword_answer Strict xs n (pos k) channel_number ≡ pick (has_key Strict (strings k l) channel_number) Yes No
+  answered : (k : ℕ) (l : k < count_of (take n xs)) → keyword_answer Strict xs n (pos k) channel_number ≡ pick (has_key Strict (strings k l) channel_number) (Ok true) (Ok false)
   answered k l = listed_keyword Strict xs n (pos k) (strings k l) ok (listed k l) channel_number
 
   -- "if one trace block has it, all must": the question on CHANNEL_NUMBER is answered alike by every trace. Rules out a
@@ -86,12 +76,12 @@ module _ (xs : List ℕ) (n : ℕ) (by : Bytes xs) (ok : check_of Strict Read xs
   pub all_traces_or_none : (j k : ℕ) → j < count_of (take n xs) → k < count_of (take n xs)
       → keyword_answer Strict xs n (pos j) channel_number ≡ keyword_answer Strict xs n (pos k) channel_number
   all_traces_or_none j k a b =
-      answered j a ∙ ap (λ (w : Bool). pick w Yes No) (as_first kept j a refl ∙ sym (as_first kept k b refl)) ∙ sym (answered k b)
+      answered j a ∙ ap (λ (w : Bool). pick w (Ok true) (Ok false)) (as_first kept j a refl ∙ sym (as_first kept k b refl)) ∙ sym (answered k b)
 
   -- "The value must be a number by document 01, 1 to 32,767, without point or E": of every trace that has one. Rules out
   -- a check that judges trace 0's value only.
-  pub each_a_good_number : (k : ℕ) → k < count_of (take n xs) → keyword_answer Strict xs n (pos k) channel_number ≡ Yes
-      → (c : ℕ) × (1 ≤ c) × (c ≤ count_most) × (number_answer Strict xs n (pos k) channel_number ≡ Is (wholly c))
+  pub each_a_good_number : (k : ℕ) → k < count_of (take n xs) → keyword_answer Strict xs n (pos k) channel_number ≡ Ok true
+      → (c : ℕ) × (1 ≤ c) × (c ≤ count_most) × (number_answer Strict xs n (pos k) channel_number ≡ Ok (wholly c))
       × (all pointless (value_answer Strict xs n (pos k) channel_number) ≡ true)
   each_a_good_number k l said =
       let has = yes_or_no_lem (has_key Strict (strings k l) channel_number) true (sym (answered k l) ∙ said) in
@@ -104,14 +94,14 @@ module _ (xs : List ℕ) (n : ℕ) (by : Bytes xs) (ok : check_of Strict Read xs
       )
 
   -- whether trace 0 has it is what the question on it answers
-  first_has : (some : 0 < count_of (take n xs)) → keyword_answer Strict xs n (pos 0) channel_number ≡ pick (with_of Strict (take n xs)) Yes No
-  first_has some = answered 0 some ∙ ap (λ (w : Bool). pick w Yes No) (as_first kept 0 some refl)
+  first_has : (some : 0 < count_of (take n xs)) → keyword_answer Strict xs n (pos 0) channel_number ≡ pick (with_of Strict (take n xs)) (Ok true) (Ok false)
+  first_has some = answered 0 some ∙ ap (λ (w : Bool). pick w (Ok true) (Ok false)) (as_first kept 0 some refl)
 
   -- ---- 35, where there is a trace: a sheet passes exactly where it has a channel number as the file's traces have, and
   -- a good one. Rules out an addition that lets a bad value, a missing one or one too many through, or refuses another.
   pub later_sheet_passes_exactly : (sheet : List ℕ) → 0 < count_of (take n xs)
       → (wrong_channel (take n xs) sheet ≡ false)
-      ↔ ((keyword_answer Strict xs n (pos 0) channel_number ≡ pick (has_line (sheet_lines sheet) channel_number) Yes No)
+      ↔ ((keyword_answer Strict xs n (pos 0) channel_number ≡ pick (has_line (sheet_lines sheet) channel_number) (Ok true) (Ok false))
       × (has_line (sheet_lines sheet) channel_number ≡ true → (c : ℕ) × Counts (value_of_line (sheet_lines sheet) channel_number) c))
   unfolding wrong_channel
   later_sheet_passes_exactly sheet some =
@@ -120,7 +110,7 @@ module _ (xs : List ℕ) (n : ℕ) (by : Bytes xs) (ok : check_of Strict Read xs
       let v : List ℕ = value_of_line (sheet_lines sheet) channel_number in (
         λ h. (
             let k = sheet_keeps (eqb (count_of f) 0) (with_of Strict f) sheet h in
-            (first_has some ∙ ap (λ (w : Bool). pick w Yes No) (sym (k.0 filled)), λ has. (count_in v, counted v _ (k.1 has) refl))),
+            (first_has some ∙ ap (λ (w : Bool). pick w (Ok true) (Ok false)) (sym (k.0 filled)), λ has. (count_in v, counted v _ (k.1 has) refl))),
         λ k.
             keeps_sheet (eqb (count_of f) 0) (with_of Strict f) sheet (
               λ _. yes_or_no_lem _ _ (sym k.0 ∙ first_has some),
@@ -146,16 +136,16 @@ first_sheet_is_free f sheet none =
 
 -- ---- what was added: in the file that is left every trace answers as the new sheet has it. Rules out an addition that
 -- leaves a file which the reader refuses by 34.
-pub added_alike : (xs : List ℕ) (n : ℕ) (x : Trace) (end : ℕ) → Bytes xs → Bytes (add_left xs n x) → add_answer xs n x ≡ To end → (k : ℕ)
+pub added_alike : (xs : List ℕ) (n : ℕ) (x : Trace) (end : ℕ) → Bytes xs → Bytes (add_left xs n x) → add_answer xs n x ≡ Ok end → (k : ℕ)
     → k < count_of (take end (add_left xs n x))
-    → keyword_answer Strict (add_left xs n x) end (pos k) channel_number ≡ pick (has_channel x) Yes No
+    → keyword_answer Strict (add_left xs n x) end (pos k) channel_number ≡ pick (has_channel x) (Ok true) (Ok false)
 added_alike xs n x end by left to k l =
     let h = added xs n x end to in
-    let ok : check_of Strict Read (add_left xs n x) end ≡ Accepted = rw (add_left_lem xs n x end to) (grown_accepted Read by h) in
+    let ok : check_of Strict Read (add_left xs n x) end ≡ accepted = rw (add_left_lem xs n x end to) (grown_accepted Read by h) in
     let s = answered (add_left xs n x) end left ok k l in
     let w = as_first (kept (add_left xs n x) end left ok) k l refl in
     let g : with_of Strict (take end (add_left xs n x)) ≡ has_channel x = rw (add_left_lem xs n x end to) (grown_numbered (grown_grows by h)) in
-    s ∙ ap (λ (b : Bool). pick b Yes No) (w ∙ g)
+    s ∙ ap (λ (b : Bool). pick b (Ok true) (Ok false)) (w ∙ g)
 
 -- ---- lists
 

@@ -3,29 +3,16 @@
 -- that writes nothing yet answers a length (2 and 3); one that writes the first trace and later only raises N (3);
 -- invented N, S or length (2)." Each is excluded here, by a corollary of that name.
 -- Assumes nothing.
-use Rattle.std.specs.Prelude.{◌≡◌, refl, List, [], ◌∷◌, ℕ, ◌+◌, ◌*◌, ◌≤◌, ◌<◌, length, get_or, take, eqb}
-use Rattle.std.proofs.Common.{sym, ap, ◌∙◌, inr, arith}
-use Rattle.head_limits.specs.declared.Purpose.TheVariants.{Read}
-use Rattle.text.specs.declared.Manner.TheVariants.{Strict}
+use Rattle.std.specs.Prelude.{◌≡◌, refl, List, ℕ, ◌+◌, ◌*◌, ◌<◌, length, get_or, take, eqb, Result, Ok, Err}
+use Rattle.std.proofs.Common.{sym, ap, ◌∙◌, arith}
 use Rattle.word.specs.Bytes.{Bytes}
 use Rattle.word.specs.Round.{round4}
 use Rattle.word.specs.Word.{word_at}
 use Rattle.word.specs.WordLaws.{word_take}
-use Rattle.refusal.specs.declared.Verdict.TheVariants.{Accepted}
-use Rattle.sample.specs.Needed.{needed, room}
-use Rattle.chars.specs.Runs.{run, same}
-use Rattle.sheet_line.specs.SheetLine.{line_len, line_key_len}
-use Rattle.sheet.specs.Lines.{sheet_lines_from, sheet_lines}
-use Rattle.sheet.specs.Area.{joined, sheet_strings, text_size, area_size}
 use Rattle.head_words.specs.HeadWords.{file_block_of, high_first, room_of, count_of}
 use Rattle.terminators.specs.Terminators.{string_end, line_end}
 use Rattle.block.specs.Block.{pointer_of, block_size_of, data_size_of, sample_count_of, format_code_of, trace_block_of}
-use Rattle.image.specs.Image.{check_of}
-use Rattle.head.specs.declared.FileAnswer.{FileAnswer}
-use Rattle.head.specs.declared.FileAnswer.TheVariants as file
-use Rattle.reader.specs.Questions.{file_answer}
-use Rattle.refusal.specs.declared.Written.TheVariants.{To}
-use Rattle.layout.specs.Layout.{nul, line_feed, start_size, Trace, count, trace_size}
+use Rattle.layout.specs.Layout.{nul, line_feed, start_size, Trace, trace_size}
 use Rattle.layout.specs.LayoutLaws.{Stands}
 use Rattle.start.specs.Start.{start_answer, start_left}
 use Rattle.append.specs.Grown.{new_length}
@@ -35,18 +22,14 @@ use Rattle.growth.specs.Frame.{lies, grown_count}
 use Rattle.growth.specs.Grows.{grown_grows}
 use Rattle.growth.specs.Kept.{count_grown}
 use Rattle.afresh.specs.FileOf.{sizes, file_size}
-use Rattle.afresh.specs.Calls.{after, answers_of, accepted_of}
+use Rattle.afresh.specs.Calls.{after, accepted_of}
 use Rattle.afresh.proofs.Calls.{start_grows, calls_afresh}
 use Rattle.afresh.specs.Stands.{empty_trace}
 use Rattle.afresh.proofs.Stands.{file_traces}
 use Rattle.afresh.specs.FileLaws.{file_fronted}
-use Rattle.afresh.specs.Afresh.{lengths}
-use Rattle.afresh.proofs.Afresh.{start_accepted, none_refused, written_afresh, afresh_accepted}
 use Rattle.afresh.proofs.Afresh.{accepted_writable}
-use Rattle.afresh.specs.Worked.{units, shot, worked_sizes, worked_good, shot_without}
-use Rattle.afresh.proofs.Worked.{worked_writable}
-use Rattle.demands.specs.ListReads.{list_file_block}
-use Rattle.demands.specs.GoodLists.{GoodList}
+use Rattle.refusal.specs.declared.Refusal.{Refusal}
+use Rattle.head_words.specs.declared.FileBlock.{FileBlock}
 
 -- ---- "a reader that refuses all files, or answers the same for all"
 
@@ -57,14 +40,14 @@ buffer_of xs order slots sheet ts = (after (start_left xs order slots sheet) (st
 abbrev pub length_of : List ℕ → ℕ → ℕ → List ℕ → List Trace → ℕ
 length_of xs order slots sheet ts = (after (start_left xs order slots sheet) (start_size slots sheet) ts).1
 
-abbrev pub traces_in : FileAnswer → ℕ
-traces_in (file.Is f) = f.n
-traces_in (file.Refused r) = 0
+abbrev pub traces_in : Result FileBlock Refusal → ℕ
+traces_in (Ok f) = f.n
+traces_in (Err r) = 0
 
 -- ---- "an addition that writes nothing yet answers a length": where a length is answered N is one more, and the buffer
 -- is not what it was
 
-pub an_addition_writes : (xs : List ℕ) (n : ℕ) (x : Trace) (end : ℕ) → Bytes xs → add_answer xs n x ≡ To end
+pub an_addition_writes : (xs : List ℕ) (n : ℕ) (x : Trace) (end : ℕ) → Bytes xs → add_answer xs n x ≡ Ok end
     → (count_of (take end (add_left xs n x)) ≡ count_of (take n xs) + 1) × (add_left xs n x ≡ xs → ⊥)
 unfolding count_of
 an_addition_writes xs n x end by to =
@@ -81,7 +64,7 @@ an_addition_writes xs n x end by to =
 -- ---- "one that writes the first trace and later only raises N": after any calls each accepted trace stands in the
 -- image, with all its bytes, at its own place
 
-pub every_trace_is_written : (xs : List ℕ) (order slots : ℕ) (sheet : List ℕ) (e : ℕ) → start_answer xs order slots sheet ≡ To e → (calls : List Trace) (k : ℕ)
+pub every_trace_is_written : (xs : List ℕ) (order slots : ℕ) (sheet : List ℕ) (e : ℕ) → start_answer xs order slots sheet ≡ Ok e → (calls : List Trace) (k : ℕ)
     → k < length (accepted_of (start_left xs order slots sheet) e calls)
     → Stands (eqb order 1) nul line_feed
     (take (after (start_left xs order slots sheet) e calls).1 (after (start_left xs order slots sheet) e calls).0)
@@ -108,7 +91,7 @@ numbers_are_the_files f k = (refl, refl, refl, refl, refl, refl, refl)
 
 -- what the writers put there is the list's: N the number of accepted traces, and the length where the last one's D
 -- bytes end
-pub count_is_the_lists : (xs : List ℕ) (order slots : ℕ) (sheet : List ℕ) (e : ℕ) → start_answer xs order slots sheet ≡ To e → (calls : List Trace)
+pub count_is_the_lists : (xs : List ℕ) (order slots : ℕ) (sheet : List ℕ) (e : ℕ) → start_answer xs order slots sheet ≡ Ok e → (calls : List Trace)
     → (count_of (take (after (start_left xs order slots sheet) e calls).1 (after (start_left xs order slots sheet) e calls).0)
     ≡ length (accepted_of (start_left xs order slots sheet) e calls))
     × ((after (start_left xs order slots sheet) e calls).1 ≡ start_size slots sheet + sizes (accepted_of (start_left xs order slots sheet) e calls))
@@ -117,7 +100,7 @@ count_is_the_lists xs order slots sheet e to calls =
     let h = (start_grows xs order slots sheet e to calls).holds in
     (ap count_of h.image ∙ (file_fronted (eqb order 1) slots sheet (accepted_of (start_left xs order slots sheet) e calls) h.few h.slotted).count, h.size)
 
-pub length_is_the_layouts : (xs : List ℕ) (n : ℕ) (x : Trace) (end : ℕ) → add_answer xs n x ≡ To end
+pub length_is_the_layouts : (xs : List ℕ) (n : ℕ) (x : Trace) (end : ℕ) → add_answer xs n x ≡ Ok end
     → end ≡ round4 n + trace_size (string_end (take n xs)) (line_end (take n xs)) x
 unfolding new_length
 length_is_the_layouts xs n x end to = sym (added xs n x end to).new

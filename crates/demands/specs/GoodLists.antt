@@ -3,29 +3,16 @@
 -- defines, which has to fit; with document 02's of channel numbers (§7). Theorem: these are exactly the lists of which
 -- no call is refused (`Writable` of afresh says the same by the writers' own tests).
 -- Assumes nothing.
-use Rattle.std.specs.Prelude.{◌≡◌, refl, Bool, true, false, List, [], ◌∷◌, ◌++◌, ◌↔◌, ◌⊎◌, ℕ, zero, suc, ◌+◌, ◌%◌, ◌≤◌, ◌<◌, ℤ, pos, negsuc, nat_abs, length, get_or, eqb}
-use Rattle.std.proofs.Common.{sym, ap, ◌∙◌, inl, inr, ⊎_elim, arith, le-ltb, leb-false, eq-eqb, eqb-true}
+use Rattle.std.specs.Prelude.{◌≡◌, false, List, [], ◌∷◌, ◌++◌, ◌⊎◌, ℕ, ◌%◌, ◌≤◌, ◌<◌, ℤ, pos, nat_abs}
+use Rattle.std.specs.Prelude.{length, get_or, eqb}
 use Rattle.std.specs.Int.Signed.{mag}
-use Rattle.std.proofs.lemmas.Bool.{lt-leb}
-use Rattle.word.specs.Tests.{never}
-use Rattle.word.specs.Round.{round4}
-use Rattle.fit.specs.Unfit.{first_from, outside, unfit_integer, unfit_pattern, unfit_integers, unfit_patterns, all_good}
-use Rattle.encode.specs.Back.{reach, fit_reach}
-use Rattle.refusal.specs.Rows.{pick}
-use Rattle.chars.specs.Runs.{same, same_eq, same_not}
 use Rattle.channel.specs.Count.{Counts}
 use Rattle.channel.specs.Channel.{channel_number}
-use Rattle.channel_line.specs.ChannelLine.{has_line, value_of_line}
-use Rattle.sheet.specs.Lines.{Line, sheet_lines}
-use Rattle.sheet.specs.Area.{area_most, joined, sheet_strings, text_size, area_of, area_size}
-use Rattle.sheet.specs.Sizes.{length_area}
-use Rattle.sheet.specs.Paper.{sheet_of, GoodLines, accepted_lines, lines_read}
-use Rattle.area.specs.Spelling.{measured_size, good_measured}
-use Rattle.layout.specs.Layout.{slots_most, nul, line_feed, Trace, Samples, Samples.integers, Samples.patterns, fitting}
-use Rattle.layout.specs.Layout.{unfit}
-use Rattle.afresh.specs.FileOf.{file_of, Measures, Good, EachGood, EachHas, Together}
-use Rattle.afresh.proofs.FileLaws.{length_file}
-use Rattle.afresh.specs.Afresh.{Writable}
+use Rattle.sheet.specs.Lines.{Line}
+use Rattle.sheet.specs.Area.{area_most, area_of}
+use Rattle.sheet.specs.Paper.{sheet_of, GoodLines}
+use Rattle.layout.specs.Layout.{slots_most, nul, line_feed, Trace, Samples, Samples.integers, Samples.patterns}
+use Rattle.afresh.specs.FileOf.{file_of}
 use Rattle.head.specs.Head.{maximum}
 
 -- ---- "Strings come as a sheet, lines of text ended by 0Ah: keyword (as above), tab, value"; "An area is at most

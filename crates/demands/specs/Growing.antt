@@ -4,8 +4,9 @@
 -- addition changes only the trace count, one free pointer and the bytes from the old end to the new end; the file's
 -- strings and every earlier trace read as before and the new one reads last."
 -- Assumes nothing.
-use Rattle.std.specs.Prelude.{◌≡◌, refl, List, [], ◌∷◌, ◌++◌, ◌⊎◌, ℕ, ◌+◌, ◌-◌, ◌*◌, ◌≤◌, ◌<◌, ℤ, pos, negsuc, length, get_or, take, drop, replicate, eqb}
-use Rattle.std.proofs.Common.{sym, ◌∙◌, arith, length-take-le}
+use Rattle.std.specs.Prelude.{◌≡◌, refl, List, [], ◌∷◌, ◌++◌, ◌⊎◌, ℕ, ◌+◌, ◌-◌, ◌*◌, ◌≤◌, ◌<◌, ℤ, pos, negsuc, length, get_or, take, drop, replicate}
+use Rattle.std.specs.Prelude.{eqb, Result, Ok, Err}
+use Rattle.std.proofs.Common.{◌∙◌, arith, length-take-le}
 use Rattle.head_limits.specs.declared.Purpose.{Purpose}
 use Rattle.head_limits.specs.declared.Purpose.TheVariants.{Read}
 use Rattle.text.specs.declared.Manner.TheVariants.{Strict}
@@ -13,20 +14,15 @@ use Rattle.word.specs.Bytes.{Bytes}
 use Rattle.word.specs.Part.{part}
 use Rattle.word.specs.Round.{round4}
 use Rattle.word.specs.Word.{word_at}
-use Rattle.refusal.specs.declared.Verdict.TheVariants.{Accepted}
 use Rattle.strings.specs.Spelled.{Str, Spells}
 use Rattle.head_words.specs.HeadWords.{high_first, room_of, count_of}
 use Rattle.terminators.specs.Terminators.{string_end, line_end}
 use Rattle.image.specs.Image.{check_of}
 use Rattle.image.specs.Keeps.{strings_end}
-use Rattle.head.specs.declared.FileAnswer.TheVariants as file
 use Rattle.reader.specs.Questions.{file_answer, trace_answer, count_answer, nth_answer, find_answer, keyword_answer}
 use Rattle.reader.specs.Questions.{value_answer, number_answer, double_answer, location_answer, integers_answer, bits_answer}
 use Rattle.reader.specs.Questions.{integers_left, patterns_left, classes_left}
-use Rattle.refusal.specs.declared.Written.{Written}
-use Rattle.refusal.specs.declared.Written.TheVariants as written
-use Rattle.refusal.specs.declared.Written.TheVariants.{To}
-use Rattle.layout.specs.Layout.{slots_most, start_size, Trace, trace_bytes}
+use Rattle.layout.specs.Layout.{slots_most, Trace, trace_bytes}
 use Rattle.start.specs.Start.{start_answer, start_left}
 use Rattle.append.specs.Grown.{new_bytes}
 use Rattle.writer.specs.Answers.{add_answer, add_left}
@@ -43,26 +39,25 @@ use Rattle.growth.specs.AllBytes.{start_are_bytes}
 use Rattle.growth.proofs.AllBytes.{grown_are_bytes}
 use Rattle.afresh.specs.FileOf.{file_of, file_size, AllGood, Holds}
 use Rattle.afresh.proofs.Step.{start_afresh, add_afresh}
-use Rattle.afresh.specs.Calls.{after, answers_of, accepted_of, after_to, after_refused}
+use Rattle.afresh.specs.Calls.{after, accepted_of, after_to, after_refused}
 use Rattle.afresh.proofs.Calls.{after_accepted, start_grows}
 use Rattle.afresh.proofs.Calls.{calls_afresh}
-use Rattle.afresh.specs.Afresh.{lengths}
-use Rattle.afresh.proofs.Afresh.{none_refused, image_afresh, accepted_writable}
-use Rattle.demands.specs.GoodLists.{GoodList}
+use Rattle.refusal.specs.declared.Refusal.{Refusal}
+use Rattle.refusal.specs.Verdicts.{accepted}
 
 -- ---- "after each accepted addition the file is, byte for byte, the one that the whole list of accepted traces defines
 -- when written afresh": `after` are the buffer and the length that the calls leave, `accepted_of` the traces whose call
 -- answered a length. For every list of calls, so after each. Rules out an addition that writes the first trace and
 -- later only raises N, and one that a refused call in between disturbs.
 
-pub byte_for_byte : (xs : List ℕ) (order slots : ℕ) (sheet : List ℕ) (e : ℕ) → start_answer xs order slots sheet ≡ To e → (calls : List Trace)
+pub byte_for_byte : (xs : List ℕ) (order slots : ℕ) (sheet : List ℕ) (e : ℕ) → start_answer xs order slots sheet ≡ Ok e → (calls : List Trace)
     → (take (after (start_left xs order slots sheet) e calls).1 (after (start_left xs order slots sheet) e calls).0
     ≡ file_of (eqb order 1) slots sheet (accepted_of (start_left xs order slots sheet) e calls))
     × ((after (start_left xs order slots sheet) e calls).1 ≡ file_size slots sheet (accepted_of (start_left xs order slots sheet) e calls))
 byte_for_byte = calls_afresh
 
 -- past the image the buffer is as it was: "This and every other writer leave the bytes past what they write"
-pub past_the_image_nothing_changes : (xs : List ℕ) (order slots : ℕ) (sheet : List ℕ) (e : ℕ) → start_answer xs order slots sheet ≡ To e → (calls : List Trace)
+pub past_the_image_nothing_changes : (xs : List ℕ) (order slots : ℕ) (sheet : List ℕ) (e : ℕ) → start_answer xs order slots sheet ≡ Ok e → (calls : List Trace)
     → drop (after (start_left xs order slots sheet) e calls).1 (after (start_left xs order slots sheet) e calls).0
     ≡ drop (after (start_left xs order slots sheet) e calls).1 xs
 past_the_image_nothing_changes xs order slots sheet e to calls = (start_grows xs order slots sheet e to calls).past
@@ -71,10 +66,10 @@ past_the_image_nothing_changes xs order slots sheet e to calls = (start_grows xs
 -- call with a buffer of its own that holds the image at its start and has any bytes behind it. (A refused call leaves
 -- its buffer as it was, so it hands on the image that it got.)
 pub data Made (order slots : ℕ) (sheet : List ℕ) : List Trace → List ℕ → Type 0 where
-  a_start : (xs : List ℕ) (e : ℕ) → start_answer xs order slots sheet ≡ To e → Made order slots sheet [] (take e (start_left xs order slots sheet))
+  a_start : (xs : List ℕ) (e : ℕ) → start_answer xs order slots sheet ≡ Ok e → Made order slots sheet [] (take e (start_left xs order slots sheet))
   an_addition : {ts : List Trace} {f : List ℕ} → Made order slots sheet ts f → (xs : List ℕ) → length f ≤ length xs → take (length f) xs ≡ f
       → (x : Trace) (end : ℕ)
-      → add_answer xs (length f) x ≡ To end → Made order slots sheet (ts ++ (x ∷ [])) (take end (add_left xs (length f) x))
+      → add_answer xs (length f) x ≡ Ok end → Made order slots sheet (ts ++ (x ∷ [])) (take end (add_left xs (length f) x))
 
 record ImageOf (order slots : ℕ) (sheet : List ℕ) (ts : List Trace) (f : List ℕ) : Type 0 where
   pub image : f ≡ file_of (eqb order 1) slots sheet ts
@@ -109,7 +104,7 @@ refused_calls_leave_no_trace = after_accepted
 -- trace count, one free pointer and the bytes from the old end to the new end": of the lent buffer, byte by byte. Rules
 -- out an addition that moves the file's blocks, or writes past its end.
 
-module _ (xs : List ℕ) (n : ℕ) (x : Trace) (end : ℕ) (to : add_answer xs n x ≡ To end) where
+module _ (xs : List ℕ) (n : ℕ) (x : Trace) (end : ℕ) (to : add_answer xs n x ≡ Ok end) where
   pub only_these_bytes_change : (i : ℕ) → (i < 6) ⊎ (8 ≤ i) → (i < 32 + 4 * count_of (take n xs)) ⊎ (36 + 4 * count_of (take n xs) ≤ i) → (i < n) ⊎ (end ≤ i)
       → get_or (add_left xs n x) i 0 ≡ get_or xs i 0
   only_these_bytes_change i p q r = rw (add_left_lem xs n x end to) (grown_byte (added xs n x end to) i p q r)
@@ -135,7 +130,7 @@ module _ (xs : List ℕ) (n : ℕ) (x : Trace) (end : ℕ) (to : add_answer xs n
   -- on a part it answers still. Rules out an addition that spoils what stood there.
 
   module _ (by : Bytes xs) where
-    pub grown_file_is_accepted : (purpose : Purpose) → check_of Strict purpose (add_left xs n x) end ≡ Accepted
+    pub grown_file_is_accepted : (purpose : Purpose) → check_of Strict purpose (add_left xs n x) end ≡ accepted
     grown_file_is_accepted purpose = rw (add_left_lem xs n x end to) (grown_accepted purpose by (added xs n x end to))
 
     -- so the next call's laws hold of it as well
@@ -160,7 +155,7 @@ pub record AnsweredAlike (ys : List ℕ) (m : ℕ) (xs : List ℕ) (n : ℕ) (z 
   pub classes_left_lem : (row classes : List ℕ) → classes_left Strict ys m z row classes ≡ classes_left Strict xs n z row classes
 
 -- the file (-1) and the traces that it had
-pub earlier_read_as_before : (xs : List ℕ) (n : ℕ) (x : Trace) (end : ℕ) → add_answer xs n x ≡ To end → Bytes xs → check_of Strict Read xs n ≡ Accepted
+pub earlier_read_as_before : (xs : List ℕ) (n : ℕ) (x : Trace) (end : ℕ) → add_answer xs n x ≡ Ok end → Bytes xs → check_of Strict Read xs n ≡ accepted
     → (z : ℤ) → still.Old z (count_of (take n xs)) → AnsweredAlike (add_left xs n x) end xs n z
 earlier_read_as_before xs n x end to by ok z old =
     let h = added xs n x end to in
@@ -225,17 +220,17 @@ old_still : (z : ℤ) (n m : ℕ) → n ≤ m → still.Old z n → still.Old z 
 old_still (pos k) n m l o = omega arith
 old_still (negsuc k) n m l o = tt
 
-pub earlier_read_as_before_always : (calls : List Trace) (xs : List ℕ) (n : ℕ) → Bytes xs → check_of Strict Read xs n ≡ Accepted → (z : ℤ)
+pub earlier_read_as_before_always : (calls : List Trace) (xs : List ℕ) (n : ℕ) → Bytes xs → check_of Strict Read xs n ≡ accepted → (z : ℤ)
     → still.Old z (count_of (take n xs)) → AnsweredAlike (after xs n calls).0 (after xs n calls).1 xs n z
 unfolding after
 earlier_read_as_before_always [] xs n by ok z old = alike_still xs n z
 earlier_read_as_before_always (x ∷ calls) xs n by ok z old = go (add_answer xs n x) refl (earlier_read_as_before_always calls)
   where
-    go : (w : Written) → add_answer xs n x ≡ w
-        → ((ys : List ℕ) (m : ℕ) → Bytes ys → check_of Strict Read ys m ≡ Accepted → (y : ℤ) → still.Old y (count_of (take m ys))
+    go : (w : Result ℕ Refusal) → add_answer xs n x ≡ w
+        → ((ys : List ℕ) (m : ℕ) → Bytes ys → check_of Strict Read ys m ≡ accepted → (y : ℤ) → still.Old y (count_of (take m ys))
         → AnsweredAlike (after ys m calls).0 (after ys m calls).1 ys m y)
         → AnsweredAlike (after xs n (x ∷ calls)).0 (after xs n (x ∷ calls)).1 xs n z
-    go (To end) h more =
+    go (Ok end) h more =
         let c : count_of (take end (add_left xs n x)) ≡ count_of (take n xs) + 1 =
         rw (add_left_lem xs n x end h) (count_grown (grown_grows by (added xs n x end h))) in
         rw (after_to xs n x calls end h)
@@ -243,11 +238,11 @@ earlier_read_as_before_always (x ∷ calls) xs n by ok z old = go (add_answer xs
         (more (add_left xs n x) end (grown_buffer_is_of_bytes xs n x end h by) (grown_file_is_accepted xs n x end h by Read) z
         (old_still z (count_of (take n xs)) (count_of (take end (add_left xs n x))) (omega arith) old))
         (earlier_read_as_before xs n x end h by ok z old))
-    go (written.Refused r) h more = rw (after_refused xs n x calls r h) (more xs n by ok z old)
+    go (Err r) h more = rw (after_refused xs n x calls r h) (more xs n by ok z old)
 
 -- the file's strings also where there was no trace, so that no reader took the image: they are those that its bytes
 -- spelled to its end
-pub file_strings_read_as_before : (xs : List ℕ) (n : ℕ) (x : Trace) (end : ℕ) (ss : List Str) → add_answer xs n x ≡ To end → Bytes xs
+pub file_strings_read_as_before : (xs : List ℕ) (n : ℕ) (x : Trace) (end : ℕ) (ss : List Str) → add_answer xs n x ≡ Ok end → Bytes xs
     → Spells Strict (high_first (take n xs)) (string_end (take n xs)) (line_end (take n xs)) ss
     (part (32 + room_of (take n xs)) (strings_end (take n xs)) (take n xs))
     → AnswersBy Strict (add_left xs n x) end (negsuc 0) ss
@@ -256,10 +251,9 @@ file_strings_read_as_before xs n x end ss to by s = rw (add_left_lem xs n x end 
 -- ---- "and the new one reads last": there is one trace more, and the last, trace N, reads as given (Reading
 -- `new_trace_reads_back`). Rules out an addition that puts it elsewhere in the order.
 
-pub one_trace_more : (xs : List ℕ) (n : ℕ) (x : Trace) (end : ℕ) → add_answer xs n x ≡ To end → Bytes xs
+pub one_trace_more : (xs : List ℕ) (n : ℕ) (x : Trace) (end : ℕ) → add_answer xs n x ≡ Ok end → Bytes xs
     → file_answer Strict (add_left xs n x) end
-    ≡ file.Is
-    (record {
+    ≡ Ok (record {
       high = high_first (take n xs);
       m = room_of (take n xs);
       n = count_of (take n xs) + 1;
@@ -269,6 +263,6 @@ pub one_trace_more : (xs : List ℕ) (n : ℕ) (x : Trace) (end : ℕ) → add_a
 one_trace_more xs n x end to by = rw (add_left_lem xs n x end to) (stays.file_answer_grown by (added xs n x end to))
 
 -- a started buffer is one of bytes too, so that all this holds from the start on
-pub started_buffer_is_of_bytes : (xs : List ℕ) (order slots : ℕ) (sheet : List ℕ) (e : ℕ) → start_answer xs order slots sheet ≡ To e → Bytes xs
+pub started_buffer_is_of_bytes : (xs : List ℕ) (order slots : ℕ) (sheet : List ℕ) (e : ℕ) → start_answer xs order slots sheet ≡ Ok e → Bytes xs
     → Bytes (start_left xs order slots sheet)
 started_buffer_is_of_bytes xs order slots sheet e to by = rw (start_left_lem xs order slots sheet e to) (start_are_bytes xs by (started xs order slots sheet e to))

@@ -1,11 +1,10 @@
 -- The file of a list reads as the list: N, each trace's block, strings and samples, and the file's strings, in either
 -- order.
 -- Assumes nothing.
-use Rattle.std.specs.Prelude.{◌≡◌, Bool, List, ℕ, ◌+◌, ◌*◌, ◌≤◌, ◌<◌, negsuc, length, get_or, take}
+use Rattle.std.specs.Prelude.{◌≡◌, Bool, List, ℕ, ◌+◌, ◌*◌, ◌≤◌, ◌<◌, negsuc, length, get_or, take, Ok}
 use Rattle.std.proofs.Common.{arith}
 use Rattle.head_limits.specs.declared.Purpose.TheVariants.{Read}
 use Rattle.text.specs.declared.Manner.TheVariants.{Strict}
-use Rattle.refusal.specs.declared.Verdict.TheVariants.{Accepted}
 use Rattle.word.specs.Part.{part}
 use Rattle.strings.specs.Spelled.{Spells}
 use Rattle.sheet.specs.Area.{sheet_strings}
@@ -15,7 +14,6 @@ use Rattle.head.specs.Head.{maximum}
 use Rattle.terminators.specs.Terminators.{string_end, line_end}
 use Rattle.image.specs.Image.{check_of}
 use Rattle.image.specs.Keeps.{trace_at}
-use Rattle.head.specs.declared.FileAnswer.TheVariants as file
 use Rattle.reader.specs.Questions.{file_answer}
 use Rattle.reader.specs.Listed.{file_area}
 use Rattle.layout.specs.Layout.{slots_most, nul, line_feed, Trace}
@@ -27,6 +25,7 @@ use Rattle.afresh.specs.Stands.{empty_trace}
 use Rattle.afresh.proofs.Stands.{file_traces}
 use Rattle.afresh.specs.Kept.{feed_ends}
 use Rattle.afresh.proofs.Kept.{file_strings, file_accepted}
+use Rattle.refusal.specs.Verdicts.{accepted}
 
 -- trace k stands in the file of a list
 file_standing : (high : Bool) (slots : ℕ) (sheet : List ℕ) (ts : List Trace) (k : ℕ) → slots ≤ slots_most → length ts ≤ slots → EachGood ts
@@ -47,7 +46,7 @@ file_standing high slots sheet ts k few slotted good most low =
 
 module _ {high : Bool} {slots : ℕ} {sheet : List ℕ} {ts : List Trace} {xs : List ℕ} {n : ℕ} (is : Holds high slots sheet ts xs n) (some : 1 ≤ slots)
     (measures : Measures sheet) (most : n ≤ maximum) where
-  list_accepted : 0 < length ts → check_of Strict Read xs n ≡ Accepted
+  list_accepted : 0 < length ts → check_of Strict Read xs n ≡ accepted
   list_accepted l = file_accepted Read high slots sheet ts xs n is some measures most (λ z. absurd (omega arith))
 
   pub list_reads : (k : ℕ) → k < length ts → ReadsAs xs n k (file_size slots sheet (take k ts)) (get_or ts k empty_trace)
@@ -55,7 +54,7 @@ module _ {high : Bool} {slots : ℕ} {sheet : List ℕ} {ts : List Trace} {xs : 
       let s = is.size in
       reads_as (list_accepted (omega arith)) (rw is.image (file_standing high slots sheet ts k is.few is.slotted is.good.0 (omega arith) low))
 
-  pub list_file_block : 0 < length ts → file_answer Strict xs n ≡ file.Is (record { high = high; m = 4 * slots; n = length ts; strings = 1; lines = 1 })
+  pub list_file_block : 0 < length ts → file_answer Strict xs n ≡ Ok (record { high = high; m = 4 * slots; n = length ts; strings = 1; lines = 1 })
   unfolding file_answer file_block_of
   list_file_block l =
       let f = file_fronted high slots sheet ts is.few is.slotted in

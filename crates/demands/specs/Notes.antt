@@ -6,7 +6,6 @@ use Rattle.std.specs.Prelude.{◌≡◌, Bool, List, [], ◌∷◌, ℕ, zero, s
 use Rattle.std.proofs.Common.{arith}
 use Rattle.head_limits.specs.declared.Purpose.TheVariants.{Read}
 use Rattle.text.specs.declared.Manner.TheVariants.{Strict}
-use Rattle.refusal.specs.declared.Verdict.TheVariants.{Accepted}
 use Rattle.chars.specs.Chars.{note}
 use Rattle.note.specs.Note.{lines_of, with_ends, Each, Characters, Lacks, LineEnd, Lines}
 use Rattle.note.proofs.Note.{lines_back}
@@ -18,6 +17,7 @@ use Rattle.image.specs.Image.{check_of}
 use Rattle.image.specs.Accepted.{image_headed}
 use Rattle.reader.specs.Listed.{Lists}
 use Rattle.reader.specs.Reach.{checked}
+use Rattle.refusal.specs.Verdicts.{accepted}
 
 -- each string of a list that is spelled may be written
 rising_good : (t u prev : List ℕ) (ss : List Str) (i : ℕ) → Rising Strict t u prev ss → i < length ss → GoodString Strict t u (nth_str ss i)
@@ -34,7 +34,7 @@ spelled_good {high = high} {t = t} {u = u} ss i given low = go ss _ given low
 
 -- Rules out a reading of a NOTE that gives one line which holds everything, loses a line or an empty one, or cuts a
 -- line in two.
-pub note_is_its_lines : (xs : List ℕ) (n : ℕ) (z : ℤ) (ss : List Str) → check_of Strict Read xs n ≡ Accepted → Lists Strict (take n xs) z ss
+pub note_is_its_lines : (xs : List ℕ) (n : ℕ) (z : ℤ) (ss : List Str) → check_of Strict Read xs n ≡ accepted → Lists Strict (take n xs) z ss
     → (i : ℕ) → i < length ss → (nth_str ss i).key ≡ note
     → (u v : List ℕ) → u ≡ line_end (take n xs) → v ≡ (nth_str ss i).value
     -- value characters and whole line terminators, in any order

@@ -2,49 +2,27 @@
 -- running, in files and in sheets; all others still rise strictly. A keyword question answers the first. Demands 2 and
 -- 3 read with this order."
 -- Assumes nothing.
-use Rattle.std.specs.Prelude.{◌≡◌, true, false, ◌↔◌, ◌⊎◌, ℕ, ◌≤◌, ◌<◌, ℤ, pos, length, take}
-use Rattle.std.proofs.Math.Path.{refl}
-use Rattle.std.proofs.Common.{sym, ap, subst, ◌∙◌, inl, inr, ⊎_elim, arith}
-use mathlib.Core.List.{List, [], ◌∷◌}
-use Rattle.word.specs.Tests.{never}
+use Rattle.std.specs.Prelude.{◌≡◌, true, false, ◌↔◌, ◌⊎◌, ℕ, ◌<◌, ℤ, length, take, Ok, List, [], ◌∷◌}
+use Rattle.std.proofs.Common.{sym, ap, ◌∙◌, inl, inr, ⊎_elim}
 use Rattle.text.specs.declared.Manner.TheVariants.{Strict}
-use Rattle.chars.specs.Chars.{key_char, note}
-use Rattle.chars.specs.Runs.{run, all, same}
+use Rattle.chars.specs.Runs.{all}
 use Rattle.key_order.specs.Order.{before, receiver_geometry, source_geometry, rises, repeats_two, rises_so}
 use Rattle.key_order.proofs.Order.{rises_again}
-use Rattle.key_order.specs.Order.{rises_later, rises_first}
-use Rattle.note.specs.Note.{Each}
+use Rattle.key_order.specs.Order.{rises_later}
 use Rattle.strings.specs.Spelled.{Str, nth_str, value_of_key}
 use Rattle.strings.specs.Paper.{keywords_once}
 use Rattle.decimal.specs.Number.{number_in}
 use Rattle.double.specs.Double.{double_of}
 use Rattle.location.specs.Location.{location_of}
-use Rattle.sample.specs.Needed.{needed, room}
-use Rattle.sheet.specs.declared.Measured.TheVariants.{Size}
-use Rattle.sheet_line.specs.SheetLine.{plain, spaced, line_len, line_key_len}
-use Rattle.sheet.specs.Lines.{Line, sheet_lines_from, sheet_lines}
-use Rattle.sheet.specs.Area.{area_most, joined, sheet_strings, text_size, area_size, area_of, measured_of}
-use Rattle.sheet.specs.Sizes.{length_area}
-use Rattle.sheet.specs.Paper.{sheet_of, GoodLines, lines_read}
-use Rattle.channel.specs.Channel.{channel_number}
-use Rattle.channel_line.specs.ChannelLine.{has_line}
-use Rattle.area.specs.Meaning.{strs_of}
-use Rattle.reader.specs.declared.KeywordAnswer.TheVariants.{Yes}
+use Rattle.sheet_line.specs.SheetLine.{plain, spaced}
+use Rattle.sheet.specs.Lines.{Line}
+use Rattle.sheet.specs.Paper.{sheet_of}
 use Rattle.reader.specs.Questions.{yes_or_no, value_there, nth_answer, find_answer, keyword_answer, value_answer, number_answer}
 use Rattle.reader.specs.Questions.{double_answer, location_answer}
 use Rattle.reader.specs.Listed.{Lists}
-use Rattle.refusal.specs.declared.Written.TheVariants.{To}
-use Rattle.layout.specs.Layout.{nul, line_feed, start_size, Trace, count, trace_size}
-use Rattle.start.specs.Start.{start_answer, start_left}
+use Rattle.layout.specs.Layout.{Trace}
 use Rattle.growth.specs.Answered.{AnswersBy}
-use Rattle.afresh.specs.FileOf.{sizes, file_of, file_size, has_channel}
-use Rattle.afresh.specs.Calls.{answers_of}
-use Rattle.afresh.specs.Afresh.{Writable, lengths}
-use Rattle.afresh.proofs.Afresh.{start_accepted, none_refused, written_afresh}
-use Rattle.afresh.specs.Worked.{units, shot, worked_sizes, worked_good}
-use Rattle.demands.specs.ListReads.{list_reads}
-use Rattle.demands.specs.Reading.{lines_are_let_through}
-use Rattle.demands.specs.Excluded.{buffer_of}
+use Rattle.afresh.specs.Worked.{shot}
 
 -- one of the two
 abbrev pub Geometry : List ℕ → Type 0
@@ -73,7 +51,7 @@ each_once_but_the_two f z ss l i j low high e = let o = keywords_once ss i j l.s
 pub the_first_is_answered : (xs : List ℕ) (n : ℕ) (z : ℤ) (ss : List Str) → AnswersBy Strict xs n z ss → (key : List ℕ) (i : ℕ) → i < length ss
     → (nth_str ss i).key ≡ key → ((j : ℕ) → j < i → (nth_str ss j).key ≡ key → ⊥)
     → (find_answer Strict xs n z key ≡ nth_answer Strict xs n z i)
-    × (keyword_answer Strict xs n z key ≡ Yes)
+    × (keyword_answer Strict xs n z key ≡ Ok true)
     × (value_answer Strict xs n z key ≡ (nth_str ss i).value)
     × (number_answer Strict xs n z key ≡ number_in (nth_str ss i).value)
     × (double_answer Strict xs n z key ≡ double_of (nth_str ss i).value)

@@ -2,18 +2,11 @@
 -- accepts any order and repeats, and ends a list where no byte of the area is left"), without the manner of reading, and
 -- that what `Spells` asks in the lenient manner is just this. Rules out a manner that forgives more or less than the text.
 -- Assumes nothing.
-use Rattle.std.specs.Prelude.{◌≡◌, refl, Bool, true, false, ◌&&◌, List, [], ◌∷◌, ◌++◌, ◌⊎◌, ◌↔◌, ℕ, zero, suc, ◌+◌, ◌-◌, ◌≤◌, ◌<◌, length, get_or, leb, eqb}
-use Rattle.std.proofs.Common.{sym, ap, ap₂, ◌∙◌, inl, inr, ⊎_elim, arith, leb-true, leb-false, le-leb}
-use Rattle.std.proofs.lemmas.Bool.{lt-leb}
-use Rattle.word.specs.Tests.{both}
-use Rattle.refusal.specs.Rows.{pick}
-use Rattle.text.specs.declared.Manner.TheVariants.{Lenient}
-use Rattle.text.specs.Manner.{letter, named}
-use Rattle.letters.specs.Upper.{upper, uppered, loose_codes}
+use Rattle.std.specs.Prelude.{◌≡◌, Bool, true, List, [], ◌∷◌, ◌⊎◌, ℕ, ◌+◌, ◌≤◌, ◌<◌, length}
 use Rattle.chars.specs.Chars.{blank, note}
 use Rattle.chars.specs.Runs.{all, Stops}
 use Rattle.note.specs.Note.{Characters, Lines}
-use Rattle.strings.specs.Spelled.{Str, GoodString, Rising, size_of, texts, marked_end, Ends, Ends.mark, Ends.none, Spells, Spells.empty, Spells.full}
+use Rattle.strings.specs.Spelled.{Str, size_of, texts, marked_end}
 
 -- a byte that may stand in a keyword: 33 to 126, so the lower-case letters too
 abbrev pub KeyByte : ℕ → Type 0

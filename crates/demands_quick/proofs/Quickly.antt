@@ -1,28 +1,18 @@
 -- Theorems on what specs/Quickly defines. They stand here, as a wrong definition there is to be refused and not to be unread.
 -- Assumes nothing.
-use Rattle.std.specs.Prelude.{◌≡◌, Bool, not, ◌↔◌, ℤ, length, drop, eqb}
-use Rattle.std.proofs.Math.Path.{refl, sym, ap}
-use Rattle.std.proofs.Common.{ap₂, ◌∙◌}
-use Rattle.std.proofs.Math.Bool.{true, false}
-use mathlib.Core.List.{List, [], ◌∷◌, ◌++◌}
-use Prim.Native.Nat.{ℕ, zero, suc, ◌+◌}
-use Rattle.std.proofs.Math.ListN.{take}
+use Rattle.std.specs.Prelude.{◌≡◌, Bool, not, ◌↔◌, ℤ, length, drop, eqb, Result, Ok, Err, Option, Some, None, refl, true, false, List, [], ◌∷◌, ◌++◌}
+use Rattle.std.specs.Prelude.{ℕ, zero, suc, ◌+◌, take}
+use Rattle.std.proofs.Common.{sym, ap, ap₂, ◌∙◌}
 use Rattle.word.specs.Part.{part}
 use Rattle.refusal.specs.declared.Rule.TheVariants.{Length, StringOffset, NoTrace}
 use Rattle.refusal.specs.declared.Part.{Part}
 use Rattle.refusal.specs.declared.Part.TheVariants.{File, Trace}
 use Rattle.refusal.specs.declared.Refusal.{Refusal}
-use Rattle.refusal.specs.declared.Verdict.{Verdict}
-use Rattle.refusal.specs.declared.Verdict.TheVariants.{Accepted, Refused}
 use Rattle.refusal.specs.Table.{refusal}
 use Rattle.refusal.specs.Rows.{pick, ruled_map}
-use Rattle.refusal.specs.Verdicts.{and_then, asked}
+use Rattle.refusal.specs.Verdicts.{and_then, asked, accepted}
 use Rattle.refusal.specs.FirstRow.{row, first_of, Met, refused_by_the_first, first_next, first_one, first_more, rows_at, rule_first, each}
 use Rattle.text.specs.declared.Manner.TheVariants.{Strict}
-use Rattle.strings.specs.declared.Frame.{Frame}
-use Rattle.strings.specs.declared.Frame.TheVariants.{Broken}
-use Rattle.strings.specs.declared.Step.{Step}
-use Rattle.strings.specs.declared.Step.TheVariants.{Next, Done, Bad}
 use Rattle.strings.specs.declared.Place.{Place}
 use Rattle.strings.specs.Strings.{offset, body, key_len, frame_rows, end_or_text, frame_of, text_rows, on_frame, step_of, on_step, place_of}
 use Rattle.head_limits.specs.declared.Purpose.TheVariants.{Read}
@@ -33,23 +23,16 @@ use Rattle.block.specs.Block.{data_at, block_rows, block_of, pointer_row}
 use Rattle.block.specs.BlockLaws.{head_at}
 use Rattle.file_length.specs.FileLength.{bad_length}
 use Rattle.image.specs.Keeps.{trace_at}
-use Rattle.block.specs.declared.TraceAnswer.TheVariants as trace
-use Rattle.reader.specs.declared.StringAnswer.{StringAnswer}
-use Rattle.reader.specs.declared.StringAnswer.TheVariants as string
 use Rattle.reader.specs.Questions.{is_trace, trace_number, block_at, on_string}
 use Rattle.reader.specs.Questions.{strings_verdict}
 use Rattle.reader.specs.Questions.{integers_verdict, integers_rows}
 use Rattle.reader.specs.Questions.{bits_verdict, bits_rows}
-use Rattle.decimal_parts.specs.declared.NumberAnswer.TheVariants as number
 use Rattle.decimal.specs.Number.{number_in}
-use Rattle.double.specs.declared.DoubleAnswer.TheVariants as double
 use Rattle.double.specs.Double.{double_of}
-use Rattle.location.specs.declared.LocationAnswer.TheVariants as location
 use Rattle.location.specs.Location.{location_of}
 use Rattle.until.specs.declared.Turn.{Turn}
 use Rattle.until.specs.declared.Turn.TheVariants.{Here, Gone, On}
 use Rattle.until.specs.declared.Walked.{Walked}
-use Rattle.until.specs.declared.Walked.TheVariants as walked
 use Rattle.until.specs.Until.{by_key, by_index, to_end, on_turn, walk_from, walk_of}
 use Rattle.quick.specs.QuickLaws.{never_string, all_counted}
 use Rattle.one_trace.specs.Alone.{alone_of, block_alone}
@@ -61,18 +44,21 @@ use Rattle.demands_rows.specs.QuestionRows.{ruled_rows}
 use Rattle.demands_quick.specs.Quickly.{count_refusal, double_refusal, location_refusal, number_refusal, quick_rows}
 use Rattle.demands_quick.specs.Quickly.{row_of32, string_refusal, strings_rows, trace_refusal, walk_refusal}
 use Rattle.demands_quick.specs.Quickly.{walk_rows}
+use Rattle.refusal.specs.declared.Rule.{Rule}
+use Rattle.refusal.specs.Verdicts.{Verdict}
+use Rattle.until.specs.declared.Walked.TheVariants as walked
 
 -- ---- the rows of a walk
 
 -- what a step leads to, refused or not
-step_refusal : (st : Step) (j : ℕ) (next : ℕ → ℕ → Walked)
-    → walk_refusal (Rattle.until.specs.Until.on_step st walked.Bad (walked.Over j) next) ≡ on_step st (λ o n. walk_refusal (next o n))
-step_refusal (Next o n) j next = refl
-step_refusal Done j next = refl
-step_refusal (Bad r) j next = refl
+step_refusal : (st : Result (Option (ℕ × ℕ)) Refusal) (j : ℕ) (next : ℕ → ℕ → Result Walked Refusal)
+    → walk_refusal (Rattle.until.specs.Until.on_step st Err (Ok (walked.Over j)) next) ≡ on_step st (λ o n. walk_refusal (next o n))
+step_refusal (Ok (Some (o, n))) j next = refl
+step_refusal (Ok None) j next = refl
+step_refusal (Err r) j next = refl
 
-turn_refusal : (w : Turn) (j : ℕ) (s : Place) (x : Walked) (rows : List Verdict) → walk_refusal x ≡ first_of rows
-    → walk_refusal (on_turn w (walked.At s) (walked.Over j) x) ≡ first_of (on_turn w [] [] rows)
+turn_refusal : (w : Turn) (j : ℕ) (s : Place) (x : Result Walked Refusal) (rows : List Verdict) → walk_refusal x ≡ first_of rows
+    → walk_refusal (on_turn w (Ok (walked.At s)) (Ok (walked.Over j)) x) ≡ first_of (on_turn w [] [] rows)
 unfolding first_of
 turn_refusal Here j s x rows h = refl
 turn_refusal Gone j s x rows h = refl
@@ -82,20 +68,20 @@ module _ (look : ℕ → List ℕ → Turn) where
   walk_first : (m : ℕ) (high : Bool) (t u : List ℕ) (p : Part) (j : ℕ) (prev l : List ℕ) (at : ℕ)
       → walk_refusal (walk_from look m high t u p j prev l at) ≡ first_of (walk_rows look m high t u p j prev l at)
   unfolding walk_from walk_rows step_of frame_of on_frame
-  walk_first zero high t u p j prev l at = first_one (Refused (refusal StringOffset p at))
+  walk_first zero high t u p j prev l at = first_one (Err (refusal StringOffset p at))
   walk_first (suc m) high t u p j prev l at =
       let o : ℕ = offset high l in
       let b : List ℕ = body t o l in
       let k : List ℕ = take (key_len b) (drop 2 l) in
-      let step : ℕ → ℕ → Walked =
+      let step : ℕ → ℕ → Result Walked Refusal =
       λ i n.
-      on_turn (look j (take n (drop 2 l))) (walked.At (place_of t i l at)) (walked.Over j)
+      on_turn (look j (take n (drop 2 l))) (Ok (walked.At (place_of t i l at))) (Ok (walked.Over j))
       (walk_from look m high t u p (j + 1) (take n (drop 2 l)) (drop i l) (at + i)) in
       let next : ℕ → ℕ → Verdict = λ i n. walk_refusal (step i n) in
       let more : List Verdict = on_turn (look j k) [] [] (walk_rows look m high t u p (j + 1) k (drop o l) (at + o)) in
       let rs = frame_rows Strict high t l in
       step_refusal (step_of Strict high t u p prev l at) j step
-      ∙ ruled_map (λ (w : Frame). on_step (on_frame Strict w t u prev l p at) next) rs Broken (end_or_text high l)
+      ∙ ruled_map (λ (w : Result (Option ℕ) Rule). on_step (on_frame Strict w t u prev l p at) next) rs Err (end_or_text high l)
       ∙ rule_first rs p at (on_step (on_frame Strict (end_or_text high l) t u prev l p at) next)
       ∙ ap (and_then (first_of (rows_at p at rs)))
       (ends_first Strict (eqb o 0) o t u prev l p at next (rows_at p at (text_rows Strict u prev b) ++ more)
@@ -108,13 +94,13 @@ module _ (look : ℕ → List ℕ → Turn) where
   unfolding walk_in walk_of
   strings_first f k =
       let l : List ℕ = part (trace_at f k + 32) (data_at (high_first f) f (trace_at f k)) f in
-      let x : Walked = walk_from look (length l) (high_first f) (string_end f) (line_end f) (Trace k) 0 [] l (trace_at f k + 32) in
+      let x : Result Walked Refusal = walk_from look (length l) (high_first f) (string_end f) (line_end f) (Trace k) 0 [] l (trace_at f k + 32) in
       outside (eqb (length l) 0) x
       ∙ pick_first (eqb (length l) 0) (walk_refusal x)
       (walk_rows look (length l) (high_first f) (string_end f) (line_end f) (Trace k) 0 [] l (trace_at f k + 32))
       (walk_first (length l) (high_first f) (string_end f) (line_end f) (Trace k) 0 [] l (trace_at f k + 32))
     where
-      outside : (w : Bool) (y : Walked) → walk_refusal (pick w (walked.Over 0) y) ≡ pick w Accepted (walk_refusal y)
+      outside : (w : Bool) (y : Result Walked Refusal) → walk_refusal (pick w (Ok (walked.Over 0)) y) ≡ pick w accepted (walk_refusal y)
       outside true y = refl
       outside false y = refl
 
@@ -148,7 +134,7 @@ rows_first xs n z own =
     ∙ sym (first_more heads (gone ∷ eight ∷ (blocks ++ own))))
     ∙ sym (first_next one (heads ++ (gone ∷ eight ∷ (blocks ++ own))))
 
-quickly_first : {A : Type 0} (refuses : A → Verdict) (bad : Refusal → A) (mk : List ℕ → ℕ → A) → ((r : Refusal) → refuses (bad r) ≡ Refused r)
+quickly_first : {A : Type 0} (refuses : A → Verdict) (bad : Refusal → A) (mk : List ℕ → ℕ → A) → ((r : Refusal) → refuses (bad r) ≡ Err r)
     → (xs : List ℕ) (n : ℕ) (z : ℤ) (own : List Verdict) → refuses (mk (take n xs) (trace_number z)) ≡ first_of own
     → refuses (quickly bad mk xs n z) ≡ first_of (quick_rows xs n z own)
 unfolding and_then
@@ -156,31 +142,31 @@ quickly_first {A} refuses bad mk b xs n z own h =
     outside (alone_of xs n z) (mk (take n xs) (trace_number z)) ∙ ap (and_then (alone_of xs n z)) h ∙ rows_first xs n z own
   where
     outside : (v : Verdict) (x : A) → refuses (asked bad v x) ≡ and_then v (refuses x)
-    outside Accepted x = refl
-    outside (Refused r) x = b r
+    outside (Ok _) x = refl
+    outside (Err r) x = b r
 
 -- each answer refuses by the first row that is met, and else not at all. Rules out 18 before 7 or behind 8, a pointer that is
 -- compared with the trace before, a string that is not judged, one that is judged though it is not read, and 34.
 pub block_answers_first : (xs : List ℕ) (n : ℕ) (z : ℤ) → trace_refusal (block_alone xs n z) ≡ first_of (quick_rows xs n z [])
 unfolding block_alone first_of
-block_answers_first xs n z = quickly_first trace_refusal trace.Refused (λ f k. trace.Is (block_at f k)) (λ r. refl) xs n z [] refl
+block_answers_first xs n z = quickly_first trace_refusal Err (λ f k. Ok (block_at f k)) (λ r. refl) xs n z [] refl
 
 walk_answers_first : (look : ℕ → List ℕ → Turn) (xs : List ℕ) (n : ℕ) (z : ℤ)
     → walk_refusal (quick_walk look xs n z) ≡ first_of (quick_rows xs n z (strings_rows look (take n xs) (trace_number z)))
 unfolding quick_walk
 walk_answers_first look xs n z =
-    quickly_first walk_refusal walked.Bad (walk_in look) (λ r. refl) xs n z (strings_rows look (take n xs) (trace_number z))
+    quickly_first walk_refusal Err (walk_in look) (λ r. refl) xs n z (strings_rows look (take n xs) (trace_number z))
     (strings_first look (take n xs) (trace_number z))
 
-told_refusal : (w : Walked) → string_refusal (told_by w) ≡ walk_refusal w
-told_refusal (walked.At s) = refl
-told_refusal (walked.Over j) = refl
-told_refusal (walked.Bad r) = refl
+told_refusal : (w : Result Walked Refusal) → string_refusal (told_by w) ≡ walk_refusal w
+told_refusal (Ok (walked.At s)) = refl
+told_refusal (Ok (walked.Over j)) = refl
+told_refusal (Err r) = refl
 
-counted_refusal : (w : Walked) → count_refusal (counted_by w) ≡ walk_refusal w
-counted_refusal (walked.At s) = refl
-counted_refusal (walked.Over j) = refl
-counted_refusal (walked.Bad r) = refl
+counted_refusal : (w : Result Walked Refusal) → count_refusal (counted_by w) ≡ walk_refusal w
+counted_refusal (Ok (walked.At s)) = refl
+counted_refusal (Ok (walked.Over j)) = refl
+counted_refusal (Err r) = refl
 
 pub quick_answers_first : (xs : List ℕ) (n : ℕ) (z : ℤ) (key : List ℕ)
     → string_refusal (quick_find xs n z key) ≡ first_of (quick_rows xs n z (strings_rows (by_key key) (take n xs) (trace_number z)))
@@ -203,7 +189,7 @@ pub strings_answer_first : (xs : List ℕ) (n : ℕ) (z : ℤ) (s : ℕ)
 unfolding quick_strings quick_count quick_walk and_then
 strings_answer_first xs n z s =
     outside (alone_of xs n z) (walk_in to_end f k)
-    ∙ quickly_first (λ v. v) Refused (λ l i. strings_verdict (counted_by (walk_in to_end l i)) s) (λ r. refl) xs n z
+    ∙ quickly_first (λ v. v) Err (λ l i. strings_verdict (counted_by (walk_in to_end l i)) s) (λ r. refl) xs n z
     (strings_rows to_end f k ++ (row_of32 f k s ∷ []))
     (own (walk_in to_end f k) refl ∙ ap (λ (v : Verdict). and_then v (row_of32 f k s)) (strings_first to_end f k)
     ∙ ap (and_then (first_of (strings_rows to_end f k))) (first_one (row_of32 f k s)) ∙ sym (first_more (strings_rows to_end f k) (row_of32 f k s ∷ [])))
@@ -214,17 +200,17 @@ strings_answer_first xs n z s =
     k : ℕ
     k = trace_number z
 
-    outside : (v : Verdict) (w : Walked) → strings_verdict (counted_by (asked walked.Bad v w)) s ≡ asked Refused v (strings_verdict (counted_by w) s)
-    outside Accepted w = refl
-    outside (Refused r) w = refl
+    outside : (v : Verdict) (w : Result Walked Refusal) → strings_verdict (counted_by (asked Err v w)) s ≡ asked Err v (strings_verdict (counted_by w) s)
+    outside (Ok _) w = refl
+    outside (Err r) w = refl
 
-    own : (w : Walked) → walk_in to_end f k ≡ w → strings_verdict (counted_by w) s ≡ and_then (walk_refusal w) (row_of32 f k s)
-    own (walked.At p) h = absurd (never_string f k p h)
-    own (walked.Over c) h = rw (all_counted f k c h)
-    own (walked.Bad r) h = refl
+    own : (w : Result Walked Refusal) → walk_in to_end f k ≡ w → strings_verdict (counted_by w) s ≡ and_then (walk_refusal w) (row_of32 f k s)
+    own (Ok (walked.At p)) h = absurd (never_string f k p h)
+    own (Ok (walked.Over c)) h = rw (all_counted f k c h)
+    own (Err r) h = refl
 
 -- 20 to 23 behind the search's rows: those of the value
-read_first : {A : Type 0} (refuses : A → Verdict) (bad : Refusal → A) (read : List ℕ → A) → ((r : Refusal) → refuses (bad r) ≡ Refused r)
+read_first : {A : Type 0} (refuses : A → Verdict) (bad : Refusal → A) (read : List ℕ → A) → ((r : Refusal) → refuses (bad r) ≡ Err r)
     → (xs : List ℕ) (n : ℕ) (z : ℤ) (key : List ℕ)
     → refuses (quick_read bad read xs n z key)
     ≡ first_of (quick_rows xs n z (strings_rows (by_key key) (take n xs) (trace_number z)) ++ (refuses (read (quick_value xs n z key)) ∷ []))
@@ -236,46 +222,46 @@ read_first {A} refuses bad read b xs n z key =
     (first_one (refuses (read (quick_value xs n z key))))
     ∙ sym (first_more (quick_rows xs n z (strings_rows (by_key key) (take n xs) (trace_number z))) (refuses (read (quick_value xs n z key)) ∷ []))
   where
-    outside : (s : StringAnswer) (x : A) → refuses (on_string bad s x) ≡ and_then (string_refusal s) (refuses x)
-    outside (string.There p) x = refl
-    outside string.Absent x = refl
-    outside (string.Refused r) x = b r
+    outside : (s : Result (Option Place) Refusal) (x : A) → refuses (on_string bad s x) ≡ and_then (string_refusal s) (refuses x)
+    outside (Ok (Some p)) x = refl
+    outside (Ok None) x = refl
+    outside (Err r) x = b r
 
 pub number_answers_first : (xs : List ℕ) (n : ℕ) (z : ℤ) (key : List ℕ)
     → number_refusal (quick_number xs n z key)
     ≡ first_of (quick_rows xs n z (strings_rows (by_key key) (take n xs) (trace_number z)) ++ (number_refusal (number_in (quick_value xs n z key)) ∷ []))
 unfolding quick_number
-number_answers_first = read_first number_refusal number.Refused number_in (λ r. refl)
+number_answers_first = read_first number_refusal Err number_in (λ r. refl)
 
 pub double_answers_first : (xs : List ℕ) (n : ℕ) (z : ℤ) (key : List ℕ)
     → double_refusal (quick_double xs n z key)
     ≡ first_of (quick_rows xs n z (strings_rows (by_key key) (take n xs) (trace_number z)) ++ (double_refusal (double_of (quick_value xs n z key)) ∷ []))
 unfolding quick_double
-double_answers_first = read_first double_refusal double.Refused double_of (λ r. refl)
+double_answers_first = read_first double_refusal Err double_of (λ r. refl)
 
 pub location_answers_first : (xs : List ℕ) (n : ℕ) (z : ℤ) (key : List ℕ)
     → location_refusal (quick_location xs n z key)
     ≡ first_of (quick_rows xs n z (strings_rows (by_key key) (take n xs) (trace_number z)) ++ (location_refusal (location_of (quick_value xs n z key)) ∷ []))
 unfolding quick_location
-location_answers_first = read_first location_refusal location.Refused location_of (λ r. refl)
+location_answers_first = read_first location_refusal Err location_of (λ r. refl)
 
 -- 33 and 32 behind the block's rows
 pub integers_answer_first : (xs : List ℕ) (n : ℕ) (z : ℤ) (s : ℕ)
     → quick_integers xs n z s ≡ first_of (quick_rows xs n z (rows_at File 0 (integers_rows (block_at (take n xs) (trace_number z)) s)))
 unfolding quick_integers integers_verdict
 integers_answer_first xs n z s =
-    quickly_first (λ v. v) Refused (λ f k. integers_verdict (block_at f k) s) (λ r. refl) xs n z _
+    quickly_first (λ v. v) Err (λ f k. integers_verdict (block_at f k) s) (λ r. refl) xs n z _
     (ruled_rows (integers_rows (block_at (take n xs) (trace_number z)) s))
 
 pub bits_answer_first : (xs : List ℕ) (n : ℕ) (z : ℤ) (s c : ℕ)
     → quick_bits xs n z s c ≡ first_of (quick_rows xs n z (rows_at File 0 (bits_rows (block_at (take n xs) (trace_number z)) s c)))
 unfolding quick_bits bits_verdict
 bits_answer_first xs n z s c =
-    quickly_first (λ v. v) Refused (λ f k. bits_verdict (block_at f k) s c) (λ r. refl) xs n z _
+    quickly_first (λ v. v) Err (λ f k. bits_verdict (block_at f k) s c) (λ r. refl) xs n z _
     (ruled_rows (bits_rows (block_at (take n xs) (trace_number z)) s c))
 
 -- what a list of rows refuses is met in it, behind none that is met
 pub quick_refuses_by_the_first : (xs : List ℕ) (n : ℕ) (z : ℤ) (key : List ℕ) (r : Refusal)
-    → (string_refusal (quick_find xs n z key) ≡ Refused r) ↔ Met (quick_rows xs n z (strings_rows (by_key key) (take n xs) (trace_number z))) r
+    → (string_refusal (quick_find xs n z key) ≡ Err r) ↔ Met (quick_rows xs n z (strings_rows (by_key key) (take n xs) (trace_number z))) r
 quick_refuses_by_the_first xs n z key r =
     rw (quick_answers_first xs n z key) (refused_by_the_first (quick_rows xs n z (strings_rows (by_key key) (take n xs) (trace_number z))) r)

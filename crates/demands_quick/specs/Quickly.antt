@@ -3,32 +3,20 @@
 -- refusals and places included. .. Refusals: those of 01 for the bytes read, in 01's order, with 18 between 7 and 8; 8
 -- here means no multiple of 4, below 32+M, or p+32 past the end." xs is the lent buffer, n the length given beside it.
 -- Assumes nothing.
-use Rattle.std.specs.Prelude.{◌≡◌, Bool, not, ◌↔◌, ℤ, pos, negsuc, length, drop, eqb}
-use Rattle.std.proofs.Math.Path.{refl, sym, ap}
-use Rattle.std.proofs.Common.{ap₂, ◌∙◌, arith}
-use Rattle.std.proofs.Math.Bool.{true, false}
-use mathlib.Core.List.{List, [], ◌∷◌, ◌++◌}
-use Prim.Native.Nat.{ℕ, zero, suc, ◌+◌, ◌*◌, ◌<◌}
-use Rattle.std.proofs.Math.ListN.{take}
+use Rattle.std.specs.Prelude.{◌≡◌, Bool, not, ℤ, pos, negsuc, length, drop, eqb, Result, Ok, Err, Option, Some, None, Float, true, false}
+use Rattle.std.specs.Prelude.{List, [], ◌∷◌, ◌++◌, ℕ, zero, suc, ◌+◌, ◌*◌, ◌<◌, take}
+use Rattle.std.proofs.Common.{sym, ap, ◌∙◌, arith}
 use Rattle.word.specs.Part.{part, length_part}
-use Rattle.refusal.specs.declared.Rule.{Rule}
 use Rattle.refusal.specs.declared.Rule.TheVariants.{Length, StringOffset, NoTrace, RowLength}
 use Rattle.refusal.specs.declared.Part.{Part}
 use Rattle.refusal.specs.declared.Part.TheVariants.{File, Trace}
 use Rattle.refusal.specs.declared.Refusal.{Refusal}
-use Rattle.refusal.specs.declared.Verdict.{Verdict}
-use Rattle.refusal.specs.declared.Verdict.TheVariants.{Accepted, Refused}
-use Rattle.refusal.specs.Table.{refusal}
-use Rattle.refusal.specs.Rows.{Rows, pick, ruled, ruled_map}
-use Rattle.refusal.specs.Verdicts.{and_then, asked}
-use Rattle.refusal.specs.FirstRow.{row, first_of, Met, refused_by_the_first, first_next, first_one, first_two, first_row_lem, first_more, rows_at, rule_first, each}
+use Rattle.refusal.specs.Rows.{pick}
+use Rattle.refusal.specs.Verdicts.{accepted, pair_parts}
+use Rattle.refusal.specs.FirstRow.{row, first_of, rows_at, each}
 use Rattle.text.specs.declared.Manner.TheVariants.{Strict}
-use Rattle.strings.specs.declared.Frame.{Frame}
-use Rattle.strings.specs.declared.Frame.TheVariants.{Broken}
-use Rattle.strings.specs.declared.Step.{Step}
-use Rattle.strings.specs.declared.Step.TheVariants.{Next, Done, Bad}
 use Rattle.strings.specs.declared.Place.{Place}
-use Rattle.strings.specs.Strings.{offset, body, key_len, frame_rows, end_or_text, frame_of, text_rows, on_frame, step_of, on_step, place_of}
+use Rattle.strings.specs.Strings.{offset, body, key_len, frame_rows, text_rows}
 use Rattle.note.specs.Note.{LineEnd}
 use Rattle.strings.specs.Spelled.{Str, Spells}
 use Rattle.head_limits.specs.declared.Purpose.TheVariants.{Read}
@@ -36,42 +24,24 @@ use Rattle.head_words.specs.HeadWords.{high_first, room_of, count_of}
 use Rattle.head.specs.Head.{head_rows, head_of}
 use Rattle.terminators.specs.Terminators.{string_end, line_end}
 use Rattle.terminators.specs.TerminatorLaws.{good_ends}
-use Rattle.block.specs.Block.{block_size_of, data_at, block_rows, block_of, pointer_row}
+use Rattle.block.specs.Block.{block_size_of, data_at, block_rows}
 use Rattle.block.specs.BlockLaws.{head_at}
 use Rattle.file_length.specs.FileLength.{bad_length}
 use Rattle.image.specs.Image.{check_of}
 use Rattle.image.specs.Keeps.{trace_at}
 use Rattle.image.specs.Accepted.{image_headed}
-use Rattle.block.specs.declared.TraceAnswer.{TraceAnswer}
-use Rattle.block.specs.declared.TraceAnswer.TheVariants as trace
-use Rattle.reader.specs.declared.CountAnswer.{CountAnswer}
-use Rattle.reader.specs.declared.CountAnswer.TheVariants as count
-use Rattle.reader.specs.declared.StringAnswer.{StringAnswer}
-use Rattle.reader.specs.declared.StringAnswer.TheVariants as string
-use Rattle.reader.specs.Questions.{no_trace, is_trace, trace_number, block_at, places_in, on_string, trace_answer, count_answer, nth_answer}
-use Rattle.reader.specs.Questions.{strings_verdict, strings_answer, strings_left, find_answer, keyword_answer, value_answer, span_answer}
-use Rattle.reader.specs.Questions.{number_answer, double_answer, location_answer, integers_verdict, integers_rows, integers_answer, integers_left}
-use Rattle.reader.specs.Questions.{bits_verdict, bits_rows, bits_answer, patterns_left, classes_left}
+use Rattle.reader.specs.Questions.{no_trace, is_trace, trace_number, places_in, trace_answer, count_answer, nth_answer}
+use Rattle.reader.specs.Questions.{strings_answer, strings_left, find_answer, keyword_answer, value_answer, span_answer}
+use Rattle.reader.specs.Questions.{number_answer, double_answer, location_answer, integers_answer, integers_left}
+use Rattle.reader.specs.Questions.{bits_answer, patterns_left, classes_left}
 use Rattle.reader.specs.Reach.{checked, trace_blocked}
 use Rattle.reader.specs.Listed.{Lists, trace_area}
-use Rattle.decimal_parts.specs.declared.NumberAnswer.{NumberAnswer}
-use Rattle.decimal_parts.specs.declared.NumberAnswer.TheVariants as number
-use Rattle.decimal.specs.Number.{number_in}
-use Rattle.double.specs.declared.DoubleAnswer.{DoubleAnswer}
-use Rattle.double.specs.declared.DoubleAnswer.TheVariants as double
-use Rattle.double.specs.Double.{double_of}
-use Rattle.location.specs.declared.LocationAnswer.{LocationAnswer}
-use Rattle.location.specs.declared.LocationAnswer.TheVariants as location
-use Rattle.location.specs.Location.{location_of}
 use Rattle.until.specs.declared.Turn.{Turn}
-use Rattle.until.specs.declared.Turn.TheVariants.{Here, Gone, On}
 use Rattle.until.specs.declared.Walked.{Walked}
-use Rattle.until.specs.declared.Walked.TheVariants as walked
-use Rattle.until.specs.Until.{by_key, by_index, to_end, on_turn, walk_from, walk_of}
-use Rattle.quick.specs.QuickLaws.{never_string, all_counted}
+use Rattle.until.specs.Until.{by_key, by_index, to_end, on_turn}
 use Rattle.one_trace.specs.Alone.{alone_of, block_alone}
-use Rattle.quick.specs.Quick.{quickly, walk_in, told_by, counted_by, quick_walk, quick_find, quick_nth, quick_count, quick_strings, quick_strings_left}
-use Rattle.quick.specs.Quick.{quick_keyword, quick_value, quick_span, quick_read, quick_number, quick_double, quick_location}
+use Rattle.quick.specs.Quick.{quickly, walk_in, told_by, quick_walk, quick_find, quick_nth, quick_count, quick_strings, quick_strings_left}
+use Rattle.quick.specs.Quick.{quick_keyword, quick_value, quick_span, quick_number, quick_double, quick_location}
 use Rattle.quick.specs.Quick.{quick_integers, quick_integers_left, quick_bits, quick_patterns_left, quick_classes_left}
 use Rattle.shortcut.specs.Read.{read_in, block_read, strings_read, integers_read, bits_read, bytes_read, Agree}
 use Rattle.shortcut.specs.Spelled.{list_read}
@@ -86,9 +56,14 @@ use Rattle.shortcut.specs.Same.{AllNamed}
 use Rattle.shortcut.proofs.Same.{block_named, strings_named, integers_named, bits_named, found_is_last}
 use Rattle.face.specs.Face.{as_verdict, as_trace, as_count}
 use Rattle.face_values.specs.FaceValues.{as_string, as_keyword, as_value, as_number, as_double, as_location}
-use Rattle.demands_rows.specs.FileRows.{text_first, ends_first, pick_first, pointer_test, block_first, head_first}
-use Rattle.demands_rows.specs.QuestionRows.{four_in, ruled_rows}
+use Rattle.demands_rows.specs.FileRows.{pointer_test}
+use Rattle.demands_rows.specs.QuestionRows.{four_in}
 use Rattle.shortcut.proofs.Row.{row_holds}
+use Rattle.block.specs.declared.TraceBlock.{TraceBlock}
+use Rattle.decimal_parts.specs.declared.Decimal.{Decimal}
+use Rattle.location.specs.declared.Coordinates.{Coordinates}
+use Rattle.refusal.specs.Verdicts.{Verdict}
+use Rattle.until.specs.declared.Walked.TheVariants as walked
 
 -- ---- "On every file that the full check accepts, the answer equals the full one": every question, as it crosses, and each
 -- lent row, of every trace number from 0 on (those past the last are 18 in both). Rules out a walk that ends too early or
@@ -112,7 +87,7 @@ pub record AsFull (xs : List ℕ) (n k : ℕ) : Type 0 where
       × (quick_patterns_left xs n (pos k) row classes ≡ patterns_left Strict xs n (pos k) row classes)
       × (quick_classes_left xs n (pos k) row classes ≡ classes_left Strict xs n (pos k) row classes)
 
-pub quick_equals_full : (xs : List ℕ) (n : ℕ) → check_of Strict Read xs n ≡ Accepted → (k : ℕ) → AsFull xs n k
+pub quick_equals_full : (xs : List ℕ) (n : ℕ) → check_of Strict Read xs n ≡ accepted → (k : ℕ) → AsFull xs n k
 quick_equals_full xs n ok k =
     record {
       block = ap as_trace (block_full xs n ok k);
@@ -196,7 +171,7 @@ reads_no_more xs n z =
 -- spells, each string's bytes up to the first that ends the walk, and where none does all of them and the end mark
 -- (shortcut/Spelled `list_read`; a keyword's walk is `by_key`, the i-th's `by_index`, that of all `to_end`). Rules out a string
 -- more, or one less.
-pub reads_until_found_or_passed : (look : ℕ → List ℕ → Turn) (xs : List ℕ) (n k : ℕ) (ss : List Str) → check_of Strict Read xs n ≡ Accepted
+pub reads_until_found_or_passed : (look : ℕ → List ℕ → Turn) (xs : List ℕ) (n k : ℕ) (ss : List Str) → check_of Strict Read xs n ≡ accepted
     → k < count_of (take n xs) → Lists Strict (take n xs) (pos k) ss → 32 < block_size_of (high_first (take n xs)) (take n xs) (trace_at (take n xs) k)
     → read_in look (take n xs) k ≡ list_read look (string_end (take n xs)) 0 ss
 unfolding read_in
@@ -209,13 +184,13 @@ reads_until_found_or_passed look xs n k ss ok low l more =
     let h = image_headed Strict Read f c.image in
     let ends : LineEnd (line_end f) = good_ends f 11 (omega (arith, c.size, c.least)) h.lines in
     let q = sym l.area ∙ trace_area f k low in
-    let from : l.a ≡ p + 32 = cc in
-    let to : l.e ≡ e = cc in
-    let spells : Spells Strict (high_first f) (string_end f) (line_end f) ss (part (p + 32) e f) = rw (from, to) at l.spells in
+    let parts : ◌≡◌ {A = ℕ × ℕ} (l.a, l.e) (p + 32, e) = cc in
+    let ends_at = pair_parts parts in
+    let spells : Spells Strict (high_first f) (string_end f) (line_end f) ss (part (p + 32) e f) = rw (ends_at.0, ends_at.1) at l.spells in
     read_listed look (high_first f) (string_end f) (line_end f) (Trace k) ends (p + 32) spells (omega (arith, length_part (p + 32) e f b.fits))
 
 -- "only until the keyword is found": on any file they end with the found string's terminator
-pub found_is_the_last_read : (look : ℕ → List ℕ → Turn) (f : List ℕ) (k : ℕ) (s : Place) → walk_in look f k ≡ walked.At s
+pub found_is_the_last_read : (look : ℕ → List ℕ → Turn) (f : List ℕ) (k : ℕ) (s : Place) → walk_in look f k ≡ Ok (walked.At s)
     → s.end + length (string_end f) ≡ trace_at f k + 32 + read_in look f k
 found_is_the_last_read = found_is_last
 
@@ -251,35 +226,35 @@ quick_rows xs n z own =
     ∷ (each (head_rows Read (take 32 f) (length f)) ++ (row (not (is_trace z (count_of f))) NoTrace File 0 ∷ own_rows f (trace_number z) own))
 
 -- what an answer refuses
-abbrev pub string_refusal : StringAnswer → Verdict
-string_refusal (string.There s) = Accepted
-string_refusal string.Absent = Accepted
-string_refusal (string.Refused r) = Refused r
+abbrev pub string_refusal : Result (Option Place) Refusal → Verdict
+string_refusal (Ok (Some s)) = accepted
+string_refusal (Ok None) = accepted
+string_refusal (Err r) = Err r
 
-abbrev pub trace_refusal : TraceAnswer → Verdict
-trace_refusal (trace.Is x) = Accepted
-trace_refusal (trace.Refused r) = Refused r
+abbrev pub trace_refusal : Result TraceBlock Refusal → Verdict
+trace_refusal (Ok x) = accepted
+trace_refusal (Err r) = Err r
 
-abbrev pub count_refusal : CountAnswer → Verdict
-count_refusal (count.Is c) = Accepted
-count_refusal (count.Refused r) = Refused r
+abbrev pub count_refusal : Result ℕ Refusal → Verdict
+count_refusal (Ok c) = accepted
+count_refusal (Err r) = Err r
 
-abbrev pub number_refusal : NumberAnswer → Verdict
-number_refusal (number.Is x) = Accepted
-number_refusal (number.Refused r) = Refused r
+abbrev pub number_refusal : Result Decimal Refusal → Verdict
+number_refusal (Ok x) = accepted
+number_refusal (Err r) = Err r
 
-abbrev pub double_refusal : DoubleAnswer → Verdict
-double_refusal (double.Is x) = Accepted
-double_refusal (double.Refused r) = Refused r
+abbrev pub double_refusal : Result Float Refusal → Verdict
+double_refusal (Ok x) = accepted
+double_refusal (Err r) = Err r
 
-abbrev pub location_refusal : LocationAnswer → Verdict
-location_refusal (location.Is x) = Accepted
-location_refusal (location.Refused r) = Refused r
+abbrev pub location_refusal : Result Coordinates Refusal → Verdict
+location_refusal (Ok x) = accepted
+location_refusal (Err r) = Err r
 
-abbrev pub walk_refusal : Walked → Verdict
-walk_refusal (walked.At s) = Accepted
-walk_refusal (walked.Over j) = Accepted
-walk_refusal (walked.Bad r) = Refused r
+abbrev pub walk_refusal : Result Walked Refusal → Verdict
+walk_refusal (Ok (walked.At s)) = accepted
+walk_refusal (Ok (walked.Over j)) = accepted
+walk_refusal (Err r) = Err r
 
 -- 32 behind the strings' rows: "four times the count"
 abbrev pub row_of32 : List ℕ → ℕ → ℕ → Verdict
@@ -287,25 +262,25 @@ row_of32 f k s = row (not (eqb s (4 * length (places_in Strict f (trace_at f k +
 
 -- and the i-th four numbers of the row are those of C's answer to the quick question for the i-th string, on any file. Rules
 -- out a row of strings that were not judged.
-pub quick_row_holds_each : (xs : List ℕ) (n : ℕ) (z : ℤ) (lent : List ℕ) (i : ℕ) (s : Place) → quick_strings xs n z (length lent) ≡ Accepted
-    → quick_nth xs n z i ≡ string.There s → part (4 * i) (4 * i + 4) (quick_strings_left xs n z lent) ≡ four_in (as_string (quick_nth xs n z i))
+pub quick_row_holds_each : (xs : List ℕ) (n : ℕ) (z : ℤ) (lent : List ℕ) (i : ℕ) (s : Place) → quick_strings xs n z (length lent) ≡ accepted
+    → quick_nth xs n z i ≡ Ok (Some s) → part (4 * i) (4 * i + 4) (quick_strings_left xs n z lent) ≡ four_in (as_string (quick_nth xs n z i))
 unfolding as_string
 quick_row_holds_each xs n z lent i s v h = row_holds xs n z lent i s v h ∙ sym (rw h)
 
 -- "After a refusal nothing has changed" (document 01): each lent row is as it was. Rules out a row that is filled before the
 -- last row is judged.
-pub refused_strings_change_nothing : (xs : List ℕ) (n : ℕ) (z : ℤ) (lent : List ℕ) (r : Refusal) → quick_strings xs n z (length lent) ≡ Refused r
+pub refused_strings_change_nothing : (xs : List ℕ) (n : ℕ) (z : ℤ) (lent : List ℕ) (r : Refusal) → quick_strings xs n z (length lent) ≡ Err r
     → quick_strings_left xs n z lent ≡ lent
 unfolding quick_strings_left
 refused_strings_change_nothing xs n z lent r e = rw e
 
-pub refused_integers_change_nothing : (xs : List ℕ) (n : ℕ) (z : ℤ) (lent : List ℤ) (r : Refusal) → quick_integers xs n z (length lent) ≡ Refused r
+pub refused_integers_change_nothing : (xs : List ℕ) (n : ℕ) (z : ℤ) (lent : List ℤ) (r : Refusal) → quick_integers xs n z (length lent) ≡ Err r
     → quick_integers_left xs n z lent ≡ lent
 unfolding quick_integers_left
 refused_integers_change_nothing xs n z lent r e = rw e
 
 pub refused_bits_change_nothing : (xs : List ℕ) (n : ℕ) (z : ℤ) (lent classes : List ℕ) (r : Refusal)
-    → quick_bits xs n z (length lent) (length classes) ≡ Refused r
+    → quick_bits xs n z (length lent) (length classes) ≡ Err r
     → (quick_patterns_left xs n z lent classes ≡ lent) × (quick_classes_left xs n z lent classes ≡ classes)
 unfolding quick_patterns_left quick_classes_left
 refused_bits_change_nothing xs n z lent classes r e = (rw e, rw e)
@@ -313,11 +288,11 @@ refused_bits_change_nothing xs n z lent classes r e = (rw e, rw e)
 -- "It is asked of traces only": -1, the file, and every other number below 0 is 18, behind 1 to 7, for every question of the
 -- family. Rules out the file's own value for -1.
 pub traces_only : {A : Type 0} (bad : Refusal → A) (mk : List ℕ → ℕ → A) (xs : List ℕ) (n j : ℕ) → bad_length (length xs) n ≡ false
-    → head_of Read (take 32 (take n xs)) (length (take n xs)) ≡ Accepted → quickly bad mk xs n (negsuc j) ≡ bad no_trace
+    → head_of Read (take 32 (take n xs)) (length (take n xs)) ≡ accepted → quickly bad mk xs n (negsuc j) ≡ bad no_trace
 unfolding alone_of first_of
 traces_only bad mk xs n j long top = rw (long, top)
 
 pub file_value_is_18 : (xs : List ℕ) (n j : ℕ) (key : List ℕ) → bad_length (length xs) n ≡ false
-    → head_of Read (take 32 (take n xs)) (length (take n xs)) ≡ Accepted → quick_find xs n (negsuc j) key ≡ string.Refused no_trace
+    → head_of Read (take 32 (take n xs)) (length (take n xs)) ≡ accepted → quick_find xs n (negsuc j) key ≡ Err no_trace
 unfolding quick_find quick_walk
-file_value_is_18 xs n j key long top = ap told_by (traces_only walked.Bad (walk_in (by_key key)) xs n j long top)
+file_value_is_18 xs n j key long top = ap told_by (traces_only Err (walk_in (by_key key)) xs n j long top)

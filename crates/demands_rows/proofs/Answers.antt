@@ -1,9 +1,7 @@
 -- Theorems on what specs/Answers defines. They stand here, as a wrong definition there is to be refused and not to be unread.
 -- Assumes nothing.
-use Rattle.std.specs.Prelude.{◌≡◌, List, ◌↔◌, ℕ, take}
+use Rattle.std.specs.Prelude.{◌≡◌, List, ◌↔◌, ℕ, take, Ok, Err}
 use Rattle.refusal.specs.declared.Refusal.{Refusal}
-use Rattle.refusal.specs.declared.Verdict.TheVariants.{Refused}
-use Rattle.refusal.specs.declared.Written.TheVariants as written
 use Rattle.layout.specs.Layout.{Trace}
 use Rattle.append.specs.Grown.{new_length}
 use Rattle.writer.specs.Answers.{add_answer}
@@ -13,8 +11,8 @@ use Rattle.demands_rows.proofs.WriterRows.{addition_answers_first}
 use Rattle.demands_rows.specs.Answers.{writes}
 
 -- Rules out an addition that refuses every trace.
-pub addition_refuses_by_the_first : (xs : List ℕ) (n : ℕ) (x : Trace) (r : Refusal) → (add_answer xs n x ≡ written.Refused r) ↔ Met (add_rows xs n x) r
+pub addition_refuses_by_the_first : (xs : List ℕ) (n : ℕ) (x : Trace) (r : Refusal) → (add_answer xs n x ≡ Err r) ↔ Met (add_rows xs n x) r
 addition_refuses_by_the_first xs n x = (writes (add_rows xs n x) (new_length (take n xs) n x) (add_answer xs n x) (addition_answers_first xs n x)).0
 
-pub addition_accepts_where_none : (xs : List ℕ) (n : ℕ) (x : Trace) → (add_answer xs n x ≡ written.To (new_length (take n xs) n x)) ↔ NoneMet (add_rows xs n x)
+pub addition_accepts_where_none : (xs : List ℕ) (n : ℕ) (x : Trace) → (add_answer xs n x ≡ Ok (new_length (take n xs) n x)) ↔ NoneMet (add_rows xs n x)
 addition_accepts_where_none xs n x = (writes (add_rows xs n x) (new_length (take n xs) n x) (add_answer xs n x) (addition_answers_first xs n x)).1

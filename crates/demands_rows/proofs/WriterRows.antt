@@ -1,15 +1,12 @@
 -- Theorems on what specs/WriterRows defines. They stand here, as a wrong definition there is to be refused and not to be unread.
 -- Assumes nothing.
-use Rattle.std.specs.Prelude.{◌≡◌, Bool, true, false, not, cond, List, [], ◌∷◌, ℕ, ◌+◌, length, take, Some}
+use Rattle.std.specs.Prelude.{◌≡◌, Bool, true, false, not, cond, List, [], ◌∷◌, ℕ, ◌+◌, length, take, Ok, Err, Some}
 use Rattle.std.proofs.Common.{sym, ◌∙◌}
 use Rattle.refusal.specs.Verdicts.{asked}
 use Rattle.refusal.specs.declared.Rule.TheVariants.{EntryCode, SampleRange}
 use Rattle.refusal.specs.declared.Part.TheVariants.{File}
-use Rattle.refusal.specs.declared.Verdict.TheVariants.{Refused}
 use Rattle.fit.specs.Unfit.{first_from, unfit_integer, unfit_pattern, unfit_integers, unfit_patterns}
-use Rattle.refusal.specs.declared.Written.TheVariants as written
-use Rattle.layout.specs.Layout.{Trace, Samples, Samples.integers, Samples.patterns, fitting}
-use Rattle.layout.specs.Layout.{count, unfit}
+use Rattle.layout.specs.Layout.{Trace, Samples, Samples.integers, Samples.patterns, fitting, count, unfit}
 use Rattle.append.specs.Grown.{new_length}
 use Rattle.entry.specs.Entry.{on_fit, samples_verdict}
 use Rattle.writer.specs.Answers.{add_answer}
@@ -39,7 +36,7 @@ given_first code s = rw (unfit_first code s) (sym (first_row_lem (not (fitting c
 -- Rules out an addition that skips a row, takes them in another order, refuses what no row refuses, or answers another
 -- length.
 pub addition_answers_first : (xs : List ℕ) (n : ℕ) (x : Trace)
-    → add_answer xs n x ≡ asked written.Refused (first_of (add_rows xs n x)) (written.To (new_length (take n xs) n x))
+    → add_answer xs n x ≡ asked Err (first_of (add_rows xs n x)) (Ok (new_length (take n xs) n x))
 unfolding add_answer new_length
 addition_answers_first xs n x =
     into_answers_first (length xs) xs n x.sheet x.code (count x.samples) (samples_verdict x.code x.samples) (given_rows x.code x.samples)

@@ -2,7 +2,7 @@
 -- library as a start and a length (face_values/FaceValues), and the bytes there, in the caller's own buffer, are those
 -- of the list of strings that the part spells.
 -- Assumes nothing.
-use Rattle.std.specs.Prelude.{◌≡◌, refl, Bool, true, false, List, ℕ, ◌≤◌, ◌<◌, ℤ, length, take, drop}
+use Rattle.std.specs.Prelude.{◌≡◌, refl, Bool, true, false, List, ℕ, ◌≤◌, ◌<◌, ℤ, length, take, drop, Result, Ok, Err, Option, Some, None}
 use Rattle.std.proofs.Common.{sym, ◌∙◌, arith}
 use Rattle.text.specs.declared.Manner.TheVariants.{Strict}
 use Rattle.word.specs.Part.{part_take}
@@ -10,14 +10,12 @@ use Rattle.refusal.specs.Rows.{pick}
 use Rattle.strings.specs.declared.Place.{Place}
 use Rattle.strings.specs.Strings.{key_in, value_in}
 use Rattle.strings.specs.Spelled.{Str, nth_str, value_of_key, has_key}
-use Rattle.reader.specs.declared.StringAnswer.{StringAnswer}
-use Rattle.reader.specs.declared.StringAnswer.TheVariants as string
-use Rattle.reader.specs.declared.KeywordAnswer.TheVariants.{Yes, No}
 use Rattle.reader.specs.Questions.{yes_or_no, value_there, nth_answer, find_answer, keyword_answer, value_answer}
 use Rattle.reader.specs.Leaves.{Within}
 use Rattle.reader.specs.Reach.{nth_within, find_within, value_within}
 use Rattle.growth.specs.Answered.{AnswersBy}
 use Rattle.face_values.specs.FaceValues.{as_string, as_value}
+use Rattle.refusal.specs.declared.Refusal.{Refusal}
 
 -- the bytes from a start on, so many of them
 abbrev pub bytes_from : ℕ → ℕ → List ℕ → List ℕ
@@ -25,20 +23,20 @@ bytes_from start size xs = take size (drop start xs)
 
 -- ---- `seg2_value`
 
-value_in_buffer : (xs : List ℕ) (s : StringAnswer) → bytes_from (as_value s).value_start (as_value s).value_length xs ≡ value_there xs s
+value_in_buffer : (xs : List ℕ) (s : Result (Option Place) Refusal) → bytes_from (as_value s).value_start (as_value s).value_length xs ≡ value_there xs s
 unfolding as_value
-value_in_buffer xs (string.There p) = refl
-value_in_buffer xs string.Absent = refl
-value_in_buffer xs (string.Refused r) = refl
+value_in_buffer xs (Ok (Some p)) = refl
+value_in_buffer xs (Ok None) = refl
+value_in_buffer xs (Err r) = refl
 
-yes_or_no_lem : (s : StringAnswer) (w : Bool) → yes_or_no s ≡ pick w Yes No
+yes_or_no_lem : (s : Result (Option Place) Refusal) (w : Bool) → yes_or_no s ≡ pick w (Ok true) (Ok false)
     → ((as_value s).number ≡ 0) × (w ≡ false → ((as_value s).value_start ≡ 0) × ((as_value s).value_length ≡ 0))
 unfolding as_value
-yes_or_no_lem (string.There p) true e = (refl, λ h. absurd (let z : ◌≡◌ {A = ℕ} 0 1 = cc in omega arith))
-yes_or_no_lem (string.There p) false e = absurd (let z : ◌≡◌ {A = ℕ} 0 1 = cc in omega arith)
-yes_or_no_lem string.Absent w e = (refl, λ h. (refl, refl))
-yes_or_no_lem (string.Refused r) true e = absurd (let z : ◌≡◌ {A = ℕ} 0 1 = cc in omega arith)
-yes_or_no_lem (string.Refused r) false e = absurd (let z : ◌≡◌ {A = ℕ} 0 1 = cc in omega arith)
+yes_or_no_lem (Ok (Some p)) true e = (refl, λ h. absurd (let z : ◌≡◌ {A = ℕ} 0 1 = cc in omega arith))
+yes_or_no_lem (Ok (Some p)) false e = absurd (let z : ◌≡◌ {A = ℕ} 0 1 = cc in omega arith)
+yes_or_no_lem (Ok None) w e = (refl, λ h. (refl, refl))
+yes_or_no_lem (Err r) true e = absurd (let z : ◌≡◌ {A = ℕ} 0 1 = cc in omega arith)
+yes_or_no_lem (Err r) false e = absurd (let z : ◌≡◌ {A = ℕ} 0 1 = cc in omega arith)
 
 -- Rules out a start or a length that is off, or that points into another string. Without the keyword it is "the empty
 -- part at the start of the lent buffer".
@@ -55,17 +53,17 @@ exported_value_is_the_lists xs n z ss a key =
 
 -- ---- `seg2_string`
 
-string_in_buffer : (xs : List ℕ) (n : ℕ) (s : StringAnswer) (p : Place) → s ≡ string.There p → Within n s
+string_in_buffer : (xs : List ℕ) (n : ℕ) (s : Result (Option Place) Refusal) (p : Place) → s ≡ Ok (Some p) → Within n s
     → (bytes_from (as_string s).key_start (as_string s).key_length xs ≡ key_in (take n xs) p)
     × (bytes_from (as_string s).value_start (as_string s).value_length xs ≡ value_in (take n xs) p)
 unfolding as_string
-string_in_buffer xs n (string.There q) p e w =
+string_in_buffer xs n (Ok (Some q)) p e w =
     let same : q ≡ p = cc in
     rw (← same) (sym (part_take n q.key q.gap xs (omega (arith, w))), sym (part_take n q.value q.end xs w.3))
-string_in_buffer xs n string.Absent p e w = absurd (let z : ◌≡◌ {A = ℕ} 0 1 = cc in omega arith)
-string_in_buffer xs n (string.Refused r) p e w = absurd (let z : ◌≡◌ {A = ℕ} 0 1 = cc in omega arith)
+string_in_buffer xs n (Ok None) p e w = absurd (let z : ◌≡◌ {A = ℕ} 0 1 = cc in omega arith)
+string_in_buffer xs n (Err r) p e w = absurd (let z : ◌≡◌ {A = ℕ} 0 1 = cc in omega arith)
 
-found_there : (s : StringAnswer) (p : Place) → s ≡ string.There p → ((as_string s).number ≡ 0) × ((as_string s).found ≡ 1)
+found_there : (s : Result (Option Place) Refusal) (p : Place) → s ≡ Ok (Some p) → ((as_string s).number ≡ 0) × ((as_string s).found ≡ 1)
 unfolding as_string
 found_there s p e = rw e (refl, refl)
 

@@ -4,25 +4,19 @@
 -- by one, 14 to 17 each"), with 34 "after 17 within each trace" (document 02 §7), are one list, and the check answers the
 -- first of it that is met.
 -- Assumes nothing.
-use Rattle.std.specs.Prelude.{◌≡◌, refl, Bool, true, false, not, ◌&&◌, List, [], ◌∷◌, ◌++◌, ℕ, zero, suc, ◌+◌, ◌*◌, length, take, drop, ℤ, pos, negsuc, eqb}
+use Rattle.std.specs.Prelude.{◌≡◌, refl, Bool, true, false, not, ◌&&◌, List, [], ◌∷◌, ◌++◌, ℕ, zero, suc, ◌+◌, ◌*◌, length, take, drop, ℤ, pos, negsuc, eqb, Result, Ok, Err, Option, Some, None}
 use Rattle.std.proofs.Common.{sym, ap, ap₂, ◌∙◌}
 use Rattle.word.specs.Part.{part}
 use Rattle.refusal.specs.declared.Rule.TheVariants.{Length, Pointer, StringOffset, ChannelNumber}
 use Rattle.refusal.specs.declared.Part.{Part}
 use Rattle.refusal.specs.declared.Part.TheVariants.{File, Trace}
-use Rattle.refusal.specs.declared.Verdict.{Verdict}
-use Rattle.refusal.specs.declared.Verdict.TheVariants.{Accepted, Refused}
 use Rattle.refusal.specs.Table.{refusal, number_of, part_of}
 use Rattle.refusal.specs.Rows.{Rows, pick, ruled_map}
-use Rattle.refusal.specs.Verdicts.{and_then}
+use Rattle.refusal.specs.Verdicts.{and_then, accepted, Verdict}
 use Rattle.refusal.specs.FirstRow.{row, first_of, first_nothing, first_one, first_row_lem, first_more, flat, first_flat}
 use Rattle.refusal.specs.FirstRow.{rows_at, rule_first, each, Refuses, first_each}
 use Rattle.text.specs.declared.Manner.{Manner}
 use Rattle.text.specs.Manner.{open_end, asks_channels}
-use Rattle.strings.specs.declared.Frame.{Frame}
-use Rattle.strings.specs.declared.Frame.TheVariants.{End, Broken, Text}
-use Rattle.strings.specs.declared.Judged.{Judged}
-use Rattle.strings.specs.declared.Judged.TheVariants.{Keyword, Wrong}
 use Rattle.strings.specs.Strings.{offset, body, key_len, frame_rows, end_or_text, frame_of, text_rows, judged_of, on_judged}
 use Rattle.strings.specs.Strings.{on_frame, step_of, on_step, strings_from, strings_of, found, value_found}
 use Rattle.head_limits.specs.declared.Purpose.{Purpose}
@@ -34,10 +28,10 @@ use Rattle.block.specs.Block.{pointer_of, block_size_of, end_at, pointer_row, bl
 use Rattle.block.specs.BlockLaws.{head_at}
 use Rattle.trace.specs.Trace.{area_verdict, channel_at}
 use Rattle.traces.specs.Traces.{with_channel, trace_checks, trace_of, traces_from}
-use Rattle.image.specs.Image.{filled_checks, rest_of}
+use Rattle.image.specs.Image.{filled_checks, rest_of, image_of, check_of}
 use Rattle.file_length.specs.FileLength.{bad_length}
-use Rattle.image.specs.Image.{image_of, check_of}
 use Rattle.channel.specs.Channel.{bad_channel}
+use Rattle.refusal.specs.declared.Rule.{Rule}
 
 -- ---- the strings of an area, from one at the place `at` on: 14 and 15 (`frame_rows` of `strings`), 16 and 17
 -- (`text_rows`), and then the next string's.
@@ -54,7 +48,7 @@ string_rows how (suc m) high t u p prev l at =
 abbrev pub area_rows : Manner → Bool → List ℕ → List ℕ → List ℕ → Part → ℕ → ℕ → List Verdict
 area_rows how high t u f p a e = pick (eqb (length (part a e f)) 0) [] (string_rows how (length (part a e f)) high t u p [] (part a e f) a)
 
-pub pick_first : (w : Bool) (v : Verdict) (vs : List Verdict) → v ≡ first_of vs → pick w Accepted v ≡ first_of (pick w [] vs)
+pub pick_first : (w : Bool) (v : Verdict) (vs : List Verdict) → v ≡ first_of vs → pick w accepted v ≡ first_of (pick w [] vs)
 unfolding first_of
 pick_first true v vs h = refl
 pick_first false v vs h = h
@@ -65,13 +59,13 @@ pub text_first : (how : Manner) (u prev b : List ℕ) (p : Part) (at o : ℕ) (n
 unfolding judged_of
 text_first how u prev b p at o next more h =
     let rs = text_rows how u prev b in
-    ruled_map (λ (j : Judged). on_step (on_judged j p at o) next) rs Wrong (Keyword (key_len b))
+    ruled_map (λ (j : Result ℕ Rule). on_step (on_judged j p at o) next) rs Err (Ok (key_len b))
     ∙ rule_first rs p at (next o (key_len b)) ∙ ap (and_then (first_of (rows_at p at rs))) h ∙ sym (first_more (rows_at p at rs) more)
 
 -- its frame: its rows, and then the end of the list or the text
 pub ends_first : (how : Manner) (w : Bool) (o : ℕ) (t u prev l : List ℕ) (p : Part) (at : ℕ) (next : ℕ → ℕ → Verdict) (more : List Verdict)
     → on_step (on_judged (judged_of how u prev (body t o l)) p at o) next ≡ first_of more
-    → on_step (on_frame how (pick w End (Text o)) t u prev l p at) next ≡ first_of (pick w [] more)
+    → on_step (on_frame how (pick w (Ok None) (Ok (Some o))) t u prev l p at) next ≡ first_of (pick w [] more)
 unfolding on_frame first_of
 ends_first how true o t u prev l p at next more h = refl
 ends_first how false o t u prev l p at next more h = h
@@ -81,16 +75,16 @@ strings_first : (how : Manner) (m : ℕ) (high : Bool) (t u : List ℕ) (p : Par
 unfolding strings_from string_rows step_of frame_of on_frame
 strings_first how zero high t u p prev l at = go (open_end how)
   where
-    go : (w : Bool) → pick w Accepted (Refused (refusal StringOffset p at)) ≡ first_of (row (not w) StringOffset p at ∷ [])
-    go true = first_one Accepted
-    go false = first_one (Refused (refusal StringOffset p at))
+    go : (w : Bool) → pick w accepted (Err (refusal StringOffset p at)) ≡ first_of (row (not w) StringOffset p at ∷ [])
+    go true = first_one accepted
+    go false = first_one (Err (refusal StringOffset p at))
 strings_first how (suc m) high t u p prev l at =
     let o : ℕ = offset high l in
     let b : List ℕ = body t o l in
     let next : ℕ → ℕ → Verdict = λ i n. strings_from how m high t u p (take n (drop 2 l)) (drop i l) (at + i) in
     let more : List Verdict = rows_at p at (text_rows how u prev b) ++ string_rows how m high t u p (take (key_len b) (drop 2 l)) (drop o l) (at + o) in
     let rs = frame_rows how high t l in
-    ruled_map (λ (w : Frame). on_step (on_frame how w t u prev l p at) next) rs Broken (end_or_text high l)
+    ruled_map (λ (w : Result (Option ℕ) Rule). on_step (on_frame how w t u prev l p at) next) rs Err (end_or_text high l)
     ∙ rule_first rs p at (on_step (on_frame how (end_or_text high l) t u prev l p at) next)
     ∙ ap (and_then (first_of (rows_at p at rs)))
     (ends_first how (eqb o 0) o t u prev l p at next more
@@ -211,7 +205,7 @@ unfolding check_of
 check_answers_first how purpose xs n =
     rw (image_first how purpose (take n xs)) (go (bad_length (length xs) n))
   where
-    go : (w : Bool) → pick w (Refused (refusal Length File 0)) (first_of (image_rows how purpose (take n xs)))
+    go : (w : Bool) → pick w (Err (refusal Length File 0)) (first_of (image_rows how purpose (take n xs)))
         ≡ first_of (row w Length File 0 ∷ image_rows how purpose (take n xs))
     go w = sym (first_row_lem w Length File 0 (image_rows how purpose (take n xs)))
 
@@ -220,8 +214,8 @@ check_answers_first how purpose xs n =
 
 abbrev pub numbered : Rows Verdict → List (ℕ × ℤ × ℕ)
 numbered [] = []
-numbered ((test, Accepted) ∷ rs) = (0, negsuc 0, 0) ∷ numbered rs
-numbered ((test, Refused r) ∷ rs) = (number_of r.rule, part_of r.part, r.place) ∷ numbered rs
+numbered ((test, Ok _) ∷ rs) = (0, negsuc 0, 0) ∷ numbered rs
+numbered ((test, Err r) ∷ rs) = (number_of r.rule, part_of r.part, r.place) ∷ numbered rs
 
 abbrev pub of_file : ℕ → ℕ → ℕ × ℤ × ℕ
 of_file number place = (number, negsuc 0, place)

@@ -1,8 +1,7 @@
 -- Theorems on what specs/Loss defines. They stand here, as a wrong definition there is to be refused and not to be unread.
 -- Assumes nothing.
 use Rattle.std.specs.Prelude.{◌≡◌, refl, List, map, ℕ, zero, suc, ◌+◌, ◌*◌, ◌^◌, ◌≤◌, ◌<◌, ℤ, pos, negsuc, nat_abs, ◌-ℤ◌, ◌*ℤ◌}
-use Rattle.std.proofs.Common.{sym, ap, ◌∙◌, le_antisymm, mul-le-mul_right, suc-mul}
-use native.Mathlib.Omega.{arith, by_contra}
+use Rattle.std.proofs.Common.{sym, ap, ◌∙◌, arith, le_antisymm, le_of_suc-le-suc, lt_of_not-le, mul-le-mul_right, suc-mul}
 use Rattle.std.proofs.Math.IntN.{pos-*ℤ-pos, negsuc-*ℤ-pos}
 use Rattle.float20.specs.Float20.{mantissa_most, smallest, exponent_of, mantissa_of}
 use Rattle.float20.specs.Float20Laws.{no_less, exponent_smallest}
@@ -26,7 +25,7 @@ on_side (negsuc n) (negsuc m) h = refl
 -- two multiples of q, both at most n and less than q below it, are one
 one_multiple : (n q a b : ℕ) → a * q ≤ n → n < a * q + q → b * q ≤ n → n < b * q + q → a ≤ b
 one_multiple n q a b ha ka hb kb =
-    by_contra a b (λ l. (let m : suc b * q ≤ a * q = mul-le-mul_right q l in let d : suc b * q ≡ b * q + q = suc-mul b q in omega arith))
+    le_of_suc-le-suc (lt_of_not-le (λ (l : b < a). (let m : suc b * q ≤ a * q = mul-le-mul_right q l in let d : suc b * q ≡ b * q + q = suc-mul b q in omega arith)))
 
 module _ {z y w : ℤ} (c : LowBitsCut z y) (d : LowBitsCut z w) where
   same_exponent : c.exponent ≡ d.exponent

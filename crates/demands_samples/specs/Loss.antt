@@ -4,14 +4,8 @@
 -- said without the encoder, and there is one such value only: so rounding to nearest and any larger exponent are
 -- excluded.
 -- Assumes nothing.
-use Rattle.std.specs.Prelude.{◌≡◌, refl, List, map, ℕ, zero, suc, ◌+◌, ◌*◌, ◌/◌, ◌^◌, ◌≤◌, ◌<◌, ℤ, pos, negsuc, neg_ℤ, nat_abs, ◌-ℤ◌, ◌*ℤ◌}
-use Rattle.std.proofs.Common.{sym, ap, ◌∙◌, le_antisymm, mul-le-mul_right, suc-mul}
-use native.Mathlib.Omega.{arith, by_contra}
-use Rattle.std.proofs.Math.IntN.{pos-*ℤ-pos, negsuc-*ℤ-pos}
-use Rattle.float20.specs.Float20.{mantissa_most, smallest, exponent_of, mantissa_of}
-use Rattle.float20.specs.Float20Laws.{no_less, exponent_smallest}
-use Rattle.encode.specs.Cut.{cut, size_neg, size_mantissa, cut_near, cut_between, cut_exact}
-use Rattle.growth.specs.TraceReads.{read_back}
+use Rattle.std.specs.Prelude.{◌≡◌, ℕ, ◌+◌, ◌/◌, ◌^◌, ◌≤◌, ◌<◌, ℤ, pos, negsuc, neg_ℤ, nat_abs, ◌-ℤ◌, ◌*ℤ◌}
+use Rattle.float20.specs.Float20.{mantissa_most}
 
 -- y is what is read back of z
 pub record LowBitsCut (z y : ℤ) : Type 0 where

@@ -1,25 +1,18 @@
 -- Document 01, "Worked values": "Marked * are the ones to prove, as a single statement over a table." The table has
 -- every marked value, and the numbers of "Numbers in values" and of document 02 §4 beside them.
 -- Assumes nothing.
-use Rattle.std.specs.Prelude.{◌≡◌, refl, Bool, true, false, List, [], ◌∷◌, ℕ, ℤ, pos, negsuc, length, replicate}
+use Rattle.std.specs.Prelude.{◌≡◌, refl, Bool, true, false, List, [], ◌∷◌, ℕ, ℤ, pos, negsuc, length, replicate, Result, Ok, Err}
 use Rattle.word.specs.Word.{low_first, value_of, word_at, low_bytes, bytes_of}
-use Rattle.refusal.specs.declared.Verdict.{Verdict}
-use Rattle.refusal.specs.declared.Verdict.TheVariants as verdict
-use Rattle.refusal.specs.declared.Written.{Written}
-use Rattle.refusal.specs.declared.Written.TheVariants as written
 use Rattle.refusal.specs.Table as refusals
 use Rattle.sample.specs.Needed.{needed, width}
 use Rattle.sample.specs.Run as samples
 use Rattle.sample_bits.specs.SampleBits.{twos, exponent_in, ones, scaled}
-use Rattle.decode.specs.Sample.{pattern_of, group_sample, sample_of, integers_there}
-use Rattle.decode.specs.Sample.{integers_read}
+use Rattle.decode.specs.Sample.{pattern_of, group_sample, sample_of, integers_there, integers_read}
 use Rattle.fit.specs.Unfit.{first_from, unfit_integer, unfit_integers}
 use Rattle.float20.specs.Float20.{smallest, exponent_of, mantissa_of, ones_bits}
 use Rattle.group20.specs.Group20.{exponents_of, words_of, group_bytes}
 use Rattle.row20.specs.Row20.{groups}
 use Rattle.encode.specs.Write.{filled_up, integers_data}
-use Rattle.decimal_parts.specs.declared.NumberAnswer.{NumberAnswer}
-use Rattle.decimal_parts.specs.declared.NumberAnswer.TheVariants as answer
 use Rattle.chars.specs.Runs.{run}
 use Rattle.front_bytes.specs.OneByte.{has, past}
 use Rattle.decimal_power.specs.Power.{power_of}
@@ -32,6 +25,7 @@ use Rattle.numeral_text.specs.NumeralText.{sign_text, point_text, power_text, sp
 use Rattle.numeral.specs.Numeral.{parts_for, numeral_of, numeral_answer}
 use Rattle.layout.specs.Layout.{Samples.integers, fitting, unfit}
 use Rattle.entry.specs.Entry.{samples_verdict}
+use Rattle.refusal.specs.declared.Refusal.{Refusal}
 
 -- what a worked value says
 pub data Case : Type 0 where
@@ -49,17 +43,9 @@ unfoldable pub row_of : ℕ → List ℤ
 row_of n = replicate n (pos 0)
 
 -- a refusal by its number in the table, and its place
-abbrev refused_by : Verdict → ℕ × ℕ
-refused_by verdict.Accepted = (0, 0)
-refused_by (verdict.Refused r) = (refusals.number_of r.rule, r.place)
-
-abbrev unwritten_by : Written → ℕ × ℕ
-unwritten_by (written.To size) = (0, 0)
-unwritten_by (written.Refused r) = (refusals.number_of r.rule, r.place)
-
-abbrev unread_by : NumberAnswer → ℕ × ℕ
-unread_by (answer.Is n) = (0, 0)
-unread_by (answer.Refused r) = (refusals.number_of r.rule, r.place)
+abbrev refused_by : {A : Type 0} → Result A Refusal → ℕ × ℕ
+refused_by (Ok _) = (0, 0)
+refused_by (Err r) = (refusals.number_of r.rule, r.place)
 
 unfoldable pub CaseHolds : Case → Type 0
 unfolding row_of
@@ -70,10 +56,10 @@ CaseHolds (becomes z v) =
     (integers_read 3 false (integers_data 3 false (z ∷ row_of 3)) (row_of 4) ≡ v ∷ row_of 3)
     × (integers_read 3 true (integers_data 3 true (z ∷ row_of 3)) (row_of 4) ≡ v ∷ row_of 3)
 CaseHolds (unwritten code row r at) = refused_by (samples_verdict code (integers row)) ≡ (r, at)
-CaseHolds (number t m c p d) = number_in t ≡ answer.Is (record { minus = m; coefficient = c; power = p; decimals = d })
-CaseHolds (unread t r) = unread_by (number_in t) ≡ (r, 0)
+CaseHolds (number t m c p d) = number_in t ≡ Ok (record { minus = m; coefficient = c; power = p; decimals = d })
+CaseHolds (unread t r) = refused_by (number_in t) ≡ (r, 0)
 CaseHolds (shown m c p d t) = numeral_of (record { minus = m; coefficient = c; power = p; decimals = d }) ≡ t
-CaseHolds (unshown m c p d r) = unwritten_by (numeral_answer 24 (record { minus = m; coefficient = c; power = p; decimals = d })) ≡ (r, 0)
+CaseHolds (unshown m c p d r) = refused_by (numeral_answer 24 (record { minus = m; coefficient = c; power = p; decimals = d })) ≡ (r, 0)
 
 unfoldable pub AllHold : List Case → Type 0
 AllHold [] = Unit {0}

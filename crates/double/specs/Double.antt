@@ -1,20 +1,16 @@
 -- Numbers as doubles (document 01, "As a double"), in the logic's account of IEEE 754: two exact doubles, and one
 -- operation on them.
 -- Assumes nothing.
-use Rattle.std.specs.Prelude.{Bool, List, [], ◌∷◌, ℕ, ◌^◌, pos, nat_abs, ltb, eqb, Float}
+use Rattle.std.specs.Prelude.{Bool, List, [], ◌∷◌, ℕ, ◌^◌, pos, nat_abs, ltb, eqb, Float, Result, Ok, Err}
 use Rattle.std.specs.Int.Signed.{lt_z}
 use Rattle.std.specs.Float.{binary64}
 use Rattle.std.specs.Float.Ieee.{neg, mul, div, of_int}
 use Rattle.refusal.specs.declared.Refusal.{Refusal}
-use Rattle.refusal.specs.declared.Rule.TheVariants.{NoNumber, NoDouble}
+use Rattle.refusal.specs.declared.Rule.TheVariants.{NoDouble}
 use Rattle.refusal.specs.declared.Part.TheVariants.{File}
 use Rattle.refusal.specs.Rows.{pick, first}
 use Rattle.refusal.specs.Table.{refusal}
 use Rattle.decimal_parts.specs.declared.Decimal.{Decimal}
-use Rattle.decimal_parts.specs.declared.NumberAnswer.{NumberAnswer}
-use Rattle.decimal_parts.specs.declared.NumberAnswer.TheVariants as number
-use Rattle.double.specs.declared.DoubleAnswer.{DoubleAnswer}
-use Rattle.double.specs.declared.DoubleAnswer.TheVariants.{Is, Refused}
 use Rattle.decimal.specs.Number.{number_in}
 
 -- a whole number as a double: exact up to 2^53 (`Rounded`)
@@ -30,24 +26,19 @@ scaled_of down c k =
 abbrev pub with_sign : Bool → Float → Float
 with_sign minus x = pick minus (neg x) x
 
-abbrev pub no_double : DoubleAnswer
-no_double = Refused (refusal NoDouble File 0)
+abbrev pub no_double : Result Float Refusal
+no_double = Err (refusal NoDouble File 0)
 
 -- "only if the coefficient is at most 9,007,199,254,740,991 and the power lies in -15 to 15"
-unfoldable pub double_from : Decimal → DoubleAnswer
+unfoldable pub double_from : Decimal → Result Float Refusal
 double_from n =
     first ((ltb 9007199254740991 n.coefficient, no_double) ∷ (ltb 15 (nat_abs n.power), no_double) ∷ [])
-    (Is (with_sign n.minus (scaled_of (lt_z n.power (pos 0)) n.coefficient (nat_abs n.power))))
+    (Ok (with_sign n.minus (scaled_of (lt_z n.power (pos 0)) n.coefficient (nat_abs n.power))))
 
 -- 20 and 21 are the number's own
-unfoldable pub on_number : NumberAnswer → DoubleAnswer
-on_number (number.Is n) = double_from n
-on_number (number.Refused r) = Refused r
+unfoldable pub on_number : Result Decimal Refusal → Result Float Refusal
+on_number (Ok n) = double_from n
+on_number (Err r) = Err r
 
-unfoldable pub double_of : List ℕ → DoubleAnswer
+unfoldable pub double_of : List ℕ → Result Float Refusal
 double_of t = on_number (number_in t)
-
--- the refusal that an answer which is no number holds; of a number it is not asked
-abbrev pub refusal_of : NumberAnswer → Refusal
-refusal_of (number.Is n) = refusal NoNumber File 0
-refusal_of (number.Refused r) = r

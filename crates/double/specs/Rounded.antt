@@ -1,7 +1,7 @@
 -- "Rounded once": the coefficient and ten to the absolute power are exact doubles, and the double of a number is its
 -- decimal value, rounded once to the nearest by IEEE 754.
 -- Assumes nothing.
-use Rattle.std.specs.Prelude.{◌≡◌, refl, Bool, true, false, not, cond, List, [], ◌∷◌, ℕ, zero, suc, ◌+◌, ◌*◌, ◌^◌, ◌≤◌, ◌<◌, ltb, ℤ, pos, negsuc, nat_abs, Float}
+use Rattle.std.specs.Prelude.{◌≡◌, refl, Bool, true, false, not, cond, List, [], ◌∷◌, ℕ, zero, suc, ◌+◌, ◌*◌, ◌^◌, ◌≤◌, ◌<◌, ltb, ℤ, pos, negsuc, nat_abs, Float, Result, Ok, Err, is_ok}
 use Rattle.std.proofs.Common.{sym, ap, ap₂, ◌∙◌, mul-one, one-mul, zero-mul, mul-pos, mul_comm, le_trans, arith, ltb-false, le-ltb}
 use Rattle.std.proofs.Math.Nat.{mul-mul-mul_comm, pow-le-pow_right, one-le-pow}
 use Rattle.std.proofs.Math.Dec.{eqb-suc-zero}
@@ -14,16 +14,13 @@ use Rattle.std.specs.Float.Ieee.Scale.{round_same}
 use Rattle.std.specs.Float.Ieee.Fits.{up_pos, down_pos}
 use Rattle.refusal.specs.Rows.{pick, clear}
 use Rattle.decimal_parts.specs.declared.Decimal.{Decimal}
-use Rattle.double.specs.declared.DoubleAnswer.{DoubleAnswer}
-use Rattle.double.specs.declared.DoubleAnswer.TheVariants.{Is, Refused}
-use Rattle.decimal_parts.specs.declared.NumberAnswer.{NumberAnswer}
-use Rattle.decimal_parts.specs.declared.NumberAnswer.TheVariants as number
 use Rattle.decimal_parts.specs.Grammar.{Parts, Writes, over, under}
 use Rattle.decimal_parts.specs.Answer.{decimal_of}
 use Rattle.decimal.specs.Number.{number_in}
 use Rattle.decimal.specs.Agreed.{parts_unique, is_number}
 use Rattle.double.specs.Double.{exact, scaled_of, with_sign, no_double, double_from, on_number, double_of}
 use Rattle.decimal.specs.Meaning.{raise, lower, numerator, denominator, denominator_pos, under_pos, means}
+use Rattle.refusal.specs.declared.Refusal.{Refusal}
 
 -- ---- whole numbers up to 2^53, and the powers of ten that are used, are doubles exactly
 
@@ -119,16 +116,12 @@ denominator_is : (z : ℤ) → pick (lt_z z (pos 0)) (10 ^ nat_abs z) 1 ≡ 10 ^
 denominator_is (pos k) = rw (le-ltb k 0 (omega arith))
 denominator_is (negsuc k) = refl
 
-told : DoubleAnswer → Bool
-told (Is x) = true
-told (Refused r) = false
-
-pub rounded_once : (n : Decimal) (x : Float) → double_from n ≡ Is x → x ≡ round binary64 n.minus (numerator n) (denominator n)
-unfolding double_from told numerator denominator
+pub rounded_once : (n : Decimal) (x : Float) → double_from n ≡ Ok x → x ≡ round binary64 n.minus (numerator n) (denominator n)
+unfolding double_from numerator denominator
 rounded_once n x e =
-    let c = clear told (Is x) refl
+    let c = clear is_ok (Ok x) refl
     ((ltb 9007199254740991 n.coefficient, no_double) ∷ (ltb 15 (nat_abs n.power), no_double) ∷ [])
-    (Is (with_sign n.minus (scaled_of (lt_z n.power (pos 0)) n.coefficient (nat_abs n.power)))) refl e in
+    (Ok (with_sign n.minus (scaled_of (lt_z n.power (pos 0)) n.coefficient (nat_abs n.power)))) refl e in
     let a : n.coefficient ≤ 9007199254740991 = ltb-false 9007199254740991 n.coefficient c.0.0 in
     let b : nat_abs n.power ≤ 15 = ltb-false 15 (nat_abs n.power) c.0.1.0 in
     same_double c.1
@@ -136,20 +129,20 @@ rounded_once n x e =
     ∙ ap₂ (round binary64 false) (numerator_is n.power n.coefficient) (denominator_is n.power))
     ∙ sign_round n.minus (n.coefficient * 10 ^ raise n.power) (10 ^ lower n.power)
   where
-    same_double : {y z : Float} → Is y ≡ Is z → z ≡ y
+    same_double : {y z : Float} → ◌≡◌ {A = Result Float Refusal} (Ok y) (Ok z) → z ≡ y
     same_double h = cc
 
 -- and of a text: the value that its parts write, rounded once
-pub text_rounded_once : (p : Parts) (t : List ℕ) → Writes p t → (x : Float) → double_of t ≡ Is x → x ≡ round binary64 (decimal_of p).minus (over p) (under p)
+pub text_rounded_once : (p : Parts) (t : List ℕ) → Writes p t → (x : Float) → double_of t ≡ Ok x → x ≡ round binary64 (decimal_of p).minus (over p) (under p)
 unfolding double_of on_number
 text_rounded_once p t h x e = go (number_in t) refl e
   where
-    go : (a : NumberAnswer) → number_in t ≡ a → on_number a ≡ Is x → x ≡ round binary64 (decimal_of p).minus (over p) (under p)
-    go (number.Is n) f g =
+    go : (a : Result Decimal Refusal) → number_in t ≡ a → on_number a ≡ Ok x → x ≡ round binary64 (decimal_of p).minus (over p) (under p)
+    go (Ok n) f g =
         let w = (is_number t n).0 f in
         let q : w.0 ≡ p = parts_unique w.0 p t w.1 h in
         let m : n ≡ decimal_of p = w.3 ∙ ap decimal_of q in
         (rw m at (rounded_once n x g))
         ∙ round_same binary64 (decimal_of p).minus (numerator (decimal_of p)) (denominator (decimal_of p)) (over p) (under p)
         (denominator_pos (decimal_of p)) (under_pos p) (means p t h).value
-    go (number.Refused r) f g = let z : ◌≡◌ {A = ℕ} 0 1 = cc in absurd (omega arith)
+    go (Err r) f g = let z : ◌≡◌ {A = ℕ} 0 1 = cc in absurd (omega arith)

@@ -1,21 +1,13 @@
 // A number as a double, rounded once (document 01, "As a double", row 22). Double has the definitions, Rounded the
-// proof that a double is the decimal value rounded once. Stands on `decimal`, `word`, `refusal`.
+// proof that a double is the decimal value rounded once. Stands on `decimal`, `decimal_parts`, `refusal`.
 // The rules in words: docs/FORMAT.md, "Numbers in values".
 #![tactic(auto)]
 
-ghost use Rattle.std.specs.Prelude.{◌≡◌, ◌^◌, ◌<◌, pos};
-ghost use Rattle.std.specs.Int.Signed.{lt_z};
-ghost use Rattle.double.specs.Double.{exact, scaled_of, with_sign, no_double, double_from, refusal_of, double_of};
+ghost use Rattle.std.specs.Prelude.{◌≡◌, ◌^◌, ◌<◌};
+ghost use Rattle.double.specs.Double.{exact, scaled_of, with_sign, double_from, double_of};
 
-use decimal_parts::{Decimal, NumberAnswer};
-use refusal::{Part, Refusal, Rule};
-
-// The double nearest to a number within the double case.
-#[derive(Clone, Copy)]
-pub enum DoubleAnswer {
-    Is(f64),
-    Refused(Refusal),
-}
+use decimal_parts::Decimal;
+use refusal::{Refusal, Rule};
 
 // Ten to the k, exactly. By cases: a table that is indexed would be made on the stack, all 128 bytes of it.
 fn ten(k: usize) -> f64
@@ -62,66 +54,24 @@ fn with_sign(minus: bool, x: f64) -> f64
     if minus { -x } else { x }
 }
 
-// Whether a power is below 0.
-fn below_zero(z: i32) -> bool
-    ensures { result ≡ lt_z z (pos 0) }
-{
-    if z < 0 {
-        return true;
-    }
-    false
-}
-
-// Refusal 22: not within the double case.
-fn no_double() -> DoubleAnswer
-    ensures { result ≡ no_double }
-{
-    DoubleAnswer::Refused(Refusal {
-        rule: Rule::NoDouble,
-        part: Part::File,
-        place: 0,
-    })
-}
-
 // The double of a number: up to 2^53 - 1 the coefficient, and up to 10^15 the power of ten, are doubles exactly, so the
 // one operation on them is the only rounding.
-pub fn double_from(n: Decimal) -> DoubleAnswer
+pub fn double_from(n: Decimal) -> Result<f64, Refusal>
     ensures { result ≡ double_from n }
 {
     let c = n.coefficient;
-    let power = n.power;
-    if 9007199254740991 < c {
-        return no_double();
+    let k = n.power.unsigned_abs() as usize;
+    if 9007199254740991 < c || 15 < k {
+        return Err(refusal::of_file(Rule::NoDouble, 0));
     }
-    let k = word::magnitude(power) as usize;
-    if 15 < k {
-        return no_double();
-    }
-    let x = scaled(below_zero(power), c, k);
-    DoubleAnswer::Is(with_sign(n.minus, x))
-}
-
-// The refusal of an answer that is no number: `let .. else` does not bind it. (Of a number it is never asked.)
-pub fn refusal_of(answer: NumberAnswer) -> Refusal
-    ensures { result ≡ refusal_of answer }
-{
-    match answer {
-        NumberAnswer::Is(_) => Refusal {
-            rule: Rule::NoNumber,
-            part: Part::File,
-            place: 0,
-        },
-        NumberAnswer::Refused(r) => r,
-    }
+    let x = scaled(n.power < 0, c, k);
+    Ok(with_sign(n.minus, x))
 }
 
 // The double that a text is (document 01, "As a double"): its number, rounded once.
-pub fn double(text: &[u8]) -> DoubleAnswer
+#[tactic(auto, unfolding(crate::specs::Double::double_of, crate::specs::Double::on_number))]
+pub fn double(text: &[u8]) -> Result<f64, Refusal>
     ensures { result ≡ double_of text.now }
 {
-    let answer = decimal::number(text);
-    let NumberAnswer::Is(n) = answer else {
-        return DoubleAnswer::Refused(refusal_of(answer));
-    };
-    double_from(n)
+    double_from(decimal::number(text)?)
 }

@@ -1,33 +1,32 @@
 -- What rows 28 and 29 have shown, and how the code tests them.
 -- Assumes nothing.
-use Rattle.std.specs.Prelude.{◌≡◌, refl, Bool, true, false, not, ◌&&◌, ◌||◌, ℕ, zero, suc, ◌%◌, ◌≤◌, length, eqb, Option, Some, None}
+use Rattle.std.specs.Prelude.{◌≡◌, refl, Bool, true, false, not, ◌&&◌, ◌||◌, ℕ, zero, suc, ◌%◌, ◌≤◌, length, eqb, Err, Option, Some, None}
 use Rattle.std.proofs.Common.{sym, ◌∙◌, arith, ne_eqb}
 use Rattle.std.proofs.lemmas.Bool.{not-false}
 use Rattle.refusal.specs.declared.Refusal.{Refusal}
 use Rattle.refusal.specs.declared.Rule.TheVariants.{EntryCode}
 use Rattle.refusal.specs.declared.Part.TheVariants.{File}
-use Rattle.refusal.specs.declared.Verdict.{Verdict}
-use Rattle.refusal.specs.declared.Verdict.TheVariants as verdict
 use Rattle.refusal.specs.Table.{refusal}
 use Rattle.refusal.specs.Rows.{pick}
-use Rattle.refusal.specs.Verdicts.{refused_not}
+use Rattle.refusal.specs.Verdicts.{refused_not, accepted}
 use Rattle.decode.specs.Sample.{integers_asked, bits_asked}
 use Rattle.head.specs.Head.{refused}
 use Rattle.layout.specs.Layout.{Samples, integers, patterns, count, fitting, unfit}
 use Rattle.layout.specs.LayoutLaws.{Kinded, kinded, integers_kinded, bits_kinded}
 use Rattle.entry.specs.Entry.{on_fit, samples_verdict, code_verdict}
+use Rattle.refusal.specs.Verdicts.{Verdict}
 
 -- ---- what is accepted
 
-from_kind : (w : Bool) (r : Refusal) (v : Verdict) → pick w (verdict.Refused r) v ≡ verdict.Accepted → (w ≡ false) × (v ≡ verdict.Accepted)
+from_kind : (w : Bool) (r : Refusal) (v : Verdict) → pick w (Err r) v ≡ accepted → (w ≡ false) × (v ≡ accepted)
 from_kind true r v e = absurd (refused_not r e)
 from_kind false r v e = (refl, e)
 
-from_fit : (x : Option ℕ) → on_fit x ≡ verdict.Accepted → x ≡ None
+from_fit : (x : Option ℕ) → on_fit x ≡ accepted → x ≡ None
 from_fit None e = refl
 from_fit (Some i) e = absurd (refused_not _ e)
 
-pub samples_fit : (code : ℕ) (x : Samples) → samples_verdict code x ≡ verdict.Accepted → (fitting code x ≡ true) × (unfit code x ≡ None)
+pub samples_fit : (code : ℕ) (x : Samples) → samples_verdict code x ≡ accepted → (fitting code x ≡ true) × (unfit code x ≡ None)
 unfolding samples_verdict
 samples_fit code x e =
     let k = from_kind (not (fitting code x)) (refusal EntryCode File 0) (on_fit (unfit code x)) e in
@@ -70,40 +69,40 @@ module _ (code : ℕ) (samples : Samples) {asked : Bool} (e : asked ≡ fitting 
   code_most h = (kinded code samples (sym e ∙ h)).most
 
 -- so where they are accepted the code is one of the five
-pub judged : {code : ℕ} (samples : Samples) {v : Verdict} → v ≡ samples_verdict code samples → v ≡ verdict.Accepted → Kinded code (count samples)
+pub judged : {code : ℕ} (samples : Samples) {v : Verdict} → v ≡ samples_verdict code samples → v ≡ accepted → Kinded code (count samples)
 judged {code} samples e h = kinded code samples (samples_fit code samples (sym e ∙ h)).0
 
 -- ---- the code alone
 
 -- where it is accepted it is one of the five, with a count that it can have
-pub coded : (code s : ℕ) → code_verdict code s ≡ verdict.Accepted → Kinded code s
+pub coded : (code s : ℕ) → code_verdict code s ≡ accepted → Kinded code s
 unfolding code_verdict
 coded code s e = go (integers_asked code s) (bits_asked code) refl refl e
   where
     go : (a b : Bool) → integers_asked code s ≡ a → bits_asked code ≡ b
-        → pick (not (a || b)) (verdict.Refused (refusal EntryCode File 0)) verdict.Accepted ≡ verdict.Accepted → Kinded code s
+        → pick (not (a || b)) (Err (refusal EntryCode File 0)) accepted ≡ accepted → Kinded code s
     go true b h k e = (integers_kinded code s h).0
     go false true h k e = (bits_kinded code s k).0
     go false false h k e = absurd (refused_not _ e)
 
 -- samples that are accepted have an accepted code
-pub code_of_samples : (code : ℕ) (x : Samples) → samples_verdict code x ≡ verdict.Accepted → code_verdict code (count x) ≡ verdict.Accepted
+pub code_of_samples : (code : ℕ) (x : Samples) → samples_verdict code x ≡ accepted → code_verdict code (count x) ≡ accepted
 unfolding code_verdict fitting count
 code_of_samples code (integers row) e = rw (samples_fit code (integers row) e).0
 code_of_samples code (patterns row) e = let b = (samples_fit code (patterns row) e).0 in go (integers_asked code (length row))
   where
-    go : (a : Bool) → pick (not (a || bits_asked code)) (verdict.Refused (refusal EntryCode File 0)) verdict.Accepted ≡ verdict.Accepted
+    go : (a : Bool) → pick (not (a || bits_asked code)) (Err (refusal EntryCode File 0)) accepted ≡ accepted
     go true = refl
     go false = rw (samples_fit code (patterns row) e).0
 
 -- and a code that is refused is refused with every row of samples of that count
-neither_kind : (a b : Bool) (r : Refusal) → pick (not (a || b)) (verdict.Refused (refusal EntryCode File 0)) verdict.Accepted ≡ verdict.Refused r
-    → (a ≡ false) × (b ≡ false) × (verdict.Refused (refusal EntryCode File 0) ≡ verdict.Refused r)
+neither_kind : (a b : Bool) (r : Refusal) → pick (not (a || b)) (Err (refusal EntryCode File 0)) accepted ≡ Err r
+    → (a ≡ false) × (b ≡ false) × ◌≡◌ {A = Verdict} (Err (refusal EntryCode File 0)) (Err r)
 neither_kind true b r e = absurd (refused_not r (sym e))
 neither_kind false true r e = absurd (refused_not r (sym e))
 neither_kind false false r e = (refl, refl, e)
 
-pub code_refused : (code : ℕ) (x : Samples) (r : Refusal) → code_verdict code (count x) ≡ verdict.Refused r → samples_verdict code x ≡ verdict.Refused r
+pub code_refused : (code : ℕ) (x : Samples) (r : Refusal) → code_verdict code (count x) ≡ Err r → samples_verdict code x ≡ Err r
 unfolding code_verdict samples_verdict fitting count
 code_refused code (integers row) r e = let n = neither_kind (integers_asked code (length row)) (bits_asked code) r e in rw n.0 n.2
 code_refused code (patterns row) r e = let n = neither_kind (integers_asked code (length row)) (bits_asked code) r e in rw n.1 n.2

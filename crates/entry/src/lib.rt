@@ -8,56 +8,61 @@ ghost use Rattle.decode.specs.Sample.{integers_asked, bits_asked};
 ghost use Rattle.layout.specs.Layout.{integers, patterns};
 ghost use Rattle.entry.specs.Entry.{on_fit, samples_verdict, code_verdict};
 
-use refusal::{Rule, Verdict};
+use refusal::{Refusal, Rule};
 
 // Row 29: the first sample that its code cannot hold.
-fn fitted(fit: Option<usize>) -> Verdict
+fn fitted(fit: Option<usize>) -> Result<(), Refusal>
     ensures { result ≡ on_fit fit }
 {
     match fit {
-        None => Verdict::Accepted,
-        Some(i) => head::refusing(Rule::SampleRange, i),
+        None => Ok(()),
+        Some(i) => Err(refusal::of_file(Rule::SampleRange, i)),
     }
 }
 
 fn is_of_integers(code: u32, count: usize) -> bool
     ensures { result ≡ integers_asked code count }
 {
-    ((code == 1) | (code == 2)) | ((code == 3) & (count % 4 == 0))
+    match code {
+        1 | 2 => true,
+        3 => count % 4 == 0,
+        _ => false,
+    }
 }
 
 fn is_of_bits(code: u32) -> bool
     ensures { result ≡ bits_asked code }
 {
-    (code == 4) | (code == 5)
+    matches!(code, 4 | 5)
 }
 
 // Integers: a code of 1 to 3, and under code 3 a count in fours.
-pub fn integers_fit(code: u32, row: &[i32]) -> Verdict
+pub fn integers_fit(code: u32, row: &[i32]) -> Result<(), Refusal>
     ensures { result ≡ samples_verdict code (integers row.now) }
 {
-    if is_of_integers(code, row.len()) {
-        return fitted(fit::unfit_integers(code as u8, row));
+    if !is_of_integers(code, row.len()) {
+        return Err(refusal::of_file(Rule::EntryCode, 0));
     }
-    head::refusing(Rule::EntryCode, 0)
+    fitted(fit::unfit_integers(code as u8, row))
 }
 
 // Bit patterns: code 4 or 5.
-pub fn bits_fit(code: u32, row: &[u64]) -> Verdict
+pub fn bits_fit(code: u32, row: &[u64]) -> Result<(), Refusal>
     ensures { result ≡ samples_verdict code (patterns row.now) }
 {
-    if is_of_bits(code) {
-        return fitted(fit::unfit_bits(code as u8, row));
+    if !is_of_bits(code) {
+        return Err(refusal::of_file(Rule::EntryCode, 0));
     }
-    head::refusing(Rule::EntryCode, 0)
+    fitted(fit::unfit_bits(code as u8, row))
 }
 
 // Row 28 before the samples are there: a code of either kind, and under code 3 a count in fours.
-pub fn code_fits(code: u32, count: usize) -> Verdict
+pub fn code_fits(code: u32, count: usize) -> Result<(), Refusal>
     ensures { result ≡ code_verdict code count }
 {
-    if is_of_integers(code, count) | is_of_bits(code) {
-        return Verdict::Accepted;
+    let of_either = is_of_integers(code, count) || is_of_bits(code);
+    if !of_either {
+        return Err(refusal::of_file(Rule::EntryCode, 0));
     }
-    head::refusing(Rule::EntryCode, 0)
+    Ok(())
 }

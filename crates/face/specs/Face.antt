@@ -3,25 +3,18 @@
 -- strings and their values. Fields bear the names that include/seg2.h gives them («..»: the `_` in a name takes no
 -- argument).
 -- Assumes nothing.
-use Rattle.std.specs.Prelude.{Bool, ℕ, ℤ, negsuc}
+use Rattle.std.specs.Prelude.{Bool, ℕ, ℤ, negsuc, Result, Ok, Err}
 use Rattle.refusal.specs.declared.Refusal.{Refusal}
-use Rattle.refusal.specs.declared.Verdict.{Verdict}
-use Rattle.refusal.specs.declared.Verdict.TheVariants.{Accepted, Refused}
 use Rattle.refusal.specs.Rows.{pick}
 use Rattle.refusal.specs.Table.{number_of, part_of}
-use Rattle.head.specs.declared.FileAnswer.{FileAnswer}
-use Rattle.head.specs.declared.FileAnswer.TheVariants as file
-use Rattle.block.specs.declared.TraceAnswer.{TraceAnswer}
-use Rattle.block.specs.declared.TraceAnswer.TheVariants as trace
-use Rattle.reader.specs.declared.CountAnswer.{CountAnswer}
-use Rattle.reader.specs.declared.CountAnswer.TheVariants as count
-use Rattle.refusal.specs.declared.Written.{Written}
-use Rattle.refusal.specs.declared.Written.TheVariants as written
 use Rattle.face.specs.declared.Seg2Verdict.{Seg2Verdict}
 use Rattle.face.specs.declared.Seg2File.{Seg2File}
 use Rattle.face.specs.declared.Seg2Trace.{Seg2Trace}
 use Rattle.face.specs.declared.Seg2Count.{Seg2Count}
 use Rattle.face.specs.declared.Seg2Length.{Seg2Length}
+use Rattle.block.specs.declared.TraceBlock.{TraceBlock}
+use Rattle.head_words.specs.declared.FileBlock.{FileBlock}
+use Rattle.refusal.specs.Verdicts.{Verdict}
 
 -- a bool as a number
 abbrev pub flag : Bool → ℕ
@@ -35,11 +28,11 @@ abbrev pub as_part : Refusal → ℤ
 as_part r = part_of r.part
 
 unfoldable pub as_verdict : Verdict → Seg2Verdict
-as_verdict Accepted = record { number = 0; part = negsuc 0; place = 0 }
-as_verdict (Refused r) = record { number = as_row r; part = as_part r; place = r.place }
+as_verdict (Ok _) = record { number = 0; part = negsuc 0; place = 0 }
+as_verdict (Err r) = record { number = as_row r; part = as_part r; place = r.place }
 
-unfoldable pub as_file : FileAnswer → Seg2File
-as_file (file.Is f) =
+unfoldable pub as_file : Result FileBlock Refusal → Seg2File
+as_file (Ok f) =
     record {
       number = 0;
       part = negsuc 0;
@@ -50,7 +43,7 @@ as_file (file.Is f) =
       string_terminator_size = f.strings;
       line_terminator_size = f.lines;
     }
-as_file (file.Refused r) =
+as_file (Err r) =
     record {
       number = as_row r;
       part = as_part r;
@@ -62,8 +55,8 @@ as_file (file.Refused r) =
       line_terminator_size = 0;
     }
 
-unfoldable pub as_trace : TraceAnswer → Seg2Trace
-as_trace (trace.Is t) =
+unfoldable pub as_trace : Result TraceBlock Refusal → Seg2Trace
+as_trace (Ok t) =
     record {
       number = 0;
       part = negsuc 0;
@@ -74,7 +67,7 @@ as_trace (trace.Is t) =
       sample_count = t.s;
       format_code = t.code;
     }
-as_trace (trace.Refused r) =
+as_trace (Err r) =
     record {
       number = as_row r;
       part = as_part r;
@@ -86,10 +79,10 @@ as_trace (trace.Refused r) =
       format_code = 0;
     }
 
-unfoldable pub as_count : CountAnswer → Seg2Count
-as_count (count.Is n) = record { number = 0; part = negsuc 0; place = 0; count = n }
-as_count (count.Refused r) = record { number = as_row r; part = as_part r; place = r.place; count = 0 }
+unfoldable pub as_count : Result ℕ Refusal → Seg2Count
+as_count (Ok n) = record { number = 0; part = negsuc 0; place = 0; count = n }
+as_count (Err r) = record { number = as_row r; part = as_part r; place = r.place; count = 0 }
 
-unfoldable pub as_length : Written → Seg2Length
-as_length (written.To n) = record { number = 0; part = negsuc 0; place = 0; length = n }
-as_length (written.Refused r) = record { number = as_row r; part = as_part r; place = r.place; length = 0 }
+unfoldable pub as_length : Result ℕ Refusal → Seg2Length
+as_length (Ok n) = record { number = 0; part = negsuc 0; place = 0; length = n }
+as_length (Err r) = record { number = as_row r; part = as_part r; place = r.place; length = 0 }

@@ -9,10 +9,9 @@
 ghost use Rattle.std.specs.Prelude.{◌≡◌};
 ghost use Rattle.face.specs.Face.{flag, as_verdict, as_file, as_trace, as_count, as_length};
 
-use block::TraceAnswer;
-use head::FileAnswer;
-use reader::CountAnswer;
-use refusal::{Verdict, Written};
+use block::TraceBlock;
+use head_words::FileBlock;
+use refusal::Refusal;
 
 #[repr(C)]
 #[derive(Clone, Copy)]
@@ -79,16 +78,16 @@ pub fn one_if(b: bool) -> u32
 
 // ---- answers as they cross to another language
 
-pub fn told(v: Verdict) -> Seg2Verdict
+pub fn told(v: Result<(), Refusal>) -> Seg2Verdict
     ensures { result ≡ as_verdict v }
 {
     match v {
-        Verdict::Accepted => Seg2Verdict {
+        Ok(()) => Seg2Verdict {
             number: 0,
             part: -1,
             place: 0,
         },
-        Verdict::Refused(r) => {
+        Err(r) => {
             let rule = r.rule;
             let part = r.part;
             Seg2Verdict {
@@ -100,11 +99,11 @@ pub fn told(v: Verdict) -> Seg2Verdict
     }
 }
 
-pub fn file_told(a: FileAnswer) -> Seg2File
+pub fn file_told(a: Result<FileBlock, Refusal>) -> Seg2File
     ensures { result ≡ as_file a }
 {
     match a {
-        FileAnswer::Is(f) => Seg2File {
+        Ok(f) => Seg2File {
             number: 0,
             part: -1,
             place: 0,
@@ -114,8 +113,8 @@ pub fn file_told(a: FileAnswer) -> Seg2File
             string_terminator_size: f.strings,
             line_terminator_size: f.lines,
         },
-        FileAnswer::Refused(r) => {
-            let t = told(Verdict::Refused(r));
+        Err(r) => {
+            let t = told(Err(r));
             Seg2File {
                 number: t.number,
                 part: t.part,
@@ -130,11 +129,11 @@ pub fn file_told(a: FileAnswer) -> Seg2File
     }
 }
 
-pub fn trace_told(a: TraceAnswer) -> Seg2Trace
+pub fn trace_told(a: Result<TraceBlock, Refusal>) -> Seg2Trace
     ensures { result ≡ as_trace a }
 {
     match a {
-        TraceAnswer::Is(t) => Seg2Trace {
+        Ok(t) => Seg2Trace {
             number: 0,
             part: -1,
             place: 0,
@@ -144,8 +143,8 @@ pub fn trace_told(a: TraceAnswer) -> Seg2Trace
             sample_count: t.s,
             format_code: t.code as u32,
         },
-        TraceAnswer::Refused(r) => {
-            let t = told(Verdict::Refused(r));
+        Err(r) => {
+            let t = told(Err(r));
             Seg2Trace {
                 number: t.number,
                 part: t.part,
@@ -160,18 +159,18 @@ pub fn trace_told(a: TraceAnswer) -> Seg2Trace
     }
 }
 
-pub fn count_told(a: CountAnswer) -> Seg2Count
+pub fn count_told(a: Result<usize, Refusal>) -> Seg2Count
     ensures { result ≡ as_count a }
 {
     match a {
-        CountAnswer::Is(n) => Seg2Count {
+        Ok(n) => Seg2Count {
             number: 0,
             part: -1,
             place: 0,
             count: n,
         },
-        CountAnswer::Refused(r) => {
-            let t = told(Verdict::Refused(r));
+        Err(r) => {
+            let t = told(Err(r));
             Seg2Count {
                 number: t.number,
                 part: t.part,
@@ -182,18 +181,18 @@ pub fn count_told(a: CountAnswer) -> Seg2Count
     }
 }
 
-pub fn length_told(a: Written) -> Seg2Length
+pub fn length_told(a: Result<usize, Refusal>) -> Seg2Length
     ensures { result ≡ as_length a }
 {
     match a {
-        Written::To(n) => Seg2Length {
+        Ok(n) => Seg2Length {
             number: 0,
             part: -1,
             place: 0,
             length: n,
         },
-        Written::Refused(r) => {
-            let t = told(Verdict::Refused(r));
+        Err(r) => {
+            let t = told(Err(r));
             Seg2Length {
                 number: t.number,
                 part: t.part,

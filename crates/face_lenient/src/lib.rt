@@ -10,15 +10,14 @@ ghost use Rattle.face_lenient.specs.FaceLenient.{lenient_verdict, lenient_file, 
 ghost use Rattle.face_lenient.specs.FaceLenient.{lenient_string, lenient_keyword, lenient_value, lenient_number};
 ghost use Rattle.face_lenient.specs.FaceLenient.{lenient_double, lenient_location};
 
-use block::TraceAnswer;
-use decimal_parts::NumberAnswer;
-use double::DoubleAnswer;
+use block::TraceBlock;
+use decimal_parts::Decimal;
 use face::{Seg2Count, Seg2File, Seg2Trace, Seg2Verdict};
 use face_values::{Seg2Double, Seg2Keyword, Seg2Location, Seg2Number, Seg2String, Seg2Value};
-use head::FileAnswer;
-use location::LocationAnswer;
-use reader::{CountAnswer, KeywordAnswer, StringAnswer};
-use refusal::Verdict;
+use head_words::FileBlock;
+use location::Coordinates;
+use refusal::Refusal;
+use strings::Place;
 
 #[repr(C)]
 #[derive(Clone, Copy)]
@@ -92,7 +91,7 @@ pub struct Seg2LenientLocation {
 
 // ---- answers as they cross to another language, the strict check's verdict beside each
 
-pub fn verdict_beside(a: Verdict, strict: Verdict) -> Seg2LenientVerdict
+pub fn verdict_beside(a: Result<(), Refusal>, strict: Result<(), Refusal>) -> Seg2LenientVerdict
     ensures { result ≡ lenient_verdict a strict }
 {
     Seg2LenientVerdict {
@@ -101,7 +100,7 @@ pub fn verdict_beside(a: Verdict, strict: Verdict) -> Seg2LenientVerdict
     }
 }
 
-pub fn file_beside(a: FileAnswer, strict: Verdict) -> Seg2LenientFile
+pub fn file_beside(a: Result<FileBlock, Refusal>, strict: Result<(), Refusal>) -> Seg2LenientFile
     ensures { result ≡ lenient_file a strict }
 {
     Seg2LenientFile {
@@ -110,7 +109,7 @@ pub fn file_beside(a: FileAnswer, strict: Verdict) -> Seg2LenientFile
     }
 }
 
-pub fn trace_beside(a: TraceAnswer, strict: Verdict) -> Seg2LenientTrace
+pub fn trace_beside(a: Result<TraceBlock, Refusal>, strict: Result<(), Refusal>) -> Seg2LenientTrace
     ensures { result ≡ lenient_trace a strict }
 {
     Seg2LenientTrace {
@@ -119,7 +118,7 @@ pub fn trace_beside(a: TraceAnswer, strict: Verdict) -> Seg2LenientTrace
     }
 }
 
-pub fn count_beside(a: CountAnswer, strict: Verdict) -> Seg2LenientCount
+pub fn count_beside(a: Result<usize, Refusal>, strict: Result<(), Refusal>) -> Seg2LenientCount
     ensures { result ≡ lenient_count a strict }
 {
     Seg2LenientCount {
@@ -128,7 +127,10 @@ pub fn count_beside(a: CountAnswer, strict: Verdict) -> Seg2LenientCount
     }
 }
 
-pub fn string_beside(a: StringAnswer, strict: Verdict) -> Seg2LenientString
+pub fn string_beside(
+    a: Result<Option<Place>, Refusal>,
+    strict: Result<(), Refusal>,
+) -> Seg2LenientString
     ensures { result ≡ lenient_string a strict }
 {
     Seg2LenientString {
@@ -137,7 +139,7 @@ pub fn string_beside(a: StringAnswer, strict: Verdict) -> Seg2LenientString
     }
 }
 
-pub fn keyword_beside(a: KeywordAnswer, strict: Verdict) -> Seg2LenientKeyword
+pub fn keyword_beside(a: Result<bool, Refusal>, strict: Result<(), Refusal>) -> Seg2LenientKeyword
     ensures { result ≡ lenient_keyword a strict }
 {
     Seg2LenientKeyword {
@@ -146,7 +148,10 @@ pub fn keyword_beside(a: KeywordAnswer, strict: Verdict) -> Seg2LenientKeyword
     }
 }
 
-pub fn value_beside(a: StringAnswer, strict: Verdict) -> Seg2LenientValue
+pub fn value_beside(
+    a: Result<Option<Place>, Refusal>,
+    strict: Result<(), Refusal>,
+) -> Seg2LenientValue
     ensures { result ≡ lenient_value a strict }
 {
     Seg2LenientValue {
@@ -155,7 +160,7 @@ pub fn value_beside(a: StringAnswer, strict: Verdict) -> Seg2LenientValue
     }
 }
 
-pub fn number_beside(a: NumberAnswer, strict: Verdict) -> Seg2LenientNumber
+pub fn number_beside(a: Result<Decimal, Refusal>, strict: Result<(), Refusal>) -> Seg2LenientNumber
     ensures { result ≡ lenient_number a strict }
 {
     Seg2LenientNumber {
@@ -164,7 +169,7 @@ pub fn number_beside(a: NumberAnswer, strict: Verdict) -> Seg2LenientNumber
     }
 }
 
-pub fn double_beside(a: DoubleAnswer, strict: Verdict) -> Seg2LenientDouble
+pub fn double_beside(a: Result<f64, Refusal>, strict: Result<(), Refusal>) -> Seg2LenientDouble
     ensures { result ≡ lenient_double a strict }
 {
     Seg2LenientDouble {
@@ -173,7 +178,10 @@ pub fn double_beside(a: DoubleAnswer, strict: Verdict) -> Seg2LenientDouble
     }
 }
 
-pub fn location_beside(a: LocationAnswer, strict: Verdict) -> Seg2LenientLocation
+pub fn location_beside(
+    a: Result<Coordinates, Refusal>,
+    strict: Result<(), Refusal>,
+) -> Seg2LenientLocation
     ensures { result ≡ lenient_location a strict }
 {
     Seg2LenientLocation {

@@ -8,8 +8,8 @@ ghost use Rattle.std.specs.Prelude.{◌≡◌, ◌-◌};
 ghost use Rattle.face_values.specs.FaceValues.{as_string, as_keyword, as_value};
 
 use face_values::{Seg2Keyword, Seg2String, Seg2Value};
-use reader::{KeywordAnswer, StringAnswer};
-use refusal::Verdict;
+use refusal::Refusal;
+use strings::Place;
 
 // How many bytes stand from a up to e.
 fn span(a: usize, e: usize) -> usize
@@ -21,11 +21,11 @@ fn span(a: usize, e: usize) -> usize
     e - a
 }
 
-pub fn string_told(a: StringAnswer) -> Seg2String
+pub fn string_told(a: Result<Option<Place>, Refusal>) -> Seg2String
     ensures { result ≡ as_string a }
 {
     match a {
-        StringAnswer::There(s) => Seg2String {
+        Ok(Some(s)) => Seg2String {
             number: 0,
             part: -1,
             place: 0,
@@ -35,7 +35,7 @@ pub fn string_told(a: StringAnswer) -> Seg2String
             value_start: s.value,
             value_length: span(s.value, s.end),
         },
-        StringAnswer::Absent => Seg2String {
+        Ok(None) => Seg2String {
             number: 0,
             part: -1,
             place: 0,
@@ -45,8 +45,8 @@ pub fn string_told(a: StringAnswer) -> Seg2String
             value_start: 0,
             value_length: 0,
         },
-        StringAnswer::Refused(r) => {
-            let t = face::told(Verdict::Refused(r));
+        Err(r) => {
+            let t = face::told(Err(r));
             Seg2String {
                 number: t.number,
                 part: t.part,
@@ -61,24 +61,24 @@ pub fn string_told(a: StringAnswer) -> Seg2String
     }
 }
 
-pub fn keyword_told(a: KeywordAnswer) -> Seg2Keyword
+pub fn keyword_told(a: Result<bool, Refusal>) -> Seg2Keyword
     ensures { result ≡ as_keyword a }
 {
     match a {
-        KeywordAnswer::Yes => Seg2Keyword {
+        Ok(true) => Seg2Keyword {
             number: 0,
             part: -1,
             place: 0,
             found: 1,
         },
-        KeywordAnswer::No => Seg2Keyword {
+        Ok(false) => Seg2Keyword {
             number: 0,
             part: -1,
             place: 0,
             found: 0,
         },
-        KeywordAnswer::Refused(r) => {
-            let t = face::told(Verdict::Refused(r));
+        Err(r) => {
+            let t = face::told(Err(r));
             Seg2Keyword {
                 number: t.number,
                 part: t.part,
@@ -89,26 +89,26 @@ pub fn keyword_told(a: KeywordAnswer) -> Seg2Keyword
     }
 }
 
-pub fn value_told(a: StringAnswer) -> Seg2Value
+pub fn value_told(a: Result<Option<Place>, Refusal>) -> Seg2Value
     ensures { result ≡ as_value a }
 {
     match a {
-        StringAnswer::There(s) => Seg2Value {
+        Ok(Some(s)) => Seg2Value {
             number: 0,
             part: -1,
             place: 0,
             value_start: s.value,
             value_length: span(s.value, s.end),
         },
-        StringAnswer::Absent => Seg2Value {
+        Ok(None) => Seg2Value {
             number: 0,
             part: -1,
             place: 0,
             value_start: 0,
             value_length: 0,
         },
-        StringAnswer::Refused(r) => {
-            let t = face::told(Verdict::Refused(r));
+        Err(r) => {
+            let t = face::told(Err(r));
             Seg2Value {
                 number: t.number,
                 part: t.part,

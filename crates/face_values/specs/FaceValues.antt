@@ -2,19 +2,9 @@
 -- and behind them the value, which is 0 after a refusal; and a number as it comes back. Fields bear the names that
 -- include/seg2.h gives them («..»: the `_` in a name takes no argument).
 -- Assumes nothing.
-use Rattle.std.specs.Prelude.{ℕ, ◌-◌, ℤ, pos, negsuc, ltb}
+use Rattle.std.specs.Prelude.{ℕ, ◌-◌, ℤ, pos, negsuc, ltb, Result, Ok, Err, Option, Some, None, Bool, true, false, Float}
 use Rattle.location.specs.Location.{absent}
 use Rattle.decimal_parts.specs.declared.Decimal.{Decimal}
-use Rattle.decimal_parts.specs.declared.NumberAnswer.{NumberAnswer}
-use Rattle.decimal_parts.specs.declared.NumberAnswer.TheVariants as number
-use Rattle.double.specs.declared.DoubleAnswer.{DoubleAnswer}
-use Rattle.double.specs.declared.DoubleAnswer.TheVariants as double
-use Rattle.location.specs.declared.LocationAnswer.{LocationAnswer}
-use Rattle.location.specs.declared.LocationAnswer.TheVariants as location
-use Rattle.reader.specs.declared.StringAnswer.{StringAnswer}
-use Rattle.reader.specs.declared.StringAnswer.TheVariants as string
-use Rattle.reader.specs.declared.KeywordAnswer.{KeywordAnswer}
-use Rattle.reader.specs.declared.KeywordAnswer.TheVariants as keyword
 use Rattle.face.specs.Face.{flag, as_row, as_part}
 use Rattle.face_values.specs.declared.Seg2String.{Seg2String}
 use Rattle.face_values.specs.declared.Seg2Keyword.{Seg2Keyword}
@@ -22,10 +12,13 @@ use Rattle.face_values.specs.declared.Seg2Value.{Seg2Value}
 use Rattle.face_values.specs.declared.Seg2Number.{Seg2Number}
 use Rattle.face_values.specs.declared.Seg2Double.{Seg2Double}
 use Rattle.face_values.specs.declared.Seg2Location.{Seg2Location}
+use Rattle.refusal.specs.declared.Refusal.{Refusal}
+use Rattle.location.specs.declared.Coordinates.{Coordinates}
+use Rattle.strings.specs.declared.Place.{Place}
 
 -- starts and lengths in the caller's own buffer
-unfoldable pub as_string : StringAnswer → Seg2String
-as_string (string.There s) =
+unfoldable pub as_string : Result (Option Place) Refusal → Seg2String
+as_string (Ok (Some s)) =
     record {
       number = 0;
       part = negsuc 0;
@@ -36,7 +29,7 @@ as_string (string.There s) =
       value_start = s.value;
       value_length = s.end - s.value;
     }
-as_string string.Absent =
+as_string (Ok None) =
     record {
       number = 0;
       part = negsuc 0;
@@ -47,7 +40,7 @@ as_string string.Absent =
       value_start = 0;
       value_length = 0;
     }
-as_string (string.Refused r) =
+as_string (Err r) =
     record {
       number = as_row r;
       part = as_part r;
@@ -59,19 +52,19 @@ as_string (string.Refused r) =
       value_length = 0;
     }
 
-unfoldable pub as_keyword : KeywordAnswer → Seg2Keyword
-as_keyword keyword.Yes = record { number = 0; part = negsuc 0; place = 0; found = 1 }
-as_keyword keyword.No = record { number = 0; part = negsuc 0; place = 0; found = 0 }
-as_keyword (keyword.Refused r) = record { number = as_row r; part = as_part r; place = r.place; found = 0 }
+unfoldable pub as_keyword : Result Bool Refusal → Seg2Keyword
+as_keyword (Ok true) = record { number = 0; part = negsuc 0; place = 0; found = 1 }
+as_keyword (Ok false) = record { number = 0; part = negsuc 0; place = 0; found = 0 }
+as_keyword (Err r) = record { number = as_row r; part = as_part r; place = r.place; found = 0 }
 
 -- "for a no or a refusal the empty part at the start of the lent buffer"
-unfoldable pub as_value : StringAnswer → Seg2Value
-as_value (string.There s) = record { number = 0; part = negsuc 0; place = 0; value_start = s.value; value_length = s.end - s.value }
-as_value string.Absent = record { number = 0; part = negsuc 0; place = 0; value_start = 0; value_length = 0 }
-as_value (string.Refused r) = record { number = as_row r; part = as_part r; place = r.place; value_start = 0; value_length = 0 }
+unfoldable pub as_value : Result (Option Place) Refusal → Seg2Value
+as_value (Ok (Some s)) = record { number = 0; part = negsuc 0; place = 0; value_start = s.value; value_length = s.end - s.value }
+as_value (Ok None) = record { number = 0; part = negsuc 0; place = 0; value_start = 0; value_length = 0 }
+as_value (Err r) = record { number = as_row r; part = as_part r; place = r.place; value_start = 0; value_length = 0 }
 
-unfoldable pub as_number : NumberAnswer → Seg2Number
-as_number (number.Is n) =
+unfoldable pub as_number : Result Decimal Refusal → Seg2Number
+as_number (Ok n) =
     record {
       number = 0;
       part = negsuc 0;
@@ -81,14 +74,14 @@ as_number (number.Is n) =
       coefficient = n.coefficient;
       decimals = n.decimals;
     }
-as_number (number.Refused r) = record { number = as_row r; part = as_part r; place = r.place; minus = 0; power = pos 0; coefficient = 0; decimals = 0 }
+as_number (Err r) = record { number = as_row r; part = as_part r; place = r.place; minus = 0; power = pos 0; coefficient = 0; decimals = 0 }
 
-unfoldable pub as_double : DoubleAnswer → Seg2Double
-as_double (double.Is x) = record { number = 0; part = negsuc 0; place = 0; value = x }
-as_double (double.Refused r) = record { number = as_row r; part = as_part r; place = r.place; value = absent }
+unfoldable pub as_double : Result Float Refusal → Seg2Double
+as_double (Ok x) = record { number = 0; part = negsuc 0; place = 0; value = x }
+as_double (Err r) = record { number = as_row r; part = as_part r; place = r.place; value = absent }
 
-unfoldable pub as_location : LocationAnswer → Seg2Location
-as_location (location.Is c) =
+unfoldable pub as_location : Result Coordinates Refusal → Seg2Location
+as_location (Ok c) =
     record {
       number = 0;
       part = negsuc 0;
@@ -101,7 +94,7 @@ as_location (location.Is c) =
       y_decimals = c.y_decimals;
       z_decimals = c.z_decimals;
     }
-as_location (location.Refused r) =
+as_location (Err r) =
     record {
       number = as_row r;
       part = as_part r;

@@ -9,10 +9,9 @@ ghost use Rattle.std.specs.Prelude.{◌≡◌};
 ghost use Rattle.face_values.specs.FaceValues.{as_number, as_double, as_location};
 ghost use Rattle.face_values.specs.FaceValues.{as_given};
 
-use decimal_parts::{Decimal, NumberAnswer};
-use double::DoubleAnswer;
-use location::LocationAnswer;
-use refusal::Verdict;
+use decimal_parts::Decimal;
+use location::Coordinates;
+use refusal::Refusal;
 
 // Whether there is such a string; start and length of its keyword and of its value in the caller's own buffer.
 #[repr(C)]
@@ -102,11 +101,11 @@ pub fn number_given(minus: u32, coefficient: u64, power: i32, decimals: u32) -> 
 
 // ---- answers as they cross to another language
 
-pub fn number_told(a: NumberAnswer) -> Seg2Number
+pub fn number_told(a: Result<Decimal, Refusal>) -> Seg2Number
     ensures { result ≡ as_number a }
 {
     match a {
-        NumberAnswer::Is(n) => Seg2Number {
+        Ok(n) => Seg2Number {
             number: 0,
             part: -1,
             place: 0,
@@ -115,8 +114,8 @@ pub fn number_told(a: NumberAnswer) -> Seg2Number
             coefficient: n.coefficient,
             decimals: n.decimals,
         },
-        NumberAnswer::Refused(r) => {
-            let t = face::told(Verdict::Refused(r));
+        Err(r) => {
+            let t = face::told(Err(r));
             Seg2Number {
                 number: t.number,
                 part: t.part,
@@ -130,18 +129,18 @@ pub fn number_told(a: NumberAnswer) -> Seg2Number
     }
 }
 
-pub fn double_told(a: DoubleAnswer) -> Seg2Double
+pub fn double_told(a: Result<f64, Refusal>) -> Seg2Double
     ensures { result ≡ as_double a }
 {
     match a {
-        DoubleAnswer::Is(x) => Seg2Double {
+        Ok(x) => Seg2Double {
             number: 0,
             part: -1,
             place: 0,
             value: x,
         },
-        DoubleAnswer::Refused(r) => {
-            let t = face::told(Verdict::Refused(r));
+        Err(r) => {
+            let t = face::told(Err(r));
             Seg2Double {
                 number: t.number,
                 part: t.part,
@@ -152,11 +151,11 @@ pub fn double_told(a: DoubleAnswer) -> Seg2Double
     }
 }
 
-pub fn location_told(a: LocationAnswer) -> Seg2Location
+pub fn location_told(a: Result<Coordinates, Refusal>) -> Seg2Location
     ensures { result ≡ as_location a }
 {
     match a {
-        LocationAnswer::Is(c) => Seg2Location {
+        Ok(c) => Seg2Location {
             number: 0,
             part: -1,
             place: 0,
@@ -168,8 +167,8 @@ pub fn location_told(a: LocationAnswer) -> Seg2Location
             y_decimals: c.y_decimals,
             z_decimals: c.z_decimals,
         },
-        LocationAnswer::Refused(r) => {
-            let t = face::told(Verdict::Refused(r));
+        Err(r) => {
+            let t = face::told(Err(r));
             Seg2Location {
                 number: t.number,
                 part: t.part,

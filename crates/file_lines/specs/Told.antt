@@ -6,7 +6,6 @@ use Rattle.head_limits.specs.declared.Purpose.TheVariants.{Read}
 use Rattle.text.specs.declared.Manner.TheVariants.{Strict}
 use Rattle.word.specs.Part.{part}
 use Rattle.refusal.specs.declared.Part.TheVariants.{File, Trace}
-use Rattle.refusal.specs.declared.Verdict.TheVariants.{Accepted}
 use Rattle.strings.specs.Strings.{places_of}
 use Rattle.strings.specs.Spelled.{strs_in}
 use Rattle.head_words.specs.declared.FileBlock.{FileBlock}
@@ -23,8 +22,9 @@ use Rattle.lines.specs.Lines.{head_line, trace_line}
 use Rattle.string_lines.specs.StringLines.{strings_text}
 use Rattle.file_lines.specs.FileLines.{strings_in, trace_text, traces_text, file_text}
 use Rattle.word.specs.Wrote.{Room, Wrote, room_front, room_back, joined, first_room, second_room, both_wrote}
+use Rattle.refusal.specs.Verdicts.{accepted}
 
-module _ (f : List ℕ) (ok : image_of Strict Read f ≡ Accepted) (size : 32 ≤ length f) where
+module _ (f : List ℕ) (ok : image_of Strict Read f ≡ accepted) (size : 32 ≤ length f) where
   pub ends_good : (good_terminator f 8 ≡ true) × (good_terminator f 11 ≡ true)
   ends_good = let h = image_headed Strict Read f ok in (h.strings, h.lines)
 

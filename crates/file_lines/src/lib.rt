@@ -5,8 +5,8 @@
 #![tactic(auto)]
 
 ghost use Rattle.std.specs.Prelude.{◌≡◌, ◌≤◌, ◌<◌, length};
+ghost use Rattle.refusal.specs.Verdicts.{accepted};
 ghost use Rattle.word.specs.Wrote.{Room, Wrote};
-ghost use Rattle.refusal.specs.declared.Verdict.TheVariants.{Accepted};
 ghost use Rattle.text.specs.declared.Manner.TheVariants.{Strict};
 ghost use Rattle.head_limits.specs.declared.Purpose.TheVariants.{Read};
 ghost use Rattle.head_words.specs.HeadWords.{count_of};
@@ -17,7 +17,7 @@ use refusal::Part;
 
 // A trace of an accepted file: its line and its strings.
 fn put_trace(out: &mut [u8], at: usize, f: &[u8], k: u16) -> usize
-    requires { (image_of Strict Read f.now ≡ Accepted) × (32 ≤ length f.now) × (k < count_of f.now)
+    requires { (image_of Strict Read f.now ≡ accepted) × (32 ≤ length f.now) × (k < count_of f.now)
         × Room out.old at (trace_text f.now k) }
     ensures { Wrote out.old at (trace_text f.now k) result out.new }
 {
@@ -41,22 +41,20 @@ fn put_trace(out: &mut [u8], at: usize, f: &[u8], k: u16) -> usize
 
 // The traces of an accepted file.
 fn put_traces(out: &mut [u8], at: usize, f: &[u8], n: u16) -> usize
-    requires { (image_of Strict Read f.now ≡ Accepted) × (32 ≤ length f.now) × (n ≡ count_of f.now)
+    requires { (image_of Strict Read f.now ≡ accepted) × (32 ≤ length f.now) × (n ≡ count_of f.now)
         × Room out.old at (traces_text f.now n 0) }
     ensures { Wrote out.old at (traces_text f.now n 0) result out.new }
 {
-    let mut k: u16 = 0;
     let mut to = at;
-    while k < n {
+    for k in 0..n {
         to = put_trace(out, to, f, k);
-        k += 1;
     }
     to
 }
 
 // An accepted file.
 pub fn put_file(out: &mut [u8], f: &[u8]) -> usize
-    requires { (image_of Strict Read f.now ≡ Accepted) × (32 ≤ length f.now)
+    requires { (image_of Strict Read f.now ≡ accepted) × (32 ≤ length f.now)
         × Room out.old 0 (file_text f.now) }
     ensures { Wrote out.old 0 (file_text f.now) result out.new }
 {

@@ -1,18 +1,12 @@
 -- Theorems on what specs/StillRead defines. They stand here, as a wrong definition there is to be refused and not to be unread.
 -- Assumes nothing.
-use Rattle.std.specs.Prelude.{◌≡◌, ℤ, pos, negsuc, length, get_or, drop}
-use Rattle.std.proofs.Math.Path.{refl, sym, ap, ap₂}
-use Rattle.std.proofs.Common.{◌∙◌, arith}
-use mathlib.Core.List.{List, [], ◌∷◌}
-use Prim.Native.Nat.{ℕ, zero, suc, ◌+◌, ◌≤◌, ◌<◌}
-use Rattle.std.proofs.Math.ListN.{take}
-use borrow.Author.Tests.{lt-ltb, ne_eqb}
+use Rattle.std.specs.Prelude.{◌≡◌, refl, List, [], ◌∷◌, ℕ, zero, suc, ◌+◌, ◌≤◌, ◌<◌, ℤ, pos, negsuc, length, get_or, take, drop, Result, Ok, Err, Option, Some, None}
+use Rattle.std.proofs.Common.{sym, ap, ap₂, ◌∙◌, arith, lt-ltb, ne_eqb}
 use Rattle.head_limits.specs.declared.Purpose.TheVariants.{Read, Grow}
 use Rattle.text.specs.declared.Manner.TheVariants.{Strict}
 use Rattle.word.specs.Part.{part}
 use Rattle.word.specs.Bytes.{Bytes}
 use Rattle.refusal.specs.declared.Refusal.{Refusal}
-use Rattle.refusal.specs.declared.Verdict.TheVariants.{Accepted}
 use Rattle.strings.specs.declared.Place.{Place}
 use Rattle.chars.specs.Runs.{same}
 use Rattle.strings.specs.Strings.{places_of, find_of, key_in, value_found}
@@ -23,11 +17,6 @@ use Rattle.terminators.specs.Terminators.{string_end, line_end}
 use Rattle.block.specs.Block.{block_size_of, data_size_of, data_at}
 use Rattle.image.specs.Image.{check_of}
 use Rattle.image.specs.Keeps.{trace_at, strings_end}
-use Rattle.reader.specs.declared.Area.{Area}
-use Rattle.reader.specs.declared.Area.TheVariants.{Outside, From}
-use Rattle.reader.specs.declared.StringAnswer.{StringAnswer}
-use Rattle.reader.specs.declared.StringAnswer.TheVariants as string
-use Rattle.head.specs.declared.FileAnswer.TheVariants as file
 use Rattle.reader.specs.Listed.{found_value}
 use Rattle.block.specs.declared.TraceBlock.{TraceBlock}
 use Rattle.part_number.specs.PartNumber.{whose_of}
@@ -46,6 +35,7 @@ use Rattle.growth.specs.StillKeeps.{strings_end_grown, file_spelled_kept}
 use Rattle.growth.proofs.StillKeeps.{grown_accepted}
 use Rattle.growth.specs.Answered.{AnswersBy, answered}
 use Rattle.growth.specs.StillRead.{Old, Readable, classes_kept, file_some, patterns_kept, samples_kept, trace_block_kept}
+use Rattle.refusal.specs.Verdicts.{accepted}
 
 -- the first string with a keyword is told by the strings
 find_same : (f g : List ℕ) (ps : List Place) (key : List ℕ) → strs_in g ps ≡ strs_in f ps → find_of Strict g ps key ≡ find_of Strict f ps key
@@ -139,13 +129,13 @@ module _ {f g : List ℕ} {x : Trace} (w : Grows f g x) where
   bits_rows_kept : (k s c : ℕ) → k < count_of f → bits_verdict (block_at g k) s c ≡ bits_verdict (block_at f k) s c
   bits_rows_kept k s c l = ap (λ (t : TraceBlock). bits_verdict t s c) ((trace_block_kept w) k l)
 
-value_on : (f : List ℕ) (m : Area) (r : Refusal) (p : ℕ → ℕ → StringAnswer)
-    → value_there f (on_area m (string.Refused r) p) ≡ on_area m [] (λ a e. value_there f (p a e))
-value_on f Outside r p = refl
-value_on f (From a e) r p = refl
+value_on : (f : List ℕ) (m : Option (ℕ × ℕ)) (r : Refusal) (p : ℕ → ℕ → Result (Option Place) Refusal)
+    → value_there f (on_area m (Err r) p) ≡ on_area m [] (λ a e. value_there f (p a e))
+value_on f None r p = refl
+value_on f (Some (a, e)) r p = refl
 
-module _ {xs : List ℕ} {n : ℕ} {x : Trace} {end : ℕ} (by : Bytes xs) (h : Added xs n x end) (taken : check_of Strict Read xs n ≡ Accepted) where
-  still : check_of Strict Read (grown xs n x) end ≡ Accepted
+module _ {xs : List ℕ} {n : ℕ} {x : Trace} {end : ℕ} (by : Bytes xs) (h : Added xs n x end) (taken : check_of Strict Read xs n ≡ accepted) where
+  still : check_of Strict Read (grown xs n x) end ≡ accepted
   still = grown_accepted Read by h
 
   pub trace_answer_kept : (z : ℤ) → Old z (count_of (take n xs)) → trace_answer Strict (grown xs n x) end z ≡ trace_answer Strict xs n z
@@ -254,8 +244,7 @@ strings_answers_kept {xs} {n} {x} {end} {ss} by h s =
 -- the file's block says one trace more, and nothing else
 pub file_answer_grown : {xs : List ℕ} {n : ℕ} {x : Trace} {end : ℕ} → Bytes xs → Added xs n x end
     → file_answer Strict (grown xs n x) end
-    ≡ file.Is
-    (record {
+    ≡ Ok (record {
       high = high_first (take n xs);
       m = room_of (take n xs);
       n = count_of (take n xs) + 1;

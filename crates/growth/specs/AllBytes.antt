@@ -1,7 +1,7 @@
 -- What is written are bytes, so that the laws of one addition hold of the next: the buffer after a start or an addition
 -- is a buffer of bytes again.
 -- Assumes nothing.
-use Rattle.std.specs.Prelude.{◌≡◌, refl, Bool, true, false, List, [], ◌∷◌, ◌++◌, ℕ, zero, suc, ◌-◌, ◌*◌, ◌^◌, ◌≤◌, ◌<◌, ℤ, length, replicate, leb, eqb}
+use Rattle.std.specs.Prelude.{◌≡◌, refl, Bool, true, false, List, [], ◌∷◌, ◌++◌, ℕ, zero, suc, ◌-◌, ◌*◌, ◌^◌, ◌≤◌, ◌<◌, ℤ, length, replicate, leb, eqb, Ok}
 use Rattle.std.proofs.Common.{lt_of_not-le, arith, le-leb, ne_eqb, leb-true}
 use Rattle.std.proofs.Math.Decide.{dec_le}
 use Rattle.std.proofs.lemmas.Bool.{lt-leb}
@@ -22,7 +22,6 @@ use Rattle.float20.specs.Float20.{mantissa_of, ones_bits}
 use Rattle.group20.specs.Group20.{exponents_of, words_of, group_bytes}
 use Rattle.row20.specs.Row20.{groups}
 use Rattle.encode.specs.Write.{flat, residue, fixed_bytes, filled_up, integers_data, bits_data}
-use Rattle.sheet.specs.declared.Measured.TheVariants.{Size}
 use Rattle.sheet.specs.Area.{area_of, area_size, padding, sheet_strings, text_size, measured_of}
 use Rattle.area.specs.Spelling.{among, Terminators, terminators_end, area_spells}
 use Rattle.head_words.specs.HeadWords.{high_first}
@@ -100,7 +99,7 @@ spells_rising : {high : Bool} {t u : List ℕ} {ss : List Str} {l : List ℕ} �
 spells_rising empty = tt
 spells_rising (full end g) = g
 
-area_bytes : (high : Bool) (t u s : List ℕ) (n : ℕ) → Terminators t u → measured_of t u s ≡ Size n → Bytes (area_of high t u s)
+area_bytes : (high : Bool) (t u s : List ℕ) (n : ℕ) → Terminators t u → measured_of t u s ≡ Ok n → Bytes (area_of high t u s)
 unfolding area_of
 area_bytes high t u s n e m =
     let z : ℕ = text_size t (sheet_strings u s) in
@@ -180,7 +179,7 @@ trace_block_bytes high b d s code h =
     (bytes_append (bytes_of 4 high d) _ (bytes_of_bytes 4 high d)
     (bytes_append (bytes_of 4 high s) (code ∷ replicate 19 0) (bytes_of_bytes 4 high s) (omega arith, zeros_bytes 19))))
 
-pub trace_bytes_lem : (high : Bool) (t u : List ℕ) (x : Trace) (n : ℕ) → Terminators t u → measured_of t u x.sheet ≡ Size n
+pub trace_bytes_lem : (high : Bool) (t u : List ℕ) (x : Trace) (n : ℕ) → Terminators t u → measured_of t u x.sheet ≡ Ok n
     → fitting x.code x.samples ≡ true → Bytes (trace_bytes high t u x)
 unfolding trace_bytes
 trace_bytes_lem high t u x n e m k =
@@ -220,7 +219,7 @@ plain_pair =
     apart_plain zero e = refl
     apart_plain (suc b) e = let z : eqb 0 (suc b) ≡ false = ne_eqb 0 (suc b) (omega arith) in never (rw z at e)
 
-pub start_image_bytes : (high : Bool) (slots : ℕ) (sheet : List ℕ) (n : ℕ) → measured_of nul line_feed sheet ≡ Size n → Bytes (start_image high slots sheet)
+pub start_image_bytes : (high : Bool) (slots : ℕ) (sheet : List ℕ) (n : ℕ) → measured_of nul line_feed sheet ≡ Ok n → Bytes (start_image high slots sheet)
 unfolding start_image
 start_image_bytes high slots sheet n m =
     bytes_append (file_block high (4 * slots) 0) _ (file_block_bytes high (4 * slots) 0)

@@ -3,7 +3,7 @@
 -- bytes zero .. The image's length is given beside the buffer and the new length is answered; it is where the new
 -- trace's D bytes end"). An accepted addition makes such an image.
 -- Assumes nothing.
-use Rattle.std.specs.Prelude.{◌≡◌, refl, true, false, List, [], ◌++◌, ℕ, ◌+◌, ◌-◌, ◌*◌, ◌≤◌, length, take, drop, replicate, None}
+use Rattle.std.specs.Prelude.{◌≡◌, refl, true, false, List, [], ◌++◌, ℕ, ◌+◌, ◌-◌, ◌*◌, ◌≤◌, length, take, drop, replicate, Ok, None}
 use Rattle.std.proofs.Common.{sym, ap, ◌∙◌, arith, length-take-le, drop_at}
 use Rattle.std.proofs.lemmas.List.{length-replicate}
 use Rattle.head_limits.specs.declared.Purpose.TheVariants.{Grow}
@@ -13,7 +13,6 @@ use Rattle.word.specs.Bytes.{Bytes}
 use Rattle.word.specs.Round.{round4, round4_up}
 use Rattle.word.specs.Word.{word_at}
 use Rattle.word.specs.WordLaws.{word_take}
-use Rattle.sheet.specs.declared.Measured.TheVariants.{Size}
 use Rattle.sheet.specs.Area.{area_size, measured_of}
 use Rattle.head_words.specs.HeadWords.{high_first, room_of, count_of}
 use Rattle.head.specs.Head.{maximum}
@@ -31,7 +30,7 @@ pub record Grows (f g : List ℕ) (x : Trace) : Type 0 where
   -- the old image is one that an addition takes, has a slot, and the trace is one that fits it
   pub old : Keeps Strict Grow f
   pub slot : 4 * count_of f + 4 ≤ room_of f
-  pub sized : measured_of (string_end f) (line_end f) x.sheet ≡ Size (area_size (string_end f) (line_end f) x.sheet)
+  pub sized : measured_of (string_end f) (line_end f) x.sheet ≡ Ok (area_size (string_end f) (line_end f) x.sheet)
   pub channel : wrong_channel f x.sheet ≡ false
   pub kind : fitting x.code x.samples ≡ true
   pub held : unfit x.code x.samples ≡ None

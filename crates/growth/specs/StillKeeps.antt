@@ -1,10 +1,8 @@
 -- The grown image is a file: it keeps all rules, with a trace or without one before it, so the reader and the next
 -- addition accept it.
 -- Assumes nothing.
-use Rattle.std.specs.Prelude.{◌≡◌, refl, Bool, false, List, [], ◌∷◌, ◌++◌, length, take, replicate, eqb}
-use Rattle.std.proofs.Common.{sym, ap₂, ◌∙◌, append_assoc, lt_of_not-le, arith, ne_eqb}
-use Rattle.std.proofs.Math.Path.{ap}
-use Prim.Native.Nat.{ℕ, zero, suc, ◌+◌, ◌-◌, ◌%◌, ◌≤◌, ◌<◌}
+use Rattle.std.specs.Prelude.{◌≡◌, refl, Bool, false, List, [], ◌∷◌, ◌++◌, ℕ, zero, suc, ◌+◌, ◌-◌, ◌%◌, ◌≤◌, ◌<◌, length, take, replicate, eqb}
+use Rattle.std.proofs.Common.{sym, ap, ap₂, ◌∙◌, append_assoc, lt_of_not-le, arith, ne_eqb}
 use Rattle.std.proofs.Math.Decide.{dec_le}
 use Rattle.head_limits.specs.declared.Purpose.{Purpose}
 use Rattle.head_limits.specs.declared.Purpose.TheVariants.{Read, Grow}
@@ -15,7 +13,6 @@ use Rattle.word.specs.Bytes.{Bytes}
 use Rattle.word.specs.Round.{round4, round4_whole, round4_up}
 use Rattle.word.specs.Word.{bytes_of}
 use Rattle.refusal.specs.Rows.{pick}
-use Rattle.refusal.specs.declared.Verdict.TheVariants.{Accepted}
 use Rattle.strings.specs.Spelled.{Str, text_of, size_of, texts, marked_end, Spells, Spells.empty, Ends.mark, Ends.none}
 use Rattle.strings.specs.Spelled.{Spells.full, has_key}
 use Rattle.channel.specs.Count.{count_in, counted}
@@ -44,6 +41,7 @@ use Rattle.growth.specs.Kept.{size_kept, string_end_kept, line_end_kept, trace_a
 use Rattle.growth.specs.Kept.{trace_kept}
 use Rattle.layout.specs.LayoutLaws.{kinded, room_enough}
 use Rattle.growth.specs.NewTrace.{has_new}
+use Rattle.refusal.specs.Verdicts.{accepted}
 
 -- ---- more bytes behind an area that spells strings are ignored, as "what follows in the area is ignored"
 
@@ -175,7 +173,7 @@ module _ {f g : List ℕ} {x : Trace} (w : Grows f g x) where
   abbrev news : List Str
   news = area.sheet_strings (line_end f) x.sheet
 
-  lines : lines_verdict x.sheet ≡ Accepted
+  lines : lines_verdict x.sheet ≡ accepted
   lines = (measured_size (string_end f) (line_end f) x.sheet (area_size (string_end f) (line_end f) x.sheet) w.sized).0
 
   kept_channel : KeepsSheet (eqb (count_of f) 0) (with_of Strict f) x.sheet

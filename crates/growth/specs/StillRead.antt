@@ -1,19 +1,13 @@
 -- An addition changes no answer on what was there: every question on the file's strings, on an old trace, its strings
 -- and its samples is answered as before (document 01, "Strings", "Numbers in values", "Samples").
 -- Assumes nothing.
-use Rattle.std.specs.Prelude.{◌≡◌, ℤ, pos, negsuc, length, get_or, drop}
-use Rattle.std.proofs.Math.Path.{refl, sym, ap, ap₂}
-use Rattle.std.proofs.Common.{◌∙◌, arith}
-use mathlib.Core.List.{List, [], ◌∷◌}
-use Prim.Native.Nat.{ℕ, zero, suc, ◌+◌, ◌≤◌, ◌<◌}
-use Rattle.std.proofs.Math.ListN.{take}
-use borrow.Author.Tests.{lt-ltb, ne_eqb}
+use Rattle.std.specs.Prelude.{◌≡◌, refl, List, [], ◌∷◌, ℕ, zero, suc, ◌+◌, ◌≤◌, ◌<◌, ℤ, pos, negsuc, length, get_or, take, drop}
+use Rattle.std.proofs.Common.{sym, ap, ap₂, ◌∙◌, arith, lt-ltb, ne_eqb}
 use Rattle.head_limits.specs.declared.Purpose.TheVariants.{Read, Grow}
 use Rattle.text.specs.declared.Manner.TheVariants.{Strict}
 use Rattle.word.specs.Part.{part}
 use Rattle.word.specs.Bytes.{Bytes}
 use Rattle.refusal.specs.declared.Refusal.{Refusal}
-use Rattle.refusal.specs.declared.Verdict.TheVariants.{Accepted}
 use Rattle.strings.specs.declared.Place.{Place}
 use Rattle.chars.specs.Runs.{same}
 use Rattle.strings.specs.Strings.{places_of, find_of, key_in, value_found}
@@ -24,11 +18,6 @@ use Rattle.terminators.specs.Terminators.{string_end, line_end}
 use Rattle.block.specs.Block.{block_size_of, data_size_of, data_at, trace_block_of}
 use Rattle.image.specs.Image.{check_of}
 use Rattle.image.specs.Keeps.{trace_at, strings_end, Strings}
-use Rattle.reader.specs.declared.Area.{Area}
-use Rattle.reader.specs.declared.Area.TheVariants.{Outside, From}
-use Rattle.reader.specs.declared.StringAnswer.{StringAnswer}
-use Rattle.reader.specs.declared.StringAnswer.TheVariants as string
-use Rattle.head.specs.declared.FileAnswer.TheVariants as file
 use Rattle.reader.specs.Listed.{found_value}
 use Rattle.reader.specs.Answers.{data_at_lem, samples_at, patterns_at, classes_at}
 use Rattle.block.specs.declared.TraceBlock.{TraceBlock}
@@ -47,6 +36,7 @@ use Rattle.growth.specs.Kept.{behind_room, longer, high_kept, room_kept, count_g
 use Rattle.growth.specs.Kept.{trace_at_kept, part_kept, trace_kept}
 use Rattle.growth.specs.StillKeeps.{strings_end_grown, file_spelled_kept}
 use Rattle.growth.specs.Answered.{AnswersBy, answered}
+use Rattle.refusal.specs.Verdicts.{accepted}
 
 -- the number of a part names the file or a trace that was there, or nothing
 abbrev pub Old : ℤ → ℕ → Type 0
@@ -84,7 +74,7 @@ module _ {f g : List ℕ} {x : Trace} (w : Grows f g x) where
 -- ---- the reader's answers, on the buffer before and after
 
 -- an accepted file has a trace
-pub file_some : (xs : List ℕ) (n : ℕ) → check_of Strict Read xs n ≡ Accepted → 0 < count_of (take n xs)
+pub file_some : (xs : List ℕ) (n : ℕ) → check_of Strict Read xs n ≡ accepted → 0 < count_of (take n xs)
 file_some xs n e = go (count_of (take n xs)) (placed Read xs n e).1.some
   where
     go : (c : ℕ) → (c ≡ 0 → Read ≡ Grow) → 0 < c

@@ -2,16 +2,13 @@
 -- (document 01, "Samples": "So the value read differs by less than 2 to the exponent, and by nothing up to 32,767"
 -- under code 3, and nothing differs under the others).
 -- Assumes nothing.
-use Rattle.std.specs.Prelude.{◌≡◌, refl, Bool, List, [], map, ℕ, zero, suc, ◌+◌, ◌%◌, ◌<◌, ℤ, pos, length, get_or, take, None}
-use Rattle.std.proofs.Common.{sym, ap, ◌∙◌, eqb-true}
-use Rattle.std.proofs.Math.Bool.{true}
-use native.Mathlib.Omega.{arith}
+use Rattle.std.specs.Prelude.{◌≡◌, refl, Bool, true, List, [], map, ℕ, zero, suc, ◌+◌, ◌%◌, ◌<◌, ℤ, pos, length, get_or, take, Ok, None}
+use Rattle.std.proofs.Common.{sym, ap, ◌∙◌, arith, eqb-true}
 use Rattle.std.specs.Int.Signed.{mag}
 use Rattle.head_limits.specs.declared.Purpose.TheVariants.{Read}
 use Rattle.text.specs.declared.Manner.TheVariants.{Strict}
 use Rattle.word.specs.Tests.{never}
 use Rattle.word.specs.Part.{part}
-use Rattle.refusal.specs.declared.Verdict.TheVariants.{Accepted}
 use Rattle.strings.specs.Spelled.{Spells}
 use Rattle.sample.specs.Needed.{by_code, width}
 use Rattle.sample.specs.Run.{values_from, run_map, run_of}
@@ -20,7 +17,6 @@ use Rattle.fit.specs.Unfit.{unfit_integers, unfit_patterns}
 use Rattle.encode.specs.Write.{integers_data, bits_data}
 use Rattle.encode.specs.Back.{reach, fit_reach, integers_back, fit_32, bits_back}
 use Rattle.encode.specs.Cut.{cut, floats_back}
-use Rattle.sheet.specs.declared.Measured.TheVariants.{Size}
 use Rattle.sheet.specs.Area.{sheet_strings, measured_of}
 use Rattle.note.specs.Note.{LineEnd}
 use Rattle.area.specs.Spelling.{area_spells}
@@ -29,7 +25,6 @@ use Rattle.terminators.specs.Terminators.{string_end, line_end}
 use Rattle.block.specs.Block.{data_at, trace_block_of}
 use Rattle.image.specs.Image.{check_of}
 use Rattle.image.specs.Keeps.{trace_at}
-use Rattle.block.specs.declared.TraceAnswer.TheVariants as trace
 use Rattle.reader.specs.Questions.{trace_answer, data_of, code_at, count_at, of_integers, integers_answer, bits_answer}
 use Rattle.reader.specs.Questions.{samples_of, patterns_of, classes_of, integers_left, patterns_left, classes_left}
 use Rattle.reader.specs.Listed.{whose_one, trace_area}
@@ -39,6 +34,7 @@ use Rattle.layout.specs.Layout.{data_bytes, trace_size}
 use Rattle.layout.specs.Layout as layout
 use Rattle.layout.specs.LayoutLaws.{Stands}
 use Rattle.growth.specs.Answered.{AnswersBy, answered}
+use Rattle.refusal.specs.Verdicts.{accepted}
 
 -- ---- what was given, as it reads back
 
@@ -93,7 +89,7 @@ pub record Standing (g : List ℕ) (k p : ℕ) (x : Trace) : Type 0 where
   pub pointer : trace_at g k ≡ p
   pub stands : Stands (high_first g) (string_end g) (line_end g) g p x
   pub size : ℕ
-  pub sized : measured_of (string_end g) (line_end g) x.sheet ≡ Size size
+  pub sized : measured_of (string_end g) (line_end g) x.sheet ≡ Ok size
   pub ends : LineEnd (line_end g)
   pub kind : fitting x.code x.samples ≡ true
   pub held : unfit x.code x.samples ≡ None
@@ -159,18 +155,17 @@ module _ {g : List ℕ} {k p : ℕ} {x : Trace} (s : Standing g k p x) where
 
 pub record ReadsAs (xs : List ℕ) (n k p : ℕ) (x : Trace) : Type 0 where
   pub block : trace_answer Strict xs n (pos k)
-      ≡ trace.Is
-      (record { p = p; b = block_bytes (string_end (take n xs)) (line_end (take n xs)) x; d = data_bytes x; s = layout.count x.samples; code = x.code })
+      ≡ Ok (record { p = p; b = block_bytes (string_end (take n xs)) (line_end (take n xs)) x; d = data_bytes x; s = layout.count x.samples; code = x.code })
   pub strings : AnswersBy Strict xs n (pos k) (sheet_strings (line_end (take n xs)) x.sheet)
   -- rows of the given length are taken, and filled with what was given
   pub integers : (row old : List ℤ) → x.samples ≡ layout.integers row → In32 row → length old ≡ length row
-      → (integers_answer Strict xs n (pos k) (length old) ≡ Accepted) × (integers_left Strict xs n (pos k) old ≡ read_back x.code row)
+      → (integers_answer Strict xs n (pos k) (length old) ≡ accepted) × (integers_left Strict xs n (pos k) old ≡ read_back x.code row)
   pub bits : (row old classes : List ℕ) → x.samples ≡ layout.patterns row → In64 row → length old ≡ length row → length classes ≡ length row
-      → (bits_answer Strict xs n (pos k) (length old) (length classes) ≡ Accepted)
+      → (bits_answer Strict xs n (pos k) (length old) (length classes) ≡ accepted)
       × (patterns_left Strict xs n (pos k) old classes ≡ row)
       × (classes_left Strict xs n (pos k) old classes ≡ map (class_of x.code) row)
 
-pub reads_as : {xs : List ℕ} {n k p : ℕ} {x : Trace} → check_of Strict Read xs n ≡ Accepted → Standing (take n xs) k p x → ReadsAs xs n k p x
+pub reads_as : {xs : List ℕ} {n k p : ℕ} {x : Trace} → check_of Strict Read xs n ≡ accepted → Standing (take n xs) k p x → ReadsAs xs n k p x
 unfolding trace_answer
 reads_as {xs} {n} {k} {p} {x} ok s =
     let g : List ℕ = take n xs in

@@ -1,21 +1,20 @@
 -- The file block (document 01, "The file block" and rows 2 to 7). f is the image, the bytes that are the file, or no
 -- more than its first 32: all that is said of the block stands there.
 -- Assumes nothing.
-use Rattle.std.specs.Prelude.{not, List, [], ◌∷◌, ℕ, ◌+◌, ◌<◌, ltb, eqb}
+use Rattle.std.specs.Prelude.{not, List, [], ◌∷◌, ℕ, ◌+◌, ◌<◌, ltb, eqb, Result, Ok, Err}
 use Rattle.refusal.specs.declared.Rule.{Rule}
 use Rattle.refusal.specs.declared.Rule.TheVariants.{FirstBytes, Revision, PointerRoom, TraceCount, Terminator, RoomEnd}
 use Rattle.refusal.specs.declared.Part.TheVariants.{File}
-use Rattle.refusal.specs.declared.Verdict.{Verdict}
-use Rattle.refusal.specs.declared.Verdict.TheVariants.{Accepted, Refused}
 use Rattle.refusal.specs.Table.{refusal}
 use Rattle.refusal.specs.Rows.{Rows, first}
-use Rattle.refusal.specs.Verdicts.{asked}
+use Rattle.refusal.specs.Verdicts.{asked, accepted}
 use Rattle.terminators.specs.Terminators.{good_terminator, bad_lines}
 use Rattle.head_limits.specs.declared.Purpose.{Purpose}
 use Rattle.head_limits.specs.HeadLimits.{known, bad_room, bad_count}
 use Rattle.head_words.specs.HeadWords.{revision_of, room_of, count_of, file_block_of}
-use Rattle.head.specs.declared.FileAnswer.{FileAnswer}
-use Rattle.head.specs.declared.FileAnswer.TheVariants as file
+use Rattle.refusal.specs.declared.Refusal.{Refusal}
+use Rattle.head_words.specs.declared.FileBlock.{FileBlock}
+use Rattle.refusal.specs.Verdicts.{Verdict}
 
 -- "A file is at most 67,108,864 bytes"
 abbrev pub maximum : ℕ
@@ -24,7 +23,7 @@ maximum = 67108864
 -- ---- rows 2 to 7, on the first 32 bytes b of an image that ends at `end`
 
 abbrev pub refused : Rule → ℕ → Verdict
-refused r at = Refused (refusal r File at)
+refused r at = Err (refusal r File at)
 
 abbrev pub head_rows : Purpose → List ℕ → ℕ → Rows Verdict
 head_rows purpose b end =
@@ -38,18 +37,15 @@ head_rows purpose b end =
     ∷ []
 
 unfoldable pub head_of : Purpose → List ℕ → ℕ → Verdict
-head_of purpose b end = first (head_rows purpose b end) Accepted
+head_of purpose b end = first (head_rows purpose b end) accepted
 
 -- ---- the block as an answer
 
-abbrev pub bad_file : Rule → ℕ → FileAnswer
-bad_file r at = file.Refused (refusal r File at)
-
 -- the check hands on what it read
-unfoldable pub head_answer : Purpose → List ℕ → ℕ → FileAnswer
-head_answer purpose b end = asked file.Refused (head_of purpose b end) (file.Is (file_block_of b))
+unfoldable pub head_answer : Purpose → List ℕ → ℕ → Result FileBlock Refusal
+head_answer purpose b end = asked Err (head_of purpose b end) (Ok (file_block_of b))
 
 -- M and N are words of two bytes
-abbrev pub InWords : FileAnswer → Type 0
-InWords (file.Is x) = (x.m < 65536) × (x.n < 65536)
-InWords (file.Refused r) = Unit {0}
+abbrev pub InWords : Result FileBlock Refusal → Type 0
+InWords (Ok x) = (x.m < 65536) × (x.n < 65536)
+InWords (Err r) = Unit {0}

@@ -6,17 +6,17 @@ use Rattle.std.proofs.Common.{sym, ◌∙◌, arith, get_or-take}
 use Rattle.std.proofs.Math.Bool.{true, false}
 use Rattle.std.proofs.Math.ListN.{get_or}
 use Rattle.std.proofs.Math.Dec.{eqb}
-use borrow.Author.Tests.{le-ltb, eq-eqb, ltb-false, eqb-true, not-false}
-use Rattle.refusal.specs.Verdicts.{is_accepted}
+use Rattle.std.proofs.Common.{le-ltb, eq-eqb, ltb-false, eqb-true}
+use Rattle.std.proofs.lemmas.Bool.{not-false}
+use Rattle.refusal.specs.Verdicts.{is_accepted, accepted}
 use Rattle.word.specs.Tests.{neither, join_neither}
 use Rattle.word.specs.Part.{part_take}
 use Rattle.word.specs.Word.{word_at}
 use Rattle.word.specs.WordLaws.{word_take}
-use Rattle.refusal.specs.Rows.{first, clear, through}
+use Rattle.refusal.specs.Rows.{clear, through}
 use Rattle.head_words.specs.declared.FileBlock.{FileBlock}
 use Rattle.head_limits.specs.declared.Purpose.{Purpose}
 use Rattle.head_limits.specs.declared.Purpose.TheVariants.{Read, Grow}
-use Rattle.refusal.specs.declared.Verdict.TheVariants.{Accepted}
 use Rattle.chars.specs.Runs.{all}
 use Rattle.chars.specs.Chars.{control}
 use Rattle.head_limits.specs.HeadLimits.{known, may_be_empty}
@@ -97,11 +97,11 @@ never_zero true Grow h e = refl
 never_zero true Read h e = let z : ◌≡◌ {A = ℕ} 0 1 = cc in absurd (omega arith)
 never_zero false purpose h e = let z : ◌≡◌ {A = ℕ} 0 1 = cc in absurd (omega arith)
 
-pub headed : (purpose : Purpose) (f : List ℕ) → head_of purpose (take 32 f) (length f) ≡ Accepted → Headed purpose f
+pub headed : (purpose : Purpose) (f : List ℕ) → head_of purpose (take 32 f) (length f) ≡ accepted → Headed purpose f
 unfolding head_of
 headed purpose f e =
     let b : List ℕ = take 32 f in
-    let c = (clear is_accepted Accepted refl (head_rows purpose b (length f)) Accepted refl e).0 in
+    let c = (clear is_accepted accepted refl (head_rows purpose b (length f)) accepted refl e).0 in
     let m = neither (ltb (room_of b) 4) (not (eqb (room_of b % 4) 0)) c.1.1.0 in
     let n = neither (eqb (count_of b) 0 && not (may_be_empty purpose)) (ltb (room_of b / 4) (count_of b)) c.1.1.1.0 in
     let u = neither (not (good_terminator b 11)) (not (Rattle.terminators.specs.Terminators.apart (string_end b) (line_end b))) c.1.1.1.1.1.0 in
@@ -123,7 +123,7 @@ headed purpose f e =
     }
 
 -- and an image of which all that holds passes them
-pub head_accepts : (purpose : Purpose) (f : List ℕ) → Headed purpose f → head_of purpose (take 32 f) (length f) ≡ Accepted
+pub head_accepts : (purpose : Purpose) (f : List ℕ) → Headed purpose f → head_of purpose (take 32 f) (length f) ≡ accepted
 unfolding head_of
 head_accepts purpose f h =
     let b : List ℕ = take 32 f in
@@ -133,7 +133,7 @@ head_accepts purpose f h =
     let lines : good_terminator b 11 ≡ true = own_good f 11 (omega arith) ∙ h.lines in
     let ends : Rattle.terminators.specs.Terminators.apart (string_end b) (line_end b) ≡ true =
     rw (own_terminator f 8 (omega arith) h.strings, own_terminator f 11 (omega arith) h.lines) h.apart in
-    through (head_rows purpose b (length f)) Accepted (
+    through (head_rows purpose b (length f)) accepted (
       ap not (own_known f ∙ h.first),
       (
         ap not (eq-eqb _ _ (own_revision f ∙ h.revision)),

@@ -29,10 +29,7 @@ pub fn is_bad_room(m: usize) -> bool
 fn may_be_empty(purpose: Purpose) -> bool
     ensures { result ≡ may_be_empty purpose }
 {
-    match purpose {
-        Purpose::Read => false,
-        Purpose::Grow => true,
-    }
+    matches!(purpose, Purpose::Grow)
 }
 
 pub fn is_bad_count(purpose: Purpose, m: usize, n: usize) -> bool

@@ -1,27 +1,19 @@
 -- Theorems on what specs/Areas defines. They stand here, as a wrong definition there is to be refused and not to be unread.
 -- Assumes nothing.
-use Rattle.std.specs.Prelude.{◌≡◌, Bool}
-use Rattle.std.proofs.Math.Path.{refl, ap}
-use Rattle.std.proofs.Common.{sym, ◌∙◌, arith, length-take, take_all}
-use mathlib.Core.List.{List, [], ◌∷◌}
-use Prim.Native.Nat.{ℕ, zero, suc, ◌+◌, ◌-◌, ◌≤◌}
-use Rattle.std.proofs.Math.ListN.{length, take, drop}
+use Rattle.std.specs.Prelude.{◌≡◌, Bool, Result, Ok, Err, Option, Some, None, List, [], ◌∷◌, ℕ, zero, suc, ◌+◌, ◌-◌, ◌≤◌, length, take, drop}
+use Rattle.std.proofs.Common.{refl, ap, sym, ◌∙◌, arith, length-take, take_all}
 use Rattle.text.specs.declared.Manner.TheVariants.{Strict}
 use Rattle.word.specs.Part.{part, part_drop, part_part, part_none}
 use Rattle.refusal.specs.declared.Part.{Part}
-use Rattle.chars.specs.Runs.{same}
-use Rattle.strings.specs.declared.Frame.{Frame}
-use Rattle.strings.specs.declared.Frame.TheVariants.{End, Text, Broken}
-use Rattle.strings.specs.declared.Step.{Step}
-use Rattle.strings.specs.declared.Step.TheVariants.{Next, Done, Bad}
 use Rattle.strings.specs.declared.Place.{Place}
 use Rattle.strings.specs.Strings.{offset, body, key_len, gap_len, after_key, frame_of, on_frame, step_of, on_step, strings_from}
 use Rattle.strings.specs.Strings.{strings_of, place_of, on_text, places_from, places_of, key_in, value_in}
 use Rattle.strings.specs.Paper.{end_told}
 use Rattle.strings.specs.Walks.{in_frame, next_fits}
-use Rattle.strings.proofs.Walks.{place_fits}
-use Rattle.strings.proofs.Walks.{next_bounds}
+use Rattle.strings.proofs.Walks.{place_fits, next_bounds}
 use Rattle.ignored.specs.Areas.{SameAt, drop_long, front_same, offset_same, part_same, read_of, rest_same, used_from, used_of}
+use Rattle.refusal.specs.declared.Refusal.{Refusal}
+use Rattle.refusal.specs.declared.Rule.{Rule}
 
 -- ---- one string
 
@@ -33,14 +25,14 @@ unfolding frame_of
 frame_same high t l r n o p = rw (n, p, o)
 
 module _ (high : Bool) (t l r : List ℕ) (long : length l ≡ length r) where
-  end_same : frame_of Strict high t l ≡ End → take 2 l ≡ take 2 r → frame_of Strict high t r ≡ End
+  end_same : frame_of Strict high t l ≡ Ok None → take 2 l ≡ take 2 r → frame_of Strict high t r ≡ Ok None
   end_same f q =
       let o = offset_same high 2 l r (omega arith) q in
       let z : offset high l ≡ 0 = (end_told Strict high t l f).1 in
       let a : ℕ = offset high l - length t in
       sym (frame_same high t l r long o (part_none a (offset high l) l (omega arith) ∙ sym (part_none a (offset high l) r (omega arith)))) ∙ f
 
-  text_same : (o : ℕ) → frame_of Strict high t l ≡ Text o → take o l ≡ take o r → frame_of Strict high t r ≡ Text o
+  text_same : (o : ℕ) → frame_of Strict high t l ≡ Ok (Some o) → take o l ≡ take o r → frame_of Strict high t r ≡ Ok (Some o)
   text_same o f q =
       let i = in_frame Strict high t l o f in
       let e = offset_same high o l r (omega (arith, i.low)) q in
@@ -59,18 +51,18 @@ module _ (high : Bool) (t u : List ℕ) (p : Part) where
   unfolding used_from step_of on_frame
   step_same m prev l r at n q = go (frame_of Strict high t l) refl q
     where
-      go : (w : Frame) → frame_of Strict high t l ≡ w
+      go : (w : Result (Option ℕ) Rule) → frame_of Strict high t l ≡ w
           → take (read_of w (length l) (λ o. used_from m high t (drop o l))) l ≡ take (read_of w (length l) (λ o. used_from m high t (drop o l))) r
           → on_frame Strict (frame_of Strict high t l) t u prev l p at ≡ on_frame Strict (frame_of Strict high t r) t u prev r p at
-      go End f q = rw (f, end_same high t l r n f q)
-      go (Broken b) f q = ap (λ (x : List ℕ). on_frame Strict (frame_of Strict high t x) t u prev x p at) (all_same l r n q)
-      go (Text o) f q =
+      go (Ok None) f q = rw (f, end_same high t l r n f q)
+      go (Err b) f q = ap (λ (x : List ℕ). on_frame Strict (frame_of Strict high t x) t u prev x p at) (all_same l r n q)
+      go (Ok (Some o)) f q =
           let g = front_same o (o + used_from m high t (drop o l)) l r (omega arith) q in
           rw (f, text_same high t l r n o f g, body_same high t l r n o g)
 
   -- what a step past a string leaves
   next_same : (m : ℕ) (prev l r : List ℕ) (at o k : ℕ) → length l ≡ length r → take (used_from (suc m) high t l) l ≡ take (used_from (suc m) high t l) r
-      → step_of Strict high t u p prev l at ≡ Next o k
+      → step_of Strict high t u p prev l at ≡ Ok (Some (o, k))
       → (take k (drop 2 l) ≡ take k (drop 2 r)) × (take (used_from m high t (drop o l)) (drop o l) ≡ take (used_from m high t (drop o l)) (drop o r))
   unfolding used_from
   next_same m prev l r at o k n q e =
@@ -85,16 +77,16 @@ module _ (high : Bool) (t u : List ℕ) (p : Part) where
   from_same zero prev l r at n q = refl
   from_same (suc m) prev l r at n q = go (step_of Strict high t u p prev l at) refl (from_same m)
     where
-      go : (st : Step) → step_of Strict high t u p prev l at ≡ st
+      go : (st : Result (Option (ℕ × ℕ)) Refusal) → step_of Strict high t u p prev l at ≡ st
           → ((prev l r : List ℕ) (at : ℕ) → length l ≡ length r → take (used_from m high t l) l ≡ take (used_from m high t l) r
           → strings_from Strict m high t u p prev l at ≡ strings_from Strict m high t u p prev r at)
           → on_step (step_of Strict high t u p prev l at) (λ o k. strings_from Strict m high t u p (take k (drop 2 l)) (drop o l) (at + o))
           ≡ on_step (step_of Strict high t u p prev r at) (λ o k. strings_from Strict m high t u p (take k (drop 2 r)) (drop o r) (at + o))
-      go (Next o k) e again =
+      go (Ok (Some (o, k))) e again =
           let s = next_same m prev l r at o k n q e in
           rw (← step_same m prev l r at n q, e, s.0) (again (take k (drop 2 r)) (drop o l) (drop o r) (at + o) (drop_long o l r n) s.1)
-      go Done e again = rw (← step_same m prev l r at n q, e)
-      go (Bad x) e again = rw (← step_same m prev l r at n q, e)
+      go (Ok None) e again = rw (← step_same m prev l r at n q, e)
+      go (Err x) e again = rw (← step_same m prev l r at n q, e)
 
   -- the check of an area
   pub strings_same : (l r : List ℕ) (at : ℕ) → length l ≡ length r → take (used_of high t l) l ≡ take (used_of high t l) r
@@ -109,17 +101,17 @@ module _ (high : Bool) (t : List ℕ) where
   spots_same zero l r at n q = refl
   spots_same (suc m) l r at n q = go (frame_of Strict high t l) refl q (spots_same m)
     where
-      go : (w : Frame) → frame_of Strict high t l ≡ w
+      go : (w : Result (Option ℕ) Rule) → frame_of Strict high t l ≡ w
           → take (read_of w (length l) (λ o. used_from m high t (drop o l))) l ≡ take (read_of w (length l) (λ o. used_from m high t (drop o l))) r
           → ((l r : List ℕ) (at : ℕ) → length l ≡ length r → take (used_from m high t l) l ≡ take (used_from m high t l) r
           → places_from Strict m high t l at ≡ places_from Strict m high t r at)
           → on_text (frame_of Strict high t l) [] (λ o. place_of t o l at ∷ places_from Strict m high t (drop o l) (at + o))
           ≡ on_text (frame_of Strict high t r) [] (λ o. place_of t o r at ∷ places_from Strict m high t (drop o r) (at + o))
-      go End f q again = rw (f, end_same high t l r n f q)
-      go (Broken b) f q again =
+      go (Ok None) f q again = rw (f, end_same high t l r n f q)
+      go (Err b) f q again =
           ap (λ (x : List ℕ). on_text (frame_of Strict high t x) []
           (λ o. place_of t o x at ∷ places_from Strict m high t (drop o x) (at + o))) (all_same l r n q)
-      go (Text o) f q again =
+      go (Ok (Some o)) f q again =
           let g = front_same o (o + used_from m high t (drop o l)) l r (omega arith) q in
           let b = body_same high t l r n o g in
           rw (f, text_same high t l r n o f g, b) (ap (λ (ps : List Place). place_of t o r at ∷ ps)
@@ -142,7 +134,7 @@ piece_same f g at e o i j h k q =
     sym (part_part i j at e f (omega arith)) ∙ part_same i j o (part at e f) (part at e g) k q ∙ part_part i j at e g (omega arith)
 
 module _ (high : Bool) (t f g : List ℕ) where
-  place_same : (at e o : ℕ) → frame_of Strict high t (part at e f) ≡ Text o → take o (part at e f) ≡ take o (part at e g)
+  place_same : (at e o : ℕ) → frame_of Strict high t (part at e f) ≡ Ok (Some o) → take o (part at e f) ≡ take o (part at e g)
       → (key_in f (place_of t o (part at e f) at) ≡ key_in g (place_of t o (part at e f) at))
       × (value_in f (place_of t o (part at e f) at) ≡ value_in g (place_of t o (part at e f) at))
   place_same at e o w q =
@@ -163,16 +155,16 @@ module _ (high : Bool) (t f g : List ℕ) where
   texts_from zero at e q = tt
   texts_from (suc m) at e q = go (frame_of Strict high t (part at e f)) refl q (texts_from m)
     where
-      go : (w : Frame) → frame_of Strict high t (part at e f) ≡ w
+      go : (w : Result (Option ℕ) Rule) → frame_of Strict high t (part at e f) ≡ w
           → take (read_of w (length (part at e f)) (λ o. used_from m high t (drop o (part at e f)))) (part at e f)
           ≡ take (read_of w (length (part at e f)) (λ o. used_from m high t (drop o (part at e f)))) (part at e g)
           → ((at e : ℕ)
           → take (used_from m high t (part at e f)) (part at e f) ≡ take (used_from m high t (part at e f)) (part at e g)
           → SameAt f g (places_from Strict m high t (part at e f) at))
           → SameAt f g (on_text w [] (λ o. place_of t o (part at e f) at ∷ places_from Strict m high t (drop o (part at e f)) (at + o)))
-      go End w q again = tt
-      go (Broken b) w q again = tt
-      go (Text o) w q again =
+      go (Ok None) w q again = tt
+      go (Err b) w q again = tt
+      go (Ok (Some o)) w q again =
           let l : List ℕ = part at e f in
           let r : List ℕ = part at e g in
           let d : drop o l ≡ part (at + o) e f = part_drop o at e f in

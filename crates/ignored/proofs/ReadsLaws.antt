@@ -1,20 +1,13 @@
 -- Theorems on what specs/Reads defines. They stand here, as a wrong definition there is to be refused and not to be unread.
 -- Assumes nothing.
-use Rattle.std.specs.Prelude.{◌≡◌, Bool, ℤ, length}
-use Rattle.std.proofs.Math.Path.{refl, sym, ap, ap₂}
-use Rattle.std.proofs.Common.{◌∙◌, arith}
-use mathlib.Core.List.{List, []}
-use Prim.Native.Nat.{ℕ, ◌+◌, ◌≤◌, ◌<◌}
-use Rattle.std.proofs.Math.ListN.{take}
-use borrow.Author.Tests.{le-ltb, ne_eqb}
+use Rattle.std.specs.Prelude.{◌≡◌, Bool, ℤ, length, Ok, Err, Option, Some, None, List, [], ℕ, ◌+◌, ◌≤◌, ◌<◌, take}
+use Rattle.std.proofs.Common.{refl, sym, ap, ap₂, ◌∙◌, arith, le-ltb, ne_eqb}
 use Rattle.head_limits.specs.declared.Purpose.{Purpose}
 use Rattle.head_limits.specs.declared.Purpose.TheVariants.{Read}
 use Rattle.text.specs.declared.Manner.TheVariants.{Strict}
-use Rattle.refusal.specs.Verdicts.{asked}
+use Rattle.refusal.specs.Verdicts.{asked, accepted, Verdict}
 use Rattle.word.specs.Part.{part}
 use Rattle.refusal.specs.declared.Refusal.{Refusal}
-use Rattle.refusal.specs.declared.Verdict.{Verdict}
-use Rattle.refusal.specs.declared.Verdict.TheVariants.{Accepted, Refused}
 use Rattle.strings.specs.declared.Place.{Place}
 use Rattle.strings.specs.Strings.{places_of, nth_of, find_of, value_found}
 use Rattle.head_words.specs.HeadWords.{file_block_of, high_first, room_of, count_of}
@@ -22,14 +15,6 @@ use Rattle.terminators.specs.Terminators.{string_end}
 use Rattle.block.specs.Block.{sample_count_of, format_code_of, data_at, end_at, trace_block_of}
 use Rattle.image.specs.Image.{check_of}
 use Rattle.image.specs.Keeps.{trace_at, strings_end}
-use Rattle.part_number.specs.declared.Whose.{Whose}
-use Rattle.part_number.specs.declared.Whose.TheVariants.{Whole, One, Nobody}
-use Rattle.reader.specs.declared.Area.{Area}
-use Rattle.reader.specs.declared.Area.TheVariants.{Outside, From}
-use Rattle.reader.specs.declared.StringAnswer.TheVariants as string
-use Rattle.head.specs.declared.FileAnswer.TheVariants as file
-use Rattle.block.specs.declared.TraceAnswer.TheVariants as trace
-use Rattle.reader.specs.declared.CountAnswer.TheVariants as count
 use Rattle.part_number.specs.PartNumber.{whose_of}
 use Rattle.reader.specs.Questions.{no_trace, area_named, area_asked, on_area, on_trace, file_answer, trace_answer}
 use Rattle.reader.specs.Questions.{places_in, count_answer, there, nth_answer, find_answer, keyword_answer, yes_or_no}
@@ -48,6 +33,8 @@ use Rattle.ignored.specs.Images.{same_pointer, same_block, same_data, same_count
 use Rattle.ignored.proofs.Images.{same_image}
 use Rattle.ignored.specs.Data.{samples_same, patterns_same, classes_same}
 use Rattle.ignored.specs.Reads.{block}
+use Rattle.refusal.specs.declared.Part.{Part}
+use Rattle.refusal.specs.declared.Part.TheVariants.{File, Trace}
 
 module _ {f g : List ℕ} (a : Alike f g) where
   -- ---- blocks
@@ -73,10 +60,10 @@ module _ {f g : List ℕ} (a : Alike f g) where
       → on_trace (whose_of z (count_of f)) none p ≡ on_trace (whose_of z (count_of g)) none q
   on_trace_lem none p q h z = rw (← same_traces a) (go (whose_of z (count_of f)) refl)
     where
-      go : (w : Whose) → whose_of z (count_of f) ≡ w → on_trace w none p ≡ on_trace w none q
-      go (One k) e = h k (whose_trace z (count_of f) k e).1
-      go Whole e = refl
-      go Nobody e = refl
+      go : (w : Option Part) → whose_of z (count_of f) ≡ w → on_trace w none p ≡ on_trace w none q
+      go (Some (Trace k)) e = h k (whose_trace z (count_of f) k e).1
+      go (Some File) e = refl
+      go None e = refl
 
   -- ---- strings
   places_alike : (x e : ℕ) → AlikeStrings f g x e → places_in Strict f x e ≡ places_in Strict g x e
@@ -100,7 +87,7 @@ module _ {f g : List ℕ} (a : Alike f g) where
       value_same f g (places_in Strict f x e) key (texts_alike x e s)
       ∙ ap (λ (ps : List Place). value_found g (find_of Strict g ps key)) (places_alike x e s)
 
-  module _ (ok : Rattle.image.specs.Image.image_of Strict Read f ≡ Accepted) where
+  module _ (ok : Rattle.image.specs.Image.image_of Strict Read f ≡ accepted) where
     file_strings : AlikeStrings f g (32 + room_of f) (trace_at f 0)
     file_strings =
         let some = some_trace Strict f ok in
@@ -112,14 +99,14 @@ module _ {f g : List ℕ} (a : Alike f g) where
     unfolding area_named
     on_area_lem none p q h z = rw (← same_traces a) (go (whose_of z (count_of f)) refl)
       where
-        go : (w : Whose) → whose_of z (count_of f) ≡ w → on_area (area_named f w) none p ≡ on_area (area_named g w) none q
-        go Whole e =
+        go : (w : Option Part) → whose_of z (count_of f) ≡ w → on_area (area_named f w) none p ≡ on_area (area_named g w) none q
+        go (Some File) e =
             h (32 + room_of f) (trace_at f 0) file_strings ∙ ap₂ q (ap (λ (m : ℕ). 32 + m) (same_room a)) (at_same 0 (some_trace Strict f ok))
-        go (One k) e =
+        go (Some (Trace k)) e =
             let low = (whose_trace z (count_of f) k e).1 in
             h (trace_at f k + 32) (data_at (high_first f) f (trace_at f k)) (a.traces k low).strings
             ∙ ap₂ q (ap (λ (m : ℕ). m + 32) (at_same k low)) (begin_same k low)
-        go Nobody e = refl
+        go None e = refl
 
     -- ---- samples
     end_same : (k : ℕ) → k < count_of f → end_at (high_first f) f (trace_at f k) ≡ end_at (high_first g) g (trace_at g k)
@@ -147,67 +134,67 @@ module _ {f g : List ℕ} (a : Alike f g) where
 
 -- ---- the answers. Rules out a question that looks at a byte which document 01 says is ignored.
 
-through_area : {A B : Type 0} (h : A → B) (w : Area) (none : A) (p : ℕ → ℕ → A) → h (on_area w none p) ≡ on_area w (h none) (λ x e. h (p x e))
-through_area h Outside none p = refl
-through_area h (From x e) none p = refl
+through_area : {A B : Type 0} (h : A → B) (w : Option (ℕ × ℕ)) (none : A) (p : ℕ → ℕ → A) → h (on_area w none p) ≡ on_area w (h none) (λ x e. h (p x e))
+through_area h None none p = refl
+through_area h (Some (x, e)) none p = refl
 
 module _ (xs ys : List ℕ) (n : ℕ) (fx : n ≤ length xs) (fy : n ≤ length ys) (a : Alike (take n xs) (take n ys)) where
   pub alike_check : (purpose : Purpose) → check_of Strict purpose xs n ≡ check_of Strict purpose ys n
   unfolding check_of
   alike_check purpose = rw (le-ltb (length xs) n fx, le-ltb (length ys) n fy, same_image a purpose)
 
-  on_check : {A : Type 0} (bad : Refusal → A) (p q : A) → (Rattle.image.specs.Image.image_of Strict Read (take n xs) ≡ Accepted → p ≡ q)
+  on_check : {A : Type 0} (bad : Refusal → A) (p q : A) → (Rattle.image.specs.Image.image_of Strict Read (take n xs) ≡ accepted → p ≡ q)
       → asked bad (check_of Strict Read xs n) p ≡ asked bad (check_of Strict Read ys n) q
   on_check bad p q h = rw (← alike_check Read) (go (check_of Strict Read xs n) refl)
     where
       go : (v : Verdict) → check_of Strict Read xs n ≡ v → asked bad v p ≡ asked bad v q
-      go Accepted e = h (checked Strict xs n e).image
-      go (Refused r) e = refl
+      go (Ok _) e = h (checked Strict xs n e).image
+      go (Err r) e = refl
 
   pub alike_file : file_answer Strict xs n ≡ file_answer Strict ys n
   unfolding file_answer file_block_of
-  alike_file = on_check file.Refused _ _ (λ ok. rw (same_order a, same_room a, same_traces a, same_size a, a.line_size))
+  alike_file = on_check Err _ _ (λ ok. rw (same_order a, same_room a, same_traces a, same_size a, a.line_size))
 
   pub alike_trace : (z : ℤ) → trace_answer Strict xs n z ≡ trace_answer Strict ys n z
   unfolding trace_answer
-  alike_trace z = on_check trace.Refused _ _ (λ ok. on_trace_lem a _ _ _ (λ k low. ap trace.Is (block_same a k low)) z)
+  alike_trace z = on_check Err _ _ (λ ok. on_trace_lem a _ _ _ (λ k low. ap Ok (block_same a k low)) z)
 
   pub alike_count : (z : ℤ) → count_answer Strict xs n z ≡ count_answer Strict ys n z
   unfolding count_answer
-  alike_count z = on_check count.Refused _ _ (λ ok. on_area_lem a ok _ _ _ (λ x e s. ap (λ (ps : List Place). count.Is (length ps))
+  alike_count z = on_check Err _ _ (λ ok. on_area_lem a ok _ _ _ (λ x e s. ap (λ (ps : List Place). Ok (length ps))
       (places_alike a x e s)) z)
 
   pub alike_nth : (z : ℤ) (i : ℕ) → nth_answer Strict xs n z i ≡ nth_answer Strict ys n z i
   unfolding nth_answer
-  alike_nth z i = on_check string.Refused _ _ (λ ok. on_area_lem a ok _ _ _ (λ x e s. ap (λ (ps : List Place). there (nth_of ps i))
+  alike_nth z i = on_check Err _ _ (λ ok. on_area_lem a ok _ _ _ (λ x e s. ap (λ (ps : List Place). there (nth_of ps i))
       (places_alike a x e s)) z)
 
   pub alike_find : (z : ℤ) (key : List ℕ) → find_answer Strict xs n z key ≡ find_answer Strict ys n z key
   unfolding find_answer
-  alike_find z key = on_check string.Refused _ _ (λ ok. on_area_lem a ok _ _ _ (λ x e s. ap there (find_alike a x e key s)) z)
+  alike_find z key = on_check Err _ _ (λ ok. on_area_lem a ok _ _ _ (λ x e s. ap there (find_alike a x e key s)) z)
 
   pub alike_keyword : (z : ℤ) (key : List ℕ) → keyword_answer Strict xs n z key ≡ keyword_answer Strict ys n z key
   unfolding keyword_answer
   alike_keyword z key = ap yes_or_no (alike_find z key)
 
   through_check : {A B : Type 0} (h : A → B) (bad : Refusal → A) (v : Verdict) (p : A) → h (asked bad v p) ≡ asked (λ r. h (bad r)) v (h p)
-  through_check h bad Accepted p = refl
-  through_check h bad (Refused r) p = refl
+  through_check h bad (Ok _) p = refl
+  through_check h bad (Err r) p = refl
 
   pub alike_value : (z : ℤ) (key : List ℕ) → value_answer Strict xs n z key ≡ value_answer Strict ys n z key
   unfolding value_answer find_answer
   alike_value z key =
       let f : List ℕ = take n xs in
       let g : List ℕ = take n ys in
-      through_check (value_there f) string.Refused (check_of Strict Read xs n) _
+      through_check (value_there f) Err (check_of Strict Read xs n) _
       ∙ on_check (λ r. []) _ _
       (λ ok.
-      through_area (value_there f) (area_asked f z) (string.Refused no_trace) _
+      through_area (value_there f) (area_asked f z) (Err no_trace) _
       ∙ on_area_lem a ok [] _ _
       (λ x e s. found_value f (find_of Strict f (places_in Strict f x e) key) ∙ value_alike a x e key s
       ∙ sym (found_value g (find_of Strict g (places_in Strict g x e) key))) z
-      ∙ sym (through_area (value_there g) (area_asked g z) (string.Refused no_trace) _))
-      ∙ sym (through_check (value_there g) string.Refused (check_of Strict Read ys n) _)
+      ∙ sym (through_area (value_there g) (area_asked g z) (Err no_trace) _))
+      ∙ sym (through_check (value_there g) Err (check_of Strict Read ys n) _)
 
   pub alike_number : (z : ℤ) (key : List ℕ) → number_answer Strict xs n z key ≡ number_answer Strict ys n z key
   unfolding number_answer
@@ -223,16 +210,16 @@ module _ (xs ys : List ℕ) (n : ℕ) (fx : n ≤ length xs) (fy : n ≤ length 
 
   pub alike_integers : (z : ℤ) (s : ℕ) → integers_answer Strict xs n z s ≡ integers_answer Strict ys n z s
   unfolding integers_answer integers_verdict trace_block_of
-  alike_integers z s = on_check Refused _ _ (λ ok. on_trace_lem a _ _ _ (λ k low. rw (code_same a k low, count_same a k low)) z)
+  alike_integers z s = on_check Err _ _ (λ ok. on_trace_lem a _ _ _ (λ k low. rw (code_same a k low, count_same a k low)) z)
 
   pub alike_bits : (z : ℤ) (s c : ℕ) → bits_answer Strict xs n z s c ≡ bits_answer Strict ys n z s c
   unfolding bits_answer bits_verdict trace_block_of
-  alike_bits z s c = on_check Refused _ _ (λ ok. on_trace_lem a _ _ _ (λ k low. rw (code_same a k low, count_same a k low)) z)
+  alike_bits z s c = on_check Err _ _ (λ ok. on_trace_lem a _ _ _ (λ k low. rw (code_same a k low, count_same a k low)) z)
 
   -- a lent row that was filled is filled with the same
-  kept_same : {A : Type 0} (v w : Verdict) (p q old : A) → v ≡ w → (v ≡ Accepted → p ≡ q) → kept v p old ≡ kept w q old
-  kept_same Accepted w p q old e h = rw (← e) (h refl)
-  kept_same (Refused r) w p q old e h = rw (← e)
+  kept_same : {A : Type 0} (v w : Verdict) (p q old : A) → v ≡ w → (v ≡ accepted → p ≡ q) → kept v p old ≡ kept w q old
+  kept_same (Ok _) w p q old e h = rw (← e) (h refl)
+  kept_same (Err r) w p q old e h = rw (← e)
 
   pub alike_integers_left : (z : ℤ) (row : List ℤ) → integers_left Strict xs n z row ≡ integers_left Strict ys n z row
   unfolding integers_left

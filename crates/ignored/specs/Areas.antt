@@ -2,38 +2,25 @@
 -- areas of one length that are alike up to and with the end mark get the same refusal, the same places and the same
 -- strings.
 -- Assumes nothing.
-use Rattle.std.specs.Prelude.{◌≡◌, Bool, true, false}
-use Rattle.std.proofs.Math.Path.{refl, ap}
-use Rattle.std.proofs.Common.{sym, ◌∙◌, arith, length-take, length-drop, take_all, take-take}
-use mathlib.Core.List.{List, [], ◌∷◌}
-use Prim.Native.Nat.{ℕ, zero, suc, ◌+◌, ◌-◌, ◌≤◌}
-use Rattle.std.proofs.Math.ListN.{length, take, drop}
+use Rattle.std.specs.Prelude.{◌≡◌, Bool, true, false, Result, Ok, Err, Option, Some, None, List, [], ◌∷◌, ℕ, zero, suc, ◌+◌, ◌-◌, ◌≤◌, length, take, drop}
+use Rattle.std.proofs.Common.{refl, ap, sym, ◌∙◌, arith, length-drop, take-take}
 use Rattle.text.specs.declared.Manner.TheVariants.{Strict}
-use Rattle.word.specs.Part.{part, drop_take, part_drop, part_take, part_part, part_none}
+use Rattle.word.specs.Part.{part, drop_take, part_take}
 use Rattle.word.specs.Word.{word_at}
 use Rattle.word.specs.WordLaws.{word_take}
 use Rattle.refusal.specs.Rows.{pick}
-use Rattle.refusal.specs.declared.Part.{Part}
 use Rattle.chars.specs.Runs.{same}
-use Rattle.strings.specs.declared.Frame.{Frame}
-use Rattle.strings.specs.declared.Frame.TheVariants.{End, Text, Broken}
-use Rattle.strings.specs.declared.Step.{Step}
-use Rattle.strings.specs.declared.Step.TheVariants.{Next, Done, Bad}
 use Rattle.strings.specs.declared.Place.{Place}
-use Rattle.strings.specs.declared.Found.TheVariants.{Is}
-use Rattle.strings.specs.Strings.{offset, body, key_len, gap_len, after_key, frame_of, on_frame, step_of, on_step, strings_from}
-use Rattle.strings.specs.Strings.{strings_of, place_of, on_text, places_from, places_of, key_in, value_in, find_of, value_found}
-use Rattle.strings.specs.Paper.{end_told}
-use Rattle.strings.specs.Walks.{in_frame, next_fits}
-use Rattle.strings.proofs.Walks.{place_fits}
-use Rattle.strings.proofs.Walks.{next_bounds}
+use Rattle.strings.specs.Strings.{offset, frame_of}
+use Rattle.strings.specs.Strings.{key_in, value_in, find_of, value_found}
+use Rattle.refusal.specs.declared.Rule.{Rule}
 
 -- what of a string's frame is read: an end mark's two bytes, the o bytes of a string and what is read behind it, all
 -- that is left where it is broken
-abbrev pub read_of : Frame → ℕ → (ℕ → ℕ) → ℕ
-read_of End left next = 2
-read_of (Broken r) left next = left
-read_of (Text o) left next = o + next o
+abbrev pub read_of : Result (Option ℕ) Rule → ℕ → (ℕ → ℕ) → ℕ
+read_of (Ok None) left next = 2
+read_of (Err r) left next = left
+read_of (Ok (Some o)) left next = o + next o
 
 unfoldable pub used_from : ℕ → Bool → List ℕ → List ℕ → ℕ
 used_from zero high t l = length l
@@ -81,6 +68,6 @@ value_same f g [] key s = refl
 value_same f g (p ∷ ps) key s = rw s.0.0 (go (same (key_in g p) key) (value_same f g ps key s.1))
   where
     go : (w : Bool) → value_found f (find_of Strict f ps key) ≡ value_found g (find_of Strict g ps key)
-        → value_found f (pick w (Is p) (find_of Strict f ps key)) ≡ value_found g (pick w (Is p) (find_of Strict g ps key))
+        → value_found f (pick w (Some p) (find_of Strict f ps key)) ≡ value_found g (pick w (Some p) (find_of Strict g ps key))
     go true h = s.0.1
     go false h = h

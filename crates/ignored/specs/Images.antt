@@ -5,41 +5,17 @@
 -- "Gaps between traces and bytes after the last" (document 01). Theorem: the check answers alike, refusals and places
 -- included.
 -- Assumes nothing.
-use Rattle.std.specs.Prelude.{◌≡◌, length, take, drop}
-use Rattle.std.proofs.Math.Path.{refl, sym, ap}
-use Rattle.std.proofs.Common.{◌∙◌, length-take, length-drop, lt_of_not-le, get_or-take, take-take, take_all}
-use Rattle.std.proofs.Math.Bool.{Bool, true, false}
-use mathlib.Core.List.{List}
-use Prim.Native.Nat.{ℕ, zero, suc, ◌+◌, ◌-◌, ◌*◌, ◌≤◌, ◌<◌}
-use native.Mathlib.Omega.{arith, by_contra}
-use Rattle.std.proofs.Math.ListN.{get_or}
-use Rattle.std.proofs.Math.Decide.{dec_le}
-use Rattle.std.proofs.Math.Dec.{eqb}
-use borrow.Author.Tests.{eq-eqb}
-use Rattle.head_limits.specs.declared.Purpose.{Purpose}
-use Rattle.text.specs.declared.Manner.TheVariants.{Strict}
-use Rattle.word.specs.Tests.{never}
-use Rattle.word.specs.Part.{part, get_d_part, drop_take}
+use Rattle.std.specs.Prelude.{◌≡◌, length, take, drop, Bool, List, ℕ, ◌+◌, ◌-◌, ◌*◌, ◌≤◌, ◌<◌, get_or, eqb}
+use Rattle.std.proofs.Common.{sym, ap, ◌∙◌, length-take, length-drop, get_or-take, arith}
+use Rattle.word.specs.Part.{part, get_d_part}
 use Rattle.word.specs.Word.{word_at}
 use Rattle.word.specs.WordLaws.{word_take, word_part}
-use Rattle.refusal.specs.Rows.{pick}
-use Rattle.refusal.specs.declared.Part.{Part}
-use Rattle.refusal.specs.declared.Part.TheVariants.{File, Trace}
 use Rattle.sample.specs.Needed.{needed}
-use Rattle.head_words.specs.HeadWords.{high_first, revision_of, room_of, count_of}
-use Rattle.terminators.specs.Terminators.{terminator_at, string_end, line_end, good_terminator}
-use Rattle.head.specs.Head.{head_of}
-use Rattle.block.specs.Block.{pointer_of, mark_at, block_size_of, data_size_of, sample_count_of, format_code_of, data_at, end_at, block_of}
-use Rattle.trace.specs.Trace.{area_verdict, channel_at}
-use Rattle.traces.specs.Traces.{with_channel, trace_of, traces_from}
-use Rattle.image.specs.Image.{filled_checks, rest_of, image_of}
-use Rattle.block.specs.BlockLaws.{head_at, own_mark, own_size, own_data, own_samples, own_code}
-use Rattle.refusal.specs.FirstRow.{first_of}
+use Rattle.head_words.specs.HeadWords.{high_first, room_of, count_of}
+use Rattle.terminators.specs.Terminators.{string_end, line_end}
+use Rattle.block.specs.Block.{pointer_of, mark_at, block_size_of, data_size_of, sample_count_of, format_code_of, data_at, end_at}
 use Rattle.image.specs.Keeps.{trace_at, strings_end}
-use Rattle.strings.specs.declared.Place.{Place}
-use Rattle.strings.specs.Strings.{places_of, find_of, found, value_found}
-use Rattle.channel.specs.Channel.{channel_number}
-use Rattle.ignored.specs.Areas.{used_of, SameAt, find_same, value_same}
+use Rattle.ignored.specs.Areas.{used_of}
 
 -- the strings of f that stand from a to e are the same in g, up to and with the end mark
 abbrev pub AlikeStrings : List ℕ → List ℕ → ℕ → ℕ → Type 0

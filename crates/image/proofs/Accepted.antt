@@ -3,7 +3,7 @@
 use Rattle.std.specs.Prelude.{◌≡◌, refl, Bool, true, false, ◌&&◌, ◌||◌, List, ◌⊎◌, ℕ, zero, suc, ◌+◌, ◌-◌, ◌≤◌, ◌<◌, length, get_or, take, eqb}
 use Rattle.std.proofs.Common.{inl, inr, ⊎_elim, arith, length-take-le, ne_eqb, eqb-true}
 use Rattle.std.proofs.lemmas.Bool.{eqb-false}
-use Rattle.refusal.specs.Verdicts.{refused_not, then_and}
+use Rattle.refusal.specs.Verdicts.{refused_not, then_and, accepted}
 use Rattle.refusal.specs.FirstRow.{row, first_of, met_none_passed}
 use Rattle.word.specs.Tests.{both}
 use Rattle.word.specs.Part.{part}
@@ -12,7 +12,6 @@ use Rattle.refusal.specs.Rows.{pick, pick_second}
 use Rattle.refusal.specs.declared.Part.{Part}
 use Rattle.refusal.specs.declared.Part.TheVariants.{File, Trace}
 use Rattle.refusal.specs.declared.Rule.TheVariants.{Length, ChannelNumber}
-use Rattle.refusal.specs.declared.Verdict.TheVariants.{Accepted}
 use Rattle.text.specs.declared.Manner.{Manner}
 use Rattle.text.specs.Manner.{asks_channels}
 use Rattle.head_limits.specs.declared.Purpose.{Purpose}
@@ -46,19 +45,19 @@ use Rattle.image.specs.Accepted.{terminator_good, unmet, with_of}
 
 -- ---- an area
 area_kept : (how : Manner) (f : List ℕ) (whose : Part) (a e : ℕ) → LineEnd (line_end f) → Bytes f
-    → area_verdict how (high_first f) (string_end f) (line_end f) f whose a e ≡ Accepted → Strings how f a e
+    → area_verdict how (high_first f) (string_end f) (line_end f) f whose a e ≡ accepted → Strings how f a e
 unfolding area_verdict
 area_kept how f whose a e ends by h = accepted_spelled how (high_first f) (string_end f) (line_end f) whose (part a e f) a ends (bytes_part a e f by) h
 
 area_accepts : (how : Manner) (f : List ℕ) (whose : Part) (a e : ℕ) → LineEnd (line_end f) → Strings how f a e
-    → area_verdict how (high_first f) (string_end f) (line_end f) f whose a e ≡ Accepted
+    → area_verdict how (high_first f) (string_end f) (line_end f) f whose a e ≡ accepted
 unfolding area_verdict
 area_accepts how f whose a e ends s = spelled_accepted how whose a ends s.1
 
 module _ (how : Manner) (f : List ℕ) (k : ℕ) (ss : List Str) (low : 32 ≤ block_size_of (high_first f) f (trace_at f k))
     (fits : data_at (high_first f) f (trace_at f k) ≤ length f)
     (s : Spells how (high_first f) (string_end f) (line_end f) ss (part (trace_at f k + 32) (data_at (high_first f) f (trace_at f k)) f)) where
-  row_kept : (with : Bool) → channel_verdict how with f k (trace_at f k) (channel_of how f k) ≡ Accepted → asks_channels how ≡ true
+  row_kept : (with : Bool) → channel_verdict how with f k (trace_at f k) (channel_of how f k) ≡ accepted → asks_channels how ≡ true
       → (has_key how ss channel_number ≡ with) × GoodChannel how ss
   row_kept with e asks =
       let c = (channel_spelled how f k ss low fits s) in
@@ -68,7 +67,7 @@ module _ (how : Manner) (f : List ℕ) (k : ℕ) (ss : List Str) (low : 32 ≤ b
       (h.0, λ has. (count_in (value_of_key how ss channel_number), counted (value_of_key how ss channel_number) _ (h.1 has) refl))
 
   row_accepts : (with : Bool) → (asks_channels how ≡ true → (has_key how ss channel_number ≡ with) × GoodChannel how ss)
-      → channel_verdict how with f k (trace_at f k) (channel_of how f k) ≡ Accepted
+      → channel_verdict how with f k (trace_at f k) (channel_of how f k) ≡ accepted
   row_accepts with h =
       let c = (channel_spelled how f k ss low fits s) in
       rw (c.0, c.1) (go (asks_channels how) h)
@@ -81,7 +80,7 @@ module _ (how : Manner) (f : List ℕ) (k : ℕ) (ss : List Str) (low : 32 ≤ b
 
       go : (w : Bool) → (w ≡ true → (has_key how ss channel_number ≡ with) × GoodChannel how ss)
           → row (w && bad_channel with (has_key how ss channel_number) (value_of_key how ss channel_number))
-          ChannelNumber (Trace k) (trace_at f k + 32) ≡ Accepted
+          ChannelNumber (Trace k) (trace_at f k + 32) ≡ accepted
       go false q = refl
       go true q = rw (good (q refl))
 
@@ -162,7 +161,7 @@ bytes_known f h = ⊎_elim (λ b. rw (b.0, b.1)) (λ b. rw (b.0, b.1)) h
 good_terminator_lem : (f : List ℕ) (at : ℕ) → good_terminator f at ≡ true → KeepsTerminator f at
 good_terminator_lem f at h = record { size = good_length f at h; characters = good_chars f at h }
 
-pub image_keeps : (how : Manner) (purpose : Purpose) (f : List ℕ) → Bytes f → 32 ≤ length f → length f ≤ maximum → image_of how purpose f ≡ Accepted
+pub image_keeps : (how : Manner) (purpose : Purpose) (f : List ℕ) → Bytes f → 32 ≤ length f → length f ≤ maximum → image_of how purpose f ≡ accepted
     → Keeps how purpose f
 image_keeps how purpose f by low most e =
     let h = image_headed how purpose f e in
@@ -185,7 +184,7 @@ image_keeps how purpose f by low most e =
     }
 
 -- the first pointer, the file's strings and the traces, where there is a trace
-rest_accepts : (how : Manner) (purpose : Purpose) (f : List ℕ) → Keeps how purpose f → 0 < count_of f → first_of (Filled how f) ≡ Accepted
+rest_accepts : (how : Manner) (purpose : Purpose) (f : List ℕ) → Keeps how purpose f → 0 < count_of f → first_of (Filled how f) ≡ accepted
 unfolding end_before
 rest_accepts how purpose f h some =
     let k = h.traces 0 some in
@@ -201,7 +200,7 @@ rest_accepts how purpose f h some =
       ),
     )
 
-pub keeps_image : (how : Manner) (purpose : Purpose) (f : List ℕ) → Keeps how purpose f → image_of how purpose f ≡ Accepted
+pub keeps_image : (how : Manner) (purpose : Purpose) (f : List ℕ) → Keeps how purpose f → image_of how purpose f ≡ accepted
 unfolding image_of rest_of
 keeps_image how purpose f h =
     let b = h.file in
@@ -221,18 +220,18 @@ keeps_image how purpose f h =
     (go (eqb (count_of f) 0) refl (area_accepts how f File (32 + room_of f) (strings_end f) (kept_ends h) b.strings))
   where
     go : (w : Bool) → eqb (count_of f) 0 ≡ w
-        → area_verdict how (high_first f) (string_end f) (line_end f) f File (32 + room_of f) (pick w (length f) (trace_at f 0)) ≡ Accepted
-        → pick w (area_verdict how (high_first f) (string_end f) (line_end f) f File (32 + room_of f) (length f)) (first_of (Filled how f)) ≡ Accepted
+        → area_verdict how (high_first f) (string_end f) (line_end f) f File (32 + room_of f) (pick w (length f) (trace_at f 0)) ≡ accepted
+        → pick w (area_verdict how (high_first f) (string_end f) (line_end f) f File (32 + room_of f) (length f)) (first_of (Filled how f)) ≡ accepted
     go true e a = a
     go false e a = let n = eqb-false (count_of f) 0 e in rest_accepts how purpose f h (omega arith)
 
 -- a buffer and a length: accepted exactly where the length is within the buffer and the image keeps the rules
-pub accepted_keeps : (how : Manner) (purpose : Purpose) (xs : List ℕ) (n : ℕ) → Bytes xs → check_of how purpose xs n ≡ Accepted → (n ≤ length xs)
+pub accepted_keeps : (how : Manner) (purpose : Purpose) (xs : List ℕ) (n : ℕ) → Bytes xs → check_of how purpose xs n ≡ accepted → (n ≤ length xs)
     × Keeps how purpose (take n xs)
 unfolding check_of
 accepted_keeps how purpose xs n by e = go (bad_length (length xs) n) refl e
   where
-    go : (w : Bool) → bad_length (length xs) n ≡ w → pick w (refused Length 0) (image_of how purpose (take n xs)) ≡ Accepted → (n ≤ length xs)
+    go : (w : Bool) → bad_length (length xs) n ≡ w → pick w (refused Length 0) (image_of how purpose (take n xs)) ≡ accepted → (n ≤ length xs)
         × Keeps how purpose (take n xs)
     go true q h = absurd (refused_not _ h)
     go false q h =
@@ -241,7 +240,7 @@ accepted_keeps how purpose xs n by e = go (bad_length (length xs) n) refl e
         (l.2, image_keeps how purpose (take n xs) (bytes_take n xs by) (omega (arith, l.0)) (omega (arith, l.1)) h)
 
 pub keeps_accepted : (how : Manner) (purpose : Purpose) (xs : List ℕ) (n : ℕ) → n ≤ length xs → Keeps how purpose (take n xs)
-    → check_of how purpose xs n ≡ Accepted
+    → check_of how purpose xs n ≡ accepted
 unfolding check_of
 keeps_accepted how purpose xs n fits h =
     let s : length (take n xs) ≡ n = length-take-le n xs fits in

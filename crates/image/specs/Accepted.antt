@@ -1,10 +1,10 @@
 -- The two views agree: an image is accepted exactly where it keeps the rules.
 -- Assumes nothing.
-use Rattle.std.specs.Prelude.{◌≡◌, refl, Bool, true, false, ◌&&◌, ◌||◌, List, ◌⊎◌, ℕ, zero, suc, ◌+◌, ◌-◌, ◌≤◌, ◌<◌, length, get_or, take, eqb}
+use Rattle.std.specs.Prelude.{◌≡◌, refl, Bool, true, false, ◌&&◌, ◌||◌, List, ◌⊎◌, ℕ, zero, suc, ◌+◌, ◌-◌, ◌≤◌, ◌<◌, length, get_or, take, eqb, Err, Option}
 use Rattle.std.proofs.Common.{sym, ◌∙◌, inl, inr, ⊎_elim, lt_of_not-le, add-one, arith, length-take-le, ne_eqb, eqb-true}
 use Rattle.std.proofs.Math.Decide.{dec_le}
 use Rattle.std.proofs.lemmas.Bool.{eqb-false}
-use Rattle.refusal.specs.Verdicts.{refused_not, and_then_lem, then_and}
+use Rattle.refusal.specs.Verdicts.{refused_not, and_then_lem, then_and, accepted}
 use Rattle.refusal.specs.FirstRow.{row, first_of, NoneMet, passed_met_none, met_none_passed}
 use Rattle.word.specs.Tests.{both}
 use Rattle.word.specs.Part.{part}
@@ -14,13 +14,10 @@ use Rattle.refusal.specs.declared.Part.{Part}
 use Rattle.refusal.specs.declared.Part.TheVariants.{File, Trace}
 use Rattle.refusal.specs.declared.Refusal.{Refusal}
 use Rattle.refusal.specs.declared.Rule.TheVariants.{Length, ChannelNumber}
-use Rattle.refusal.specs.declared.Verdict.{Verdict}
-use Rattle.refusal.specs.declared.Verdict.TheVariants.{Accepted, Refused}
 use Rattle.text.specs.declared.Manner.{Manner}
 use Rattle.text.specs.Manner.{asks_channels}
 use Rattle.head_limits.specs.declared.Purpose.{Purpose}
 use Rattle.note.specs.Note.{LineEnd}
-use Rattle.strings.specs.declared.Found.{Found}
 use Rattle.strings.specs.Strings.{found, value_found}
 use Rattle.strings.specs.Spelled.{Str, Spells, value_of_key, has_key}
 use Rattle.strings.proofs.Paper.{spelled_accepted, accepted_spelled, spelled_value}
@@ -44,18 +41,20 @@ use Rattle.block.specs.BlockLaws.{Pointed, pointed, pointer_accepts, Blocked, bl
 use Rattle.file_length.specs.FileLength.{long_enough, length_accepts}
 use Rattle.image.specs.Keeps.{trace_at, end_before, strings_end, Strings, GoodChannel, KeepsTerminator, KeepsTrace}
 use Rattle.image.specs.Keeps.{AllOrNone, Keeps}
+use Rattle.strings.specs.declared.Place.{Place}
+use Rattle.refusal.specs.Verdicts.{Verdict}
 
 -- ---- a trace's channel number
 
 -- the string, and whether trace 0 has one
-abbrev pub channel_of : Manner → List ℕ → ℕ → Found
+abbrev pub channel_of : Manner → List ℕ → ℕ → Option Place
 channel_of how f k = channel_at how (high_first f) (string_end f) f (trace_at f k)
 
 abbrev pub with_of : Manner → List ℕ → Bool
 with_of how f = with_channel how (high_first f) (string_end f) f
 
 -- a row that is not met
-pub unmet : (w : Bool) (r : Refusal) → pick w (Refused r) Accepted ≡ Accepted → w ≡ false
+pub unmet : (w : Bool) (r : Refusal) → pick w (Err r) accepted ≡ accepted → w ≡ false
 unmet true r e = absurd (refused_not r e)
 unmet false r e = refl
 
@@ -72,14 +71,14 @@ module _ (how : Manner) (f : List ℕ) (k : ℕ) (ss : List Str) (low : 32 ≤ b
 
 -- ---- a trace
 abbrev pub Traced : Manner → List ℕ → ℕ → Type 0
-Traced how f k = trace_of how (high_first f) (string_end f) (line_end f) f k (end_before f k) ≡ Accepted
+Traced how f k = trace_of how (high_first f) (string_end f) (line_end f) f k (end_before f k) ≡ accepted
 
 -- what its checks show: the pointer, the block, the strings and the channel number
 pub record Shown (how : Manner) (f : List ℕ) (k : ℕ) : Type 0 where
   pub place : Pointed (length f) (end_before f k) (trace_at f k)
   pub block : Blocked (high_first f) f (trace_at f k)
-  pub strings : area_verdict how (high_first f) (string_end f) (line_end f) f (Trace k) (trace_at f k + 32) (data_at (high_first f) f (trace_at f k)) ≡ Accepted
-  pub channel : channel_verdict how (with_of how f) f k (trace_at f k) (channel_of how f k) ≡ Accepted
+  pub strings : area_verdict how (high_first f) (string_end f) (line_end f) f (Trace k) (trace_at f k + 32) (data_at (high_first f) f (trace_at f k)) ≡ accepted
+  pub channel : channel_verdict how (with_of how f) f k (trace_at f k) (channel_of how f k) ≡ accepted
 
 pub shown : (how : Manner) (f : List ℕ) (k : ℕ) → Traced how f k → Shown how f k
 unfolding trace_of
@@ -98,7 +97,7 @@ unfolding end_before
 before_next f k = rw (add-one k)
 
 abbrev pub Walked : Manner → List ℕ → ℕ → ℕ → Type 0
-Walked how f left k = traces_from how (high_first f) (string_end f) (line_end f) f left k (end_before f k) ≡ Accepted
+Walked how f left k = traces_from how (high_first f) (string_end f) (line_end f) f left k (end_before f k) ≡ accepted
 
 walk_each : (how : Manner) (f : List ℕ) (left k : ℕ) → Walked how f left k → (j : ℕ) → k ≤ j → j < k + left → Traced how f j
 unfolding traces_from
@@ -120,7 +119,7 @@ pub kept_ends : {how : Manner} {purpose : Purpose} {f : List ℕ} → Keeps how 
 kept_ends {how} {purpose} {f} h = good_ends f 11 (omega (arith, h.file.room.2)) (terminator_good f 11 h.file.line_end_lem)
 
 -- ---- what an accepted image gives without checking again, for a file and for an image that grows
-pub image_headed : (how : Manner) (purpose : Purpose) (f : List ℕ) → image_of how purpose f ≡ Accepted → Headed purpose f
+pub image_headed : (how : Manner) (purpose : Purpose) (f : List ℕ) → image_of how purpose f ≡ accepted → Headed purpose f
 unfolding image_of
 image_headed how purpose f e = headed purpose f (and_then_lem (head_of purpose (take 32 f) (length f)) _ e).0
 
@@ -128,14 +127,14 @@ image_headed how purpose f e = headed purpose f (and_then_lem (head_of purpose (
 abbrev pub Filled : Manner → List ℕ → List Verdict
 Filled how f = filled_checks how (high_first f) (string_end f) (line_end f) f (room_of f) (count_of f)
 
-image_filled : (how : Manner) (purpose : Purpose) (f : List ℕ) → image_of how purpose f ≡ Accepted → 0 < count_of f → NoneMet (Filled how f)
+image_filled : (how : Manner) (purpose : Purpose) (f : List ℕ) → image_of how purpose f ≡ accepted → 0 < count_of f → NoneMet (Filled how f)
 unfolding image_of rest_of
 image_filled how purpose f e l =
     let a = and_then_lem (head_of purpose (take 32 f) (length f)) _ e in
     let some : count_of f ≡ 0 → ⊥ = λ (z : count_of f ≡ 0). omega arith in
     passed_met_none (Filled how f) (sym (pick_second (eqb (count_of f) 0) _ _ (ne_eqb _ _ some)) ∙ a.1)
 
-pub image_traced : (how : Manner) (purpose : Purpose) (f : List ℕ) → image_of how purpose f ≡ Accepted → (k : ℕ) → k < count_of f → Traced how f k
+pub image_traced : (how : Manner) (purpose : Purpose) (f : List ℕ) → image_of how purpose f ≡ accepted → (k : ℕ) → k < count_of f → Traced how f k
 unfolding end_before
 image_traced how purpose f e k l =
     let c = image_filled how purpose f e (omega arith) in
@@ -148,18 +147,18 @@ traced_places how f k h = let a = shown how f k h in (a.place, a.block)
 
 -- its strings
 pub traced_strings : (how : Manner) (f : List ℕ) (k : ℕ) → Traced how f k
-    → area_verdict how (high_first f) (string_end f) (line_end f) f (Trace k) (trace_at f k + 32) (data_at (high_first f) f (trace_at f k)) ≡ Accepted
+    → area_verdict how (high_first f) (string_end f) (line_end f) f (Trace k) (trace_at f k + 32) (data_at (high_first f) f (trace_at f k)) ≡ accepted
 traced_strings how f k h = (shown how f k h).strings
 
 -- the file's strings
-pub image_strings : (how : Manner) (purpose : Purpose) (f : List ℕ) → image_of how purpose f ≡ Accepted
-    → area_verdict how (high_first f) (string_end f) (line_end f) f File (32 + room_of f) (strings_end f) ≡ Accepted
+pub image_strings : (how : Manner) (purpose : Purpose) (f : List ℕ) → image_of how purpose f ≡ accepted
+    → area_verdict how (high_first f) (string_end f) (line_end f) f File (32 + room_of f) (strings_end f) ≡ accepted
 unfolding image_of rest_of
 image_strings how purpose f e = go (eqb (count_of f) 0) (and_then_lem (head_of purpose (take 32 f) (length f)) _ e).1
   where
     go : (w : Bool)
-        → pick w (area_verdict how (high_first f) (string_end f) (line_end f) f File (32 + room_of f) (length f)) (first_of (Filled how f)) ≡ Accepted
-        → area_verdict how (high_first f) (string_end f) (line_end f) f File (32 + room_of f) (pick w (length f) (trace_at f 0)) ≡ Accepted
+        → pick w (area_verdict how (high_first f) (string_end f) (line_end f) f File (32 + room_of f) (length f)) (first_of (Filled how f)) ≡ accepted
+        → area_verdict how (high_first f) (string_end f) (line_end f) f File (32 + room_of f) (pick w (length f) (trace_at f 0)) ≡ accepted
     go true h = h
     go false h = (passed_met_none (Filled how f) h).1.0
 

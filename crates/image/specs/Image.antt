@@ -5,8 +5,6 @@
 use Rattle.std.specs.Prelude.{Bool, List, [], ◌∷◌, ℕ, ◌+◌, length, take, eqb}
 use Rattle.refusal.specs.declared.Rule.TheVariants.{Length}
 use Rattle.refusal.specs.declared.Part.TheVariants.{File}
-use Rattle.refusal.specs.declared.Verdict.{Verdict}
-use Rattle.refusal.specs.declared.Verdict.TheVariants.{Accepted}
 use Rattle.refusal.specs.Rows.{pick}
 use Rattle.refusal.specs.Verdicts.{and_then}
 use Rattle.refusal.specs.FirstRow.{first_of}
@@ -18,6 +16,7 @@ use Rattle.head_words.specs.HeadWords.{high_first, room_of, count_of}
 use Rattle.head.specs.Head.{head_of, refused}
 use Rattle.terminators.specs.Terminators.{string_end, line_end}
 use Rattle.traces.specs.Traces.{traces_from}
+use Rattle.refusal.specs.Verdicts.{Verdict}
 -- what the check asks of a part, by the same name for who speaks of the whole
 pub use Rattle.file_length.specs.FileLength.{bad_length}
 pub use Rattle.traces.specs.Traces.{with_channel}

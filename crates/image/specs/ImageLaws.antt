@@ -1,40 +1,37 @@
 -- The laws of the check, part by part: what a part has shown, and what the whole then is.
 -- Assumes nothing.
-use Rattle.std.specs.Prelude.{◌≡◌, refl, List, ℕ, ◌<◌, length, take}
+use Rattle.std.specs.Prelude.{◌≡◌, refl, List, ℕ, ◌<◌, length, take, Result, Ok, Err}
 use Rattle.std.proofs.Math.Path.{sym}
 use Rattle.std.proofs.Common.{ap, ◌∙◌, arith}
-use Rattle.refusal.specs.Verdicts.{asked, and_then}
+use Rattle.refusal.specs.Verdicts.{asked, and_then, accepted}
 use Rattle.refusal.specs.declared.Refusal.{Refusal}
-use Rattle.refusal.specs.declared.Verdict.{Verdict}
-use Rattle.refusal.specs.declared.Verdict.TheVariants.{Accepted, Refused}
 use Rattle.text.specs.declared.Manner.{Manner}
 use Rattle.head_limits.specs.declared.Purpose.{Purpose}
 use Rattle.head_words.specs.declared.FileBlock.{FileBlock}
-use Rattle.head.specs.declared.FileAnswer.{FileAnswer}
-use Rattle.head.specs.declared.FileAnswer.TheVariants as file
 use Rattle.head_words.specs.HeadWords.{high_first, room_of, count_of, file_block_of}
 use Rattle.head.specs.Head.{head_of, head_answer, InWords}
 use Rattle.terminators.specs.Terminators.{string_end, line_end}
 use Rattle.head.specs.HeadLaws.{Headed, headed, own_block, block_order, block_room, block_count}
 use Rattle.image.specs.Image.{rest_of, image_of}
+use Rattle.refusal.specs.Verdicts.{Verdict}
 -- what row 1 has shown
 pub use Rattle.file_length.specs.FileLength.{long_enough}
 
 -- ---- rows 2 to 7, then the rest
-pub file_told : (v : Verdict) (y : FileBlock) (r : Refusal) → asked file.Refused v (file.Is y) ≡ file.Refused r → v ≡ Refused r
-file_told Accepted y r e = let z : ◌≡◌ {A = ℕ} 0 1 = cc in absurd (omega arith)
-file_told (Refused q) y r e = let s : q ≡ r = cc in ap Refused s
+pub file_told : (v : Verdict) (y : FileBlock) (r : Refusal) → asked Err v (Ok y) ≡ Err r → v ≡ Err r
+file_told (Ok _) y r e = let z : ◌≡◌ {A = ℕ} 0 1 = cc in absurd (omega arith)
+file_told (Err q) y r e = let s : q ≡ r = cc in ap Err s
 
-file_read : (v : Verdict) (y x : FileBlock) → asked file.Refused v (file.Is y) ≡ file.Is x → (v ≡ Accepted) × (x ≡ y)
-file_read Accepted y x e = (refl, cc)
-file_read (Refused q) y x e = let z : ◌≡◌ {A = ℕ} 0 1 = cc in absurd (omega arith)
+file_read : (v : Verdict) (y x : FileBlock) → asked Err v (Ok y) ≡ Ok x → (v ≡ accepted) × (x ≡ y)
+file_read (Ok _) y x e = (refl, cc)
+file_read (Err q) y x e = let z : ◌≡◌ {A = ℕ} 0 1 = cc in absurd (omega arith)
 
-pub in_words : (a : FileAnswer) (x : FileBlock) → a ≡ file.Is x → InWords a → (x.m < 65536) × (x.n < 65536)
+pub in_words : (a : Result FileBlock Refusal) (x : FileBlock) → a ≡ Ok x → InWords a → (x.m < 65536) × (x.n < 65536)
 in_words a x e h = rw e at h
 
 -- x is the block that the rows hand on
-module _ (purpose : Purpose) (f : List ℕ) (x : FileBlock) (e : head_answer purpose (take 32 f) (length f) ≡ file.Is x) where
-  pub head_passed : (head_of purpose (take 32 f) (length f) ≡ Accepted) × (x ≡ file_block_of (take 32 f))
+module _ (purpose : Purpose) (f : List ℕ) (x : FileBlock) (e : head_answer purpose (take 32 f) (length f) ≡ Ok x) where
+  pub head_passed : (head_of purpose (take 32 f) (length f) ≡ accepted) × (x ≡ file_block_of (take 32 f))
   unfolding head_answer
   head_passed = file_read _ _ x e
 
@@ -57,7 +54,7 @@ module _ (purpose : Purpose) (f : List ℕ) (x : FileBlock) (e : head_answer pur
   unfolding image_of and_then
   head_rest how = sym (rw (head_passed.0, head_order, head_room, head_count))
 
-pub head_bad : (how : Manner) (purpose : Purpose) (f : List ℕ) (r : Refusal) → head_answer purpose (take 32 f) (length f) ≡ file.Refused r
-    → Refused r ≡ image_of how purpose f
+pub head_bad : (how : Manner) (purpose : Purpose) (f : List ℕ) (r : Refusal) → head_answer purpose (take 32 f) (length f) ≡ Err r
+    → Err r ≡ image_of how purpose f
 unfolding head_answer image_of and_then
-head_bad how purpose f r e = let h : head_of purpose (take 32 f) (length f) ≡ Refused r = file_told _ _ r e in sym (rw h)
+head_bad how purpose f r e = let h : head_of purpose (take 32 f) (length f) ≡ Err r = file_told _ _ r e in sym (rw h)

@@ -10,11 +10,9 @@ use Rattle.refusal.specs.Verdicts.{and_then}
 use Rattle.refusal.specs.FirstRow.{first_next, first_two}
 use Rattle.refusal.specs.declared.Part.TheVariants.{File}
 use Rattle.refusal.specs.declared.Refusal.{Refusal}
-use Rattle.refusal.specs.declared.Verdict.TheVariants.{Accepted, Refused}
 use Rattle.text.specs.declared.Manner.{Manner}
 use Rattle.block.specs.Block.{pointer_of, pointer_row}
 use Rattle.trace.specs.Trace.{area_verdict}
-use Rattle.traces.specs.declared.Walked.TheVariants.{Past, Bad}
 use Rattle.traces.specs.Traces.{traces_from}
 use Rattle.traces.specs.Walk.{next_of, pointed_from, next_refused, next_passed, next_past}
 use Rattle.image.specs.Image.{rest_of}

@@ -1,7 +1,7 @@
 -- The written bytes by their places: how many they are, and what stands where (document 01, "The file block", "The
 -- trace block", "What we write").
 -- Assumes nothing.
-use Rattle.std.specs.Prelude.{◌≡◌, refl, Bool, ◌⊎◌, ℕ, zero, suc, ◌+◌, ◌-◌, ◌*◌, ◌%◌, ◌≤◌, ◌<◌, length, get_or, replicate}
+use Rattle.std.specs.Prelude.{◌≡◌, refl, Bool, ◌⊎◌, ℕ, zero, suc, ◌+◌, ◌*◌, ◌%◌, ◌≤◌, ◌<◌, length, get_or, replicate, Ok}
 use Rattle.std.proofs.Common.{sym, ap, ◌∙◌, arith, length-append, drop_at, get_or-append-add, eqb-true}
 use Rattle.std.proofs.Math.Bool.{true, false}
 use mathlib.Core.List.{List, [], ◌∷◌, ◌++◌, append_assoc, append-nil}
@@ -14,7 +14,6 @@ use Rattle.word.specs.WordLaws.{length_bytes_of, word_among, word_drop, word_par
 use Rattle.sample.specs.Needed.{needed, room}
 use Rattle.decode.specs.Sample.{integers_asked, bits_asked}
 use Rattle.encode.specs.Back.{length_integers_data, length_bits_data}
-use Rattle.sheet.specs.declared.Measured.TheVariants.{Size}
 use Rattle.sheet.specs.Area.{area_most, area_of, area_size, measured_of}
 use Rattle.sheet.specs.Sizes.{length_area}
 use Rattle.area.specs.Spelling.{measured_size}
@@ -276,7 +275,7 @@ byte_there g tb at end i e h = sym (get_d_part 0 i at end g h) ∙ ap (λ (r : L
 part_there : (g tb : List ℕ) (at end a e : ℕ) → part at end g ≡ tb → at + e ≤ end → part (at + a) (at + e) g ≡ part a e tb
 part_there g tb at end a e q h = sym (part_part a e at end g h) ∙ ap (λ (r : List ℕ). part a e r) q
 
-pub stands : (high : Bool) (t u f : List ℕ) (p : ℕ) (x : Trace) (n : ℕ) → measured_of t u x.sheet ≡ Size n → fitting x.code x.samples ≡ true
+pub stands : (high : Bool) (t u f : List ℕ) (p : ℕ) (x : Trace) (n : ℕ) → measured_of t u x.sheet ≡ Ok n → fitting x.code x.samples ≡ true
     → data_bytes x < 4294967296 → p + trace_size t u x ≤ length f → part p (p + trace_size t u x) f ≡ trace_bytes high t u x → Stands high t u f p x
 unfolding mark_at block_size_of data_size_of sample_count_of format_code_of trace_bytes
 stands high t u f p x n m k small inside bytes =

@@ -1,6 +1,6 @@
 -- The stores of a start and of a trace, one behind the other, are the layout.
 -- Assumes nothing.
-use Rattle.std.specs.Prelude.{◌≡◌, refl, Bool, true, false, List, [], ◌∷◌, ◌++◌, ℕ, ◌+◌, ◌-◌, ◌*◌, ◌%◌, ℤ, length, replicate, None}
+use Rattle.std.specs.Prelude.{◌≡◌, refl, Bool, true, false, List, [], ◌∷◌, ◌++◌, ℕ, ◌+◌, ◌-◌, ◌*◌, ◌%◌, ℤ, length, replicate, Ok, None}
 use Rattle.std.proofs.Common.{sym, append_assoc, arith, length-append}
 use Rattle.std.proofs.lemmas.List.{length-replicate}
 use Rattle.block.specs.Block.{trace_mark}
@@ -9,7 +9,6 @@ use Rattle.word.specs.Word.{low_bytes, bytes_of}
 use Rattle.word.specs.WordLaws.{length_bytes_of}
 use Rattle.sample.specs.Needed.{room}
 use Rattle.fit.specs.Unfit.{unfit_integers}
-use Rattle.sheet.specs.declared.Measured.TheVariants as measured
 use Rattle.sheet.specs.Area.{area_of, area_size, measured_of}
 use Rattle.sheet.specs.Sizes.{length_area}
 use Rattle.area.specs.Spelling.{measured_size}
@@ -91,7 +90,7 @@ length_head_bytes high t u sheet code s =
     let b : List ℕ = trace_block high (32 + area_size t u sheet) (room code s) s code in
     omega (arith, length-append b (area_of high t u sheet), length_trace_block high (32 + area_size t u sheet) (room code s) s code, length_area high t u sheet)
 
-pub head_put : (high : Bool) (t u sheet : List ℕ) (size code s : ℕ) (xs : List ℕ) → measured_of t u sheet ≡ measured.Size size
+pub head_put : (high : Bool) (t u sheet : List ℕ) (size code s : ℕ) (xs : List ℕ) → measured_of t u sheet ≡ Ok size
     → put (put xs 0 (trace_block high (32 + size) (room code s) s code)) 32 (area_of high t u sheet) ≡ put xs 0 (head_bytes high t u sheet code s)
 unfolding head_bytes
 head_put high t u sheet size code s xs m =

@@ -4,7 +4,7 @@
 // The rules in words: docs/FORMAT.md, "What we write".
 #![tactic(auto)]
 
-ghost use Rattle.std.specs.Prelude.{◌≡◌, ◌+◌, ◌-◌, ◌*◌, ◌≤◌, ◌<◌, length};
+ghost use Rattle.std.specs.Prelude.{◌≡◌, ◌+◌, ◌-◌, ◌*◌, ◌≤◌, ◌<◌, length, Ok};
 ghost use Rattle.word.specs.Put.{put};
 ghost use Rattle.sample.specs.Needed.{room};
 ghost use Rattle.sheet.specs.Area.{area_of, measured_of};
@@ -12,8 +12,6 @@ ghost use Rattle.sheet_texts.specs.Texts.{Writable};
 ghost use Rattle.layout.specs.Layout.{nul, line_feed, slots_most, file_block, start_image, trace_block, integers};
 ghost use Rattle.layout.specs.Layout.{patterns, samples_data};
 ghost use Rattle.layout.specs.Stores.{head_bytes, Held};
-
-use sheet::Measured;
 
 // "31 slots outside 1 to 16,383": `slots_most` of the definitions.
 pub const SLOTS: usize = 16383;
@@ -24,12 +22,11 @@ fn put_file_block(buf: &mut [u8], high: bool, m: u16)
     requires { 32 ≤ length buf.old }
     ensures { buf.new ≡ put buf.old 0 (file_block high m 0) }
 {
-    let ends = [1u8, 0, 0, 1, 10, 0];
     store::put2(buf, high, 0, 14933);
     store::put2(buf, high, 2, 1);
     store::put2(buf, high, 4, m);
     store::put2(buf, high, 6, 0);
-    store_bytes::copy(buf, 8, &ends[..]);
+    store_bytes::copy(buf, 8, &[1, 0, 0, 1, 10, 0]);
     store_bytes::zeros(buf, 14, 32);
 }
 
@@ -50,11 +47,9 @@ pub fn put_start(buf: &mut [u8], high: bool, slots: usize, sheet: &[u8])
 {
     let m = 4 * slots;
     let at = 32 + m;
-    let t = [0u8];
-    let u = [10u8];
     put_file_block(buf, high, m as u16);
     store_bytes::zeros(buf, 32, at);
-    put_area(buf, at, high, &t[..], &u[..], sheet);
+    put_area(buf, at, high, b"\0", b"\n", sheet);
 }
 
 // The block of a trace, 32 bytes.
@@ -66,8 +61,7 @@ fn put_block(part: &mut [u8], high: bool, b: u16, d: u32, s: u32, code: u8)
     store::put2(part, high, 2, b);
     store_wide::put4(part, high, 4, d);
     store_wide::put4(part, high, 8, s);
-    let c = [code];
-    store_bytes::copy(part, 12, &c[..]);
+    store_bytes::copy(part, 12, &[code]);
     store_bytes::zeros(part, 13, 32);
 }
 
@@ -83,7 +77,7 @@ pub fn put_head(
     code: u8,
     s: u32,
 )
-    requires { (32 + size ≤ length part.old) × (measured_of t.now u.now sheet.now ≡ Measured.Size size)
+    requires { (32 + size ≤ length part.old) × (measured_of t.now u.now sheet.now ≡ Ok size)
         × (room code s < 4294967296) }
     ensures { part.new ≡ put part.old 0 (head_bytes high t.now u.now
         sheet.now code s) }

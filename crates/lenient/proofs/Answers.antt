@@ -1,14 +1,11 @@
 -- Theorems on what specs/Answers defines. They stand here, as a wrong definition there is to be refused and not to be unread.
 -- Assumes nothing.
-use Rattle.std.specs.Prelude.{◌≡◌, refl, ℕ, ◌+◌, ℤ, length, eqb}
-use Rattle.std.proofs.Common.{arith, ne_eqb}
-use Rattle.std.proofs.Math.Path.{ap}
-use mathlib.Core.List.{List, []}
+use Rattle.std.specs.Prelude.{◌≡◌, refl, ℕ, ◌+◌, ℤ, length, eqb, Ok, Option, Some, None, List, []}
+use Rattle.std.proofs.Common.{arith, ne_eqb, ap}
 use Rattle.word.specs.Part.{part}
 use Rattle.refusal.specs.Rows.{pick_second}
 use Rattle.refusal.specs.declared.Part.{Part}
 use Rattle.refusal.specs.declared.Part.TheVariants.{File, Trace}
-use Rattle.refusal.specs.declared.Verdict.TheVariants.{Accepted}
 use Rattle.text.specs.declared.Manner.{Manner}
 use Rattle.text.specs.declared.Manner.TheVariants.{Strict, Lenient}
 use Rattle.strings.specs.declared.Place.{Place}
@@ -22,11 +19,6 @@ use Rattle.trace.specs.Trace.{area_verdict}
 use Rattle.image.specs.Image.{image_of, check_of}
 use Rattle.image.specs.Keeps.{trace_at, strings_end}
 use Rattle.image.specs.Accepted.{image_strings, image_traced, traced_strings}
-use Rattle.reader.specs.declared.Area.{Area}
-use Rattle.reader.specs.declared.Area.TheVariants.{Outside, From}
-use Rattle.part_number.specs.declared.Whose.{Whose}
-use Rattle.part_number.specs.declared.Whose.TheVariants.{Whole, One, Nobody}
-use Rattle.reader.specs.declared.CountAnswer.TheVariants as count
 use Rattle.part_number.specs.PartNumber.{whose_of}
 use Rattle.reader.specs.Questions.{area_named, area_asked, on_area, places_in, there}
 use Rattle.reader.specs.Questions.{file_answer, trace_answer, count_answer, nth_answer, find_answer, keyword_answer, value_answer, span_answer}
@@ -36,6 +28,7 @@ use Rattle.reader.specs.Reach.{checked, whose_trace, some_trace, area_fits}
 use Rattle.lenient.proofs.Forgiven.{strict_lenient}
 use Rattle.lenient.specs.Alike.{places_any, find_strict}
 use Rattle.lenient.specs.Answers.{f}
+use Rattle.refusal.specs.Verdicts.{accepted, pair_parts}
 
 -- ---- what every manner answers of an area
 
@@ -43,32 +36,32 @@ places_in_lem : (how : Manner) (f : List ℕ) (a e : ℕ) → places_in how f a 
 unfolding places_in places_of
 places_in_lem how f a e = places_any how Strict (length (part a e f)) (high_first f) (string_end f) (part a e f) a
 
-on_area_lem : {A : Type 0} (w : Area) (none : A) (g h : ℕ → ℕ → A) → ((a e : ℕ) → w ≡ From a e → g a e ≡ h a e) → on_area w none g ≡ on_area w none h
-on_area_lem Outside none g h same = refl
-on_area_lem (From a e) none g h same = same a e refl
+on_area_lem : {A : Type 0} (w : Option (ℕ × ℕ)) (none : A) (g h : ℕ → ℕ → A) → ((a e : ℕ) → w ≡ Some (a, e) → g a e ≡ h a e) → on_area w none g ≡ on_area w none h
+on_area_lem None none g h same = refl
+on_area_lem (Some (a, e)) none g h same = same a e refl
 
 -- the strings of the part that was asked for were let through
-area_passed : (f : List ℕ) (z : ℤ) (a e : ℕ) → image_of Strict Read f ≡ Accepted → area_asked f z ≡ From a e
-    → (p : Part) × (area_verdict Strict (high_first f) (string_end f) (line_end f) f p a e ≡ Accepted)
+area_passed : (f : List ℕ) (z : ℤ) (a e : ℕ) → image_of Strict Read f ≡ accepted → area_asked f z ≡ Some (a, e)
+    → (p : Part) × (area_verdict Strict (high_first f) (string_end f) (line_end f) f p a e ≡ accepted)
 unfolding area_named
 area_passed f z a e ok h = go (whose_of z (count_of f)) refl h
   where
-    go : (w : Whose) → whose_of z (count_of f) ≡ w → area_named f w ≡ From a e
-        → (p : Part) × (area_verdict Strict (high_first f) (string_end f) (line_end f) f p a e ≡ Accepted)
-    go Whole q h =
-        let x : 32 + room_of f ≡ a = cc in
-        let y : trace_at f 0 ≡ e = cc in
+    go : (w : Option Part) → whose_of z (count_of f) ≡ w → area_named f w ≡ Some (a, e)
+        → (p : Part) × (area_verdict Strict (high_first f) (string_end f) (line_end f) f p a e ≡ accepted)
+    go (Some File) q h =
+        let p : ◌≡◌ {A = ℕ × ℕ} (32 + room_of f, trace_at f 0) (a, e) = cc in
+        let s = pair_parts p in
         let some = some_trace Strict f ok in
-        let s : strings_end f ≡ trace_at f 0 = pick_second (eqb (count_of f) 0) (length f) (trace_at f 0) (ne_eqb (count_of f) 0 (omega arith)) in
-        (File, rw (← x, ← y, ← s) (image_strings Strict Read f ok))
-    go (One k) q h =
-        let x : trace_at f k + 32 ≡ a = cc in
-        let y : data_at (high_first f) f (trace_at f k) ≡ e = cc in
+        let d : strings_end f ≡ trace_at f 0 = pick_second (eqb (count_of f) 0) (length f) (trace_at f 0) (ne_eqb (count_of f) 0 (omega arith)) in
+        (File, rw (← s.0, ← s.1, ← d) (image_strings Strict Read f ok))
+    go (Some (Trace k)) q h =
+        let p : ◌≡◌ {A = ℕ × ℕ} (trace_at f k + 32, data_at (high_first f) f (trace_at f k)) (a, e) = cc in
+        let s = pair_parts p in
         let l = (whose_trace z (count_of f) k q).1 in
-        (Trace k, rw (← x, ← y) (traced_strings Strict f k (image_traced Strict Read f ok k l)))
-    go Nobody q h = let y : ◌≡◌ {A = ℕ} 0 1 = cc in absurd (omega arith)
+        (Trace k, rw (← s.0, ← s.1) (traced_strings Strict f k (image_traced Strict Read f ok k l)))
+    go None q h = let y : ◌≡◌ {A = ℕ} 0 1 = cc in absurd (omega arith)
 
-find_in : (how : Manner) (f : List ℕ) (z : ℤ) (a e : ℕ) (key : List ℕ) → image_of Strict Read f ≡ Accepted → area_asked f z ≡ From a e
+find_in : (how : Manner) (f : List ℕ) (z : ℤ) (a e : ℕ) (key : List ℕ) → image_of Strict Read f ≡ accepted → area_asked f z ≡ Some (a, e)
     → find_of how f (places_in how f a e) key ≡ find_of Strict f (places_in Strict f a e) key
 unfolding places_in area_verdict
 find_in how f z a e key ok h =
@@ -76,8 +69,8 @@ find_in how f z a e key ok h =
     let i = area_fits Strict f ok z a e h in
     find_strict how (high_first f) (string_end f) (line_end f) s.0 f a e key i.0 i.1 s.1
 
-module _ (xs : List ℕ) (n : ℕ) (ok : check_of Strict Read xs n ≡ Accepted) where
-  loose : check_of Lenient Read xs n ≡ Accepted
+module _ (xs : List ℕ) (n : ℕ) (ok : check_of Strict Read xs n ≡ accepted) where
+  loose : check_of Lenient Read xs n ≡ accepted
   loose = strict_lenient Read xs n ok
 
   pub file_alike : file_answer Lenient xs n ≡ file_answer Strict xs n
@@ -92,7 +85,7 @@ module _ (xs : List ℕ) (n : ℕ) (ok : check_of Strict Read xs n ≡ Accepted)
   unfolding count_answer
   count_alike z = rw (ok, loose)
       (on_area_lem (area_asked (f xs n ok) z) _ _ _
-      (λ a e h. ap (λ (ps : List Place). count.Is (length ps)) (places_in_lem Lenient (f xs n ok) a e)))
+      (λ a e h. ap (λ (ps : List Place). Ok (length ps)) (places_in_lem Lenient (f xs n ok) a e)))
 
   pub nth_alike : (z : ℤ) (i : ℕ) → nth_answer Lenient xs n z i ≡ nth_answer Strict xs n z i
   unfolding nth_answer

@@ -1,19 +1,13 @@
 -- Theorems on what specs/Forgiven defines. They stand here, as a wrong definition there is to be refused and not to be unread.
 -- Assumes nothing.
-use Rattle.std.specs.Prelude.{◌≡◌, not, List, [], ◌∷◌, ◌⊎◌, length, take, drop}
-use Rattle.std.proofs.Math.Path.{refl}
-use Rattle.std.proofs.Common.{sym, ap, ◌∙◌, inl, inr, ⊎_elim, le_refl, arith, length-drop, drop-drop}
-use Rattle.std.proofs.Math.Bool.{Bool, true, false}
-use Prim.Native.Nat.{ℕ, zero, suc, ◌+◌, ◌-◌, ◌≤◌, ◌<◌}
-use Rattle.std.proofs.Math.Dec.{eqb}
+use Rattle.std.specs.Prelude.{◌≡◌, not, List, [], ◌∷◌, ◌⊎◌, length, take, drop, Result, Ok, Err, Option, Some, None, Bool, true, false, ℕ, zero, suc, ◌+◌, ◌≤◌, ◌<◌, eqb}
+use Rattle.std.proofs.Common.{refl, sym, ap, ◌∙◌, inl, inr, ⊎_elim, le_refl, arith, length-drop, drop-drop}
 use Rattle.word.specs.Part.{part, part_none}
 use Rattle.refusal.specs.declared.Rule.{Rule}
 use Rattle.refusal.specs.declared.Rule.TheVariants.{StringOffset, Character, KeywordOrder, ChannelNumber}
 use Rattle.refusal.specs.declared.Part.{Part}
 use Rattle.refusal.specs.declared.Part.TheVariants.{File, Trace}
 use Rattle.refusal.specs.declared.Refusal.{Refusal}
-use Rattle.refusal.specs.declared.Verdict.{Verdict}
-use Rattle.refusal.specs.declared.Verdict.TheVariants.{Accepted, Refused}
 use Rattle.refusal.specs.Table.{refusal}
 use Rattle.refusal.specs.Rows.{pick, ruled}
 use Rattle.refusal.specs.FirstRow.{row, first_of}
@@ -22,17 +16,12 @@ use Rattle.text.specs.declared.Manner.TheVariants.{Strict, Lenient}
 use Rattle.text.specs.Manner.{open_end, letter, named, follows, strict_letters, strict_named}
 use Rattle.chars.specs.Runs.{all}
 use Rattle.note.specs.Note.{value_ok}
-use Rattle.strings.specs.declared.Frame.{Frame}
-use Rattle.strings.specs.declared.Frame.TheVariants.{End, Text, Broken}
-use Rattle.strings.specs.declared.Judged.{Judged}
-use Rattle.strings.specs.declared.Judged.TheVariants.{Keyword, Wrong}
 use Rattle.strings.specs.Strings.{body, key_len, key_of, value_of, frame_of, judged_of, on_judged, on_frame, step_of, on_step}
 use Rattle.strings.specs.Strings.{strings_from, strings_of}
 use Rattle.strings.specs.Walks.{in_frame}
 use Rattle.strings.proofs.Walks.{walk_over}
 use Rattle.head_limits.specs.declared.Purpose.{Purpose}
 use Rattle.head_words.specs.HeadWords.{high_first, room_of, count_of}
-use Rattle.head.specs.Head.{refused}
 use Rattle.terminators.specs.Terminators.{string_end, line_end}
 use Rattle.block.specs.Block.{data_at, end_at}
 use Rattle.trace.specs.Trace.{area_verdict, channel_at}
@@ -45,6 +34,7 @@ use Rattle.image.specs.Keeps.{trace_at, strings_end}
 use Rattle.lenient.specs.Eased.{Eased, eased_same, forgiven, eased_then, eased_next, eased_pick, eased_more}
 use Rattle.lenient.specs.Forgiven.{EasedText, Forgiven, Forgiven.any_order, Forgiven.no_mark, Forgiven.small_letters}
 use Rattle.lenient.specs.Forgiven.{ForgivenIn, ForgivenIn.of_channels, ForgivenIn.of_strings, Of, area_in, frame_any}
+use Rattle.refusal.specs.Verdicts.{Verdict, accepted}
 
 -- what is forgiven of the strings behind a string is forgiven of all
 later : (high : Bool) (t l : List ℕ) (at o : ℕ) (r : Refusal) → o ≤ length l → Forgiven high t (drop o l) (at + o) r → Forgiven high t l at r
@@ -58,15 +48,15 @@ later high t l at o r fit (any_order e j h p) = let d = length-drop o l in any_o
 -- the rows of the text side by side: z an empty keyword, w and v its letters, x and y its value, q its order
 texts_eased : (F : Rule → Type 0) (n : ℕ) (z w v x y q : Bool) → (w ≡ true → (v ≡ true) × (y ≡ x)) → (w ≡ false → v ≡ true → F Character)
     → F KeywordOrder
-    → EasedText F (ruled ((z, Character) ∷ (not w, Character) ∷ (not x, Character) ∷ (not q, KeywordOrder) ∷ []) Wrong (Keyword n))
-    (ruled ((z, Character) ∷ (not v, Character) ∷ (not y, Character) ∷ (not true, KeywordOrder) ∷ []) Wrong (Keyword n))
+    → EasedText F (ruled ((z, Character) ∷ (not w, Character) ∷ (not x, Character) ∷ (not q, KeywordOrder) ∷ []) Err (Ok n))
+    (ruled ((z, Character) ∷ (not v, Character) ∷ (not y, Character) ∷ (not true, KeywordOrder) ∷ []) Err (Ok n))
 texts_eased F n true w v x y q h small order = inl refl
 texts_eased F n false false true x y q h small order = inr (small refl refl)
 texts_eased F n false false false x y q h small order = inl refl
 texts_eased F n false true v x y q h small order = rw ((h refl).0, (h refl).1) (go x q)
   where
-    go : (x q : Bool) → EasedText F (ruled ((not x, Character) ∷ (not q, KeywordOrder) ∷ []) Wrong (Keyword n))
-        (ruled ((not x, Character) ∷ (not true, KeywordOrder) ∷ []) Wrong (Keyword n))
+    go : (x q : Bool) → EasedText F (ruled ((not x, Character) ∷ (not q, KeywordOrder) ∷ []) Err (Ok n))
+        (ruled ((not x, Character) ∷ (not true, KeywordOrder) ∷ []) Err (Ok n))
     go false q = inl refl
     go true true = refl
     go true false = inr order
@@ -84,7 +74,7 @@ judged_eased F u prev b small order =
 
 -- where no byte is left
 over_any : (how : Manner) (m : ℕ) (high : Bool) (t u : List ℕ) (p : Part) (prev : List ℕ) (at : ℕ)
-    → strings_from how m high t u p prev [] at ≡ pick (open_end how) Accepted (Refused (refusal StringOffset p at))
+    → strings_from how m high t u p prev [] at ≡ pick (open_end how) accepted (Err (refusal StringOffset p at))
 over_any how m high t u p prev at =
     let e : part at at [] ≡ [] = part_none at at [] (le_refl at) in
     ap (λ (l : List ℕ). strings_from how m high t u p prev l at) (sym e) ∙ sym (walk_over how high t u p prev [] at at m (le_refl at))
@@ -111,17 +101,17 @@ strings_eased (suc m) high t u p prev (x ∷ l) at h =
     Here : Refusal → Type 0
     Here = Of high t p (x ∷ l) at
 
-    judge : (o : ℕ) (a b : Judged) → EasedText (λ rule. Here (refusal rule p at)) a b → ((n : ℕ) → Eased Here (next Strict o n) (next Lenient o n))
+    judge : (o : ℕ) (a b : Result ℕ Rule) → EasedText (λ rule. Here (refusal rule p at)) a b → ((n : ℕ) → Eased Here (next Strict o n) (next Lenient o n))
         → Eased Here (on_step (on_judged a p at o) (next Strict)) (on_step (on_judged b p at o) (next Lenient))
-    judge o (Keyword n) b e again = rw e (again n)
-    judge o (Wrong r) b e again = ⊎_elim (λ (q : b ≡ Wrong r). rw q (eased_same _)) (λ g. forgiven _ _ g) e
+    judge o (Ok n) b e again = rw e (again n)
+    judge o (Err r) b e again = ⊎_elim (λ (q : b ≡ Err r). rw q (eased_same _)) (λ g. forgiven _ _ g) e
 
-    go : (w : Frame) → frame_of Strict high t (x ∷ l) ≡ w
+    go : (w : Result (Option ℕ) Rule) → frame_of Strict high t (x ∷ l) ≡ w
         → ((o n : ℕ) → 0 < o → o ≤ length (x ∷ l) → Eased Here (next Strict o n) (next Lenient o n))
         → Eased Here (on_step (on_frame Strict w t u prev (x ∷ l) p at) (next Strict)) (on_step (on_frame Lenient w t u prev (x ∷ l) p at) (next Lenient))
-    go End q again = eased_same Accepted
-    go (Broken r) q again = eased_same _
-    go (Text o) q again =
+    go (Ok None) q again = eased_same accepted
+    go (Err r) q again = eased_same _
+    go (Ok (Some o)) q again =
         let i = in_frame Strict high t (x ∷ l) o q in
         let none : at ≡ at + 0 = omega arith in
         judge o (judged_of Strict u prev (body t o (x ∷ l))) (judged_of Lenient u prev (body t o (x ∷ l)))
@@ -134,7 +124,7 @@ area_eased : (high : Bool) (t u f : List ℕ) (p : Part) (a e : ℕ)
     → Eased (Of high t p (part a e f) a) (area_verdict Strict high t u f p a e) (area_verdict Lenient high t u f p a e)
 unfolding area_verdict strings_of
 area_eased high t u f p a e =
-    eased_pick (eqb (length (part a e f)) 0) Accepted Accepted _ _ (eased_same Accepted)
+    eased_pick (eqb (length (part a e f)) 0) accepted accepted _ _ (eased_same accepted)
     (strings_eased (length (part a e f)) high t u p [] (part a e f) a (le_refl (length (part a e f))))
 
 in_part : (f : List ℕ) (p : Part) (a e : ℕ) → (area_in f p).0 ≡ a → (area_in f p).1 ≡ e → (r : Refusal)
@@ -142,9 +132,9 @@ in_part : (f : List ℕ) (p : Part) (a e : ℕ) → (area_in f p).0 ≡ a → (a
 in_part f p a e x y r g = of_strings p g.0 (rw (x, y) g.1)
 
 module _ (f : List ℕ) where
-  channel_eased : (k p : ℕ) (bad : Bool) → Eased (ForgivenIn f) (row bad ChannelNumber (Trace k) (p + 32)) Accepted
+  channel_eased : (k p : ℕ) (bad : Bool) → Eased (ForgivenIn f) (row bad ChannelNumber (Trace k) (p + 32)) accepted
   channel_eased k p true = forgiven _ _ (of_channels refl)
-  channel_eased k p false = eased_same Accepted
+  channel_eased k p false = eased_same accepted
 
   trace_eased : (u : List ℕ) (k prev : ℕ)
       → Eased (ForgivenIn f) (trace_of Strict (high_first f) (string_end f) u f k prev) (trace_of Lenient (high_first f) (string_end f) u f k prev)
@@ -168,7 +158,7 @@ module _ (f : List ℕ) where
       → Eased (ForgivenIn f) (traces_from Strict (high_first f) (string_end f) u f left k prev)
       (traces_from Lenient (high_first f) (string_end f) u f left k prev)
   unfolding traces_from
-  traces_eased u zero k prev = eased_same Accepted
+  traces_eased u zero k prev = eased_same accepted
   traces_eased u (suc left) k prev =
       eased_then _ _ _ _ (trace_eased u k prev) (traces_eased u left (k + 1) (end_at (high_first f) f (trace_at f k)))
 
@@ -204,10 +194,10 @@ unfolding check_of
 check_eased purpose xs n = eased_pick (bad_length (length xs) n) _ _ _ _ (eased_same _) (image_eased (take n xs) purpose)
 
 -- what the strict check lets through the lenient one does
-pub strict_lenient : (purpose : Purpose) (xs : List ℕ) (n : ℕ) → check_of Strict purpose xs n ≡ Accepted → check_of Lenient purpose xs n ≡ Accepted
+pub strict_lenient : (purpose : Purpose) (xs : List ℕ) (n : ℕ) → check_of Strict purpose xs n ≡ accepted → check_of Lenient purpose xs n ≡ accepted
 strict_lenient purpose xs n h = (check_eased purpose xs n).accepted h
 
 -- what the strict check refuses the lenient one refuses by the same row and place, or else it is forgiven
-pub refused_or_forgiven : (purpose : Purpose) (xs : List ℕ) (n : ℕ) (r : Refusal) → check_of Strict purpose xs n ≡ Refused r
-    → (check_of Lenient purpose xs n ≡ Refused r) ⊎ ForgivenIn (take n xs) r
+pub refused_or_forgiven : (purpose : Purpose) (xs : List ℕ) (n : ℕ) (r : Refusal) → check_of Strict purpose xs n ≡ Err r
+    → (check_of Lenient purpose xs n ≡ Err r) ⊎ ForgivenIn (take n xs) r
 refused_or_forgiven purpose xs n r h = (check_eased purpose xs n).refused r h

@@ -1,6 +1,6 @@
 -- Theorems on what specs/Never defines. They stand here, as a wrong definition there is to be refused and not to be unread.
 -- Assumes nothing.
-use Rattle.std.specs.Prelude.{◌≡◌, refl, Bool, true, false, not, List, [], ◌∷◌, ℕ, zero, suc, ◌+◌, length, take, drop, eqb}
+use Rattle.std.specs.Prelude.{◌≡◌, refl, Bool, true, false, not, List, [], ◌∷◌, ℕ, zero, suc, ◌+◌, length, take, drop, eqb, Result, Ok, Err, Option, Some, None}
 use Rattle.std.proofs.Common.{sym, ap, ◌∙◌, arith}
 use Rattle.word.specs.Part.{part}
 use Rattle.refusal.specs.declared.Rule.{Rule}
@@ -8,20 +8,14 @@ use Rattle.refusal.specs.declared.Rule.TheVariants.{StringOffset, StringEnd, Cha
 use Rattle.refusal.specs.declared.Part.{Part}
 use Rattle.refusal.specs.declared.Part.TheVariants.{File, Trace}
 use Rattle.refusal.specs.declared.Refusal.{Refusal}
-use Rattle.refusal.specs.declared.Verdict.{Verdict}
-use Rattle.refusal.specs.declared.Verdict.TheVariants.{Accepted, Refused}
 use Rattle.refusal.specs.Table.{refusal}
 use Rattle.refusal.specs.Rows.{Rows, pick, first, ruled}
-use Rattle.refusal.specs.Verdicts.{refused_not, and_then}
+use Rattle.refusal.specs.Verdicts.{refused_not, and_then, accepted, Verdict}
 use Rattle.refusal.specs.FirstRow.{first_of, first_next}
 use Rattle.text.specs.declared.Manner.TheVariants.{Lenient}
 use Rattle.text.specs.Manner.{letter, named}
 use Rattle.chars.specs.Runs.{all}
 use Rattle.note.specs.Note.{value_ok}
-use Rattle.strings.specs.declared.Frame.{Frame}
-use Rattle.strings.specs.declared.Frame.TheVariants.{End, Text, Broken}
-use Rattle.strings.specs.declared.Judged.{Judged}
-use Rattle.strings.specs.declared.Judged.TheVariants.{Keyword, Wrong}
 use Rattle.strings.specs.Strings.{offset, body, key_len, key_of, value_of, frame_of, judged_of, on_judged, on_frame, step_of, on_step}
 use Rattle.strings.specs.Strings.{strings_from, strings_of}
 use Rattle.head_limits.specs.declared.Purpose.{Purpose}
@@ -37,10 +31,10 @@ use Rattle.file_length.specs.FileLength.{bad_length}
 use Rattle.image.specs.Image.{rest_of, image_of, check_of}
 use Rattle.lenient.specs.Never.{AllGive, FrameGives, Gives, TextGives, given_here}
 
-gives_accepted : Gives Accepted
+gives_accepted : Gives accepted
 gives_accepted = record { rule = λ r e. absurd (refused_not r (sym e)) }
 
-gives_refused : (r : Refusal) → given_here r.rule ≡ true → Gives (Refused r)
+gives_refused : (r : Refusal) → given_here r.rule ≡ true → Gives (Err r)
 gives_refused r g = record { rule = λ q e. (let s : r ≡ q = cc in rw (← s) g) }
 
 gives_pick : (t : Bool) (v w : Verdict) → Gives v → Gives w → Gives (pick t v w)
@@ -49,8 +43,8 @@ gives_pick false v w h k = k
 
 gives_then : (v w : Verdict) → Gives v → Gives w → Gives (and_then v w)
 unfolding and_then
-gives_then Accepted w h k = k
-gives_then (Refused r) w h k = h
+gives_then (Ok _) w h k = k
+gives_then (Err r) w h k = h
 
 gives_next : (v : Verdict) (vs : List Verdict) → Gives v → Gives (first_of vs) → Gives (first_of (v ∷ vs))
 gives_next v vs h k = rw (first_next v vs) (gives_then v (first_of vs) h k)
@@ -59,17 +53,17 @@ gives_none : Gives (first_of [])
 unfolding first_of
 gives_none = gives_accepted
 
-gives_first : (rs : Rows Verdict) → AllGive rs → Gives (first rs Accepted)
+gives_first : (rs : Rows Verdict) → AllGive rs → Gives (first rs accepted)
 gives_first [] h = gives_accepted
-gives_first (r ∷ rs) h = gives_pick r.0 r.1 (first rs Accepted) h.0 (gives_first rs h.1)
+gives_first (r ∷ rs) h = gives_pick r.0 r.1 (first rs accepted) h.0 (gives_first rs h.1)
 
 frame_gives : (high : Bool) (t l : List ℕ) → FrameGives (frame_of Lenient high t l)
 unfolding frame_of
 frame_gives high t l = go (eqb (length l) 1) (eqb (offset high l) 0) _ _ _
   where
     go : (c z a b d : Bool)
-        → FrameGives (pick c (Broken StringOffset) (ruled (pick z [] ((a, StringOffset) ∷ (b, StringOffset) ∷ (d, StringEnd) ∷ [])) Broken
-        (pick z End (Text (offset high l)))))
+        → FrameGives (pick c (Err StringOffset) (ruled (pick z [] ((a, StringOffset) ∷ (b, StringOffset) ∷ (d, StringEnd) ∷ [])) Err
+        (pick z (Ok None) (Ok (Some (offset high l))))))
     go true z a b d = refl
     go false true a b d = tt
     go false false true b d = refl
@@ -81,7 +75,7 @@ text_gives : (u prev b : List ℕ) → TextGives (judged_of Lenient u prev b)
 unfolding judged_of
 text_gives u prev b = go (eqb (key_len b) 0) (not (all (letter Lenient) (key_of b))) (not (value_ok u (named Lenient (key_of b)) (value_of b)))
   where
-    go : (z w x : Bool) → TextGives (ruled ((z, Character) ∷ (w, Character) ∷ (x, Character) ∷ (not true, KeywordOrder) ∷ []) Wrong (Keyword (key_len b)))
+    go : (z w x : Bool) → TextGives (ruled ((z, Character) ∷ (w, Character) ∷ (x, Character) ∷ (not true, KeywordOrder) ∷ []) Err (Ok (key_len b)))
     go true w x = refl
     go false true x = refl
     go false false true = refl
@@ -98,14 +92,14 @@ strings_give (suc m) high t u p prev l at =
     next : ℕ → ℕ → Verdict
     next o n = strings_from Lenient m high t u p (take n (drop 2 l)) (drop o l) (at + o)
 
-    judge : (o : ℕ) (j : Judged) → TextGives j → ((o n : ℕ) → Gives (next o n)) → Gives (on_step (on_judged j p at o) next)
-    judge o (Keyword n) g again = again o n
-    judge o (Wrong r) g again = gives_refused (refusal r p at) g
+    judge : (o : ℕ) (j : Result ℕ Rule) → TextGives j → ((o n : ℕ) → Gives (next o n)) → Gives (on_step (on_judged j p at o) next)
+    judge o (Ok n) g again = again o n
+    judge o (Err r) g again = gives_refused (refusal r p at) g
 
-    go : (w : Frame) → FrameGives w → ((o n : ℕ) → Gives (next o n)) → Gives (on_step (on_frame Lenient w t u prev l p at) next)
-    go End g again = gives_accepted
-    go (Broken r) g again = gives_refused (refusal r p at) g
-    go (Text o) g again = judge o (judged_of Lenient u prev (body t o l)) (text_gives u prev (body t o l)) again
+    go : (w : Result (Option ℕ) Rule) → FrameGives w → ((o n : ℕ) → Gives (next o n)) → Gives (on_step (on_frame Lenient w t u prev l p at) next)
+    go (Ok None) g again = gives_accepted
+    go (Err r) g again = gives_refused (refusal r p at) g
+    go (Ok (Some o)) g again = judge o (judged_of Lenient u prev (body t o l)) (text_gives u prev (body t o l)) again
 
 area_gives : (high : Bool) (t u f : List ℕ) (p : Part) (a e : ℕ) → Gives (area_verdict Lenient high t u f p a e)
 unfolding area_verdict strings_of
@@ -164,7 +158,7 @@ check_gives purpose xs n = gives_pick (bad_length (length xs) n) _ _ (gives_refu
 unlike : (r q : Rule) → given_here r ≡ true → given_here q ≡ false → r ≡ q → ⊥
 unlike r q g h e = let s : false ≡ true = sym h ∙ ap given_here (sym e) ∙ g in let y : ◌≡◌ {A = ℕ} 0 1 = cc in omega arith
 
-pub never_order : (purpose : Purpose) (xs : List ℕ) (n : ℕ) (r : Refusal) → check_of Lenient purpose xs n ≡ Refused r
+pub never_order : (purpose : Purpose) (xs : List ℕ) (n : ℕ) (r : Refusal) → check_of Lenient purpose xs n ≡ Err r
     → (r.rule ≡ KeywordOrder → ⊥) × (r.rule ≡ ChannelNumber → ⊥)
 never_order purpose xs n r e =
     let g = (check_gives purpose xs n).rule r e in

@@ -3,53 +3,26 @@
 -- are never given here"). The strict walk and the lenient one go side by side: up to the first strict refusal both read
 -- the same strings.
 -- Assumes nothing.
-use Rattle.std.specs.Prelude.{◌≡◌, not, ◌&&◌, List, [], ◌∷◌, ◌⊎◌, length, take, drop, ltb}
-use Rattle.std.proofs.Math.Path.{refl}
-use Rattle.std.proofs.Common.{sym, ap, ◌∙◌, inl, inr, ⊎_elim, le_refl, lt_of_not-le, arith, length-drop, drop-drop}
-use Rattle.std.proofs.Math.Bool.{Bool, true, false}
-use Prim.Native.Nat.{ℕ, zero, suc, ◌+◌, ◌-◌, ◌≤◌, ◌<◌}
+use Rattle.std.specs.Prelude.{◌≡◌, List, ◌⊎◌, length, drop, ltb, Result, Ok, Err, Bool, true, false, ℕ, ◌+◌, ◌<◌, eqb}
+use Rattle.std.proofs.Common.{refl, sym, ◌∙◌, lt_of_not-le, arith}
 use Rattle.std.proofs.Math.Decide.{dec_le}
-use Rattle.std.proofs.Math.Dec.{eqb}
-use Rattle.word.specs.Part.{part, part_none}
+use Rattle.word.specs.Part.{part}
 use Rattle.refusal.specs.declared.Rule.{Rule}
 use Rattle.refusal.specs.declared.Rule.TheVariants.{StringOffset, Character, KeywordOrder, ChannelNumber}
 use Rattle.refusal.specs.declared.Part.{Part}
 use Rattle.refusal.specs.declared.Part.TheVariants.{File, Trace}
 use Rattle.refusal.specs.declared.Refusal.{Refusal}
-use Rattle.refusal.specs.declared.Verdict.{Verdict}
-use Rattle.refusal.specs.declared.Verdict.TheVariants.{Accepted, Refused}
-use Rattle.refusal.specs.Table.{refusal}
-use Rattle.refusal.specs.Rows.{Rows, pick, ruled}
-use Rattle.refusal.specs.FirstRow.{row, first_of}
+use Rattle.refusal.specs.Rows.{pick}
 use Rattle.text.specs.declared.Manner.{Manner}
 use Rattle.text.specs.declared.Manner.TheVariants.{Strict, Lenient}
-use Rattle.text.specs.Manner.{open_end, letter, named, follows, asks_channels, strict_letters, strict_named}
+use Rattle.text.specs.Manner.{open_end, letter}
 use Rattle.chars.specs.Runs.{all}
-use Rattle.note.specs.Note.{value_ok}
-use Rattle.strings.specs.declared.Frame.{Frame}
-use Rattle.strings.specs.declared.Frame.TheVariants.{End, Text, Broken}
-use Rattle.strings.specs.declared.Judged.{Judged}
-use Rattle.strings.specs.declared.Judged.TheVariants.{Keyword, Wrong}
-use Rattle.strings.specs.declared.Step.{Step}
-use Rattle.strings.specs.Strings.{offset, body, key_len, key_of, value_of, cut, frame_of, judged_of, on_judged, on_frame, step_of, on_step}
-use Rattle.strings.specs.Strings.{strings_from, strings_of}
+use Rattle.strings.specs.Strings.{offset, body, key_of, cut, frame_of}
 use Rattle.strings.specs.Frames.{cut_two}
-use Rattle.strings.specs.Walks.{InFrame, in_frame}
-use Rattle.strings.proofs.Walks.{walk_over}
-use Rattle.head_limits.specs.declared.Purpose.{Purpose}
-use Rattle.head_words.specs.HeadWords.{high_first, room_of, count_of}
-use Rattle.head.specs.Head.{head_of, refused}
-use Rattle.terminators.specs.Terminators.{string_end, line_end}
-use Rattle.block.specs.Block.{pointer_of, block_size_of, data_at, end_at, block_of, pointer_row}
-use Rattle.block.specs.BlockLaws.{head_at}
-use Rattle.trace.specs.Trace.{area_verdict, channel_at, channel_verdict, block_checks}
-use Rattle.channel.specs.Channel.{bad_channel}
-use Rattle.strings.specs.Strings.{found, value_found}
-use Rattle.traces.specs.Traces.{with_channel, trace_checks, trace_of, traces_from}
-use Rattle.file_length.specs.FileLength.{bad_length}
-use Rattle.image.specs.Image.{filled_checks, rest_of, image_of, check_of}
+use Rattle.head_words.specs.HeadWords.{high_first, room_of}
+use Rattle.terminators.specs.Terminators.{string_end}
+use Rattle.block.specs.Block.{data_at}
 use Rattle.image.specs.Keeps.{trace_at, strings_end}
-use Rattle.lenient.specs.Eased.{Eased, eased_same, forgiven, eased_then, eased_next, eased_pick, eased_more}
 
 -- ---- where a byte is left every manner frames a string alike
 
@@ -91,9 +64,9 @@ pub data Forgiven (high : Bool) (t l : List ℕ) (at : ℕ) (r : Refusal) : Type
 
 -- ---- one string: what stands between its offset and its terminator
 
-abbrev pub EasedText : (Rule → Type 0) → Judged → Judged → Type 0
-EasedText F (Keyword n) j = j ≡ Keyword n
-EasedText F (Wrong r) j = (j ≡ Wrong r) ⊎ F r
+abbrev pub EasedText : (Rule → Type 0) → Result ℕ Rule → Result ℕ Rule → Type 0
+EasedText F (Ok n) j = j ≡ Ok n
+EasedText F (Err r) j = (j ≡ Err r) ⊎ F r
 
 -- a refusal of the part p that is forgiven of its strings
 abbrev pub Of : Bool → List ℕ → Part → List ℕ → ℕ → Refusal → Type 0

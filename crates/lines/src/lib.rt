@@ -114,14 +114,11 @@ pub fn put_refusal(out: &mut [u8], at: usize, r: Refusal) -> usize
     requires { at + 64 ≤ length out.old }
     ensures { Wrote out.old at (refusal_line r) result out.new × (result ≤ at + 64) }
 {
-    let rule = r.rule;
-    let part = r.part;
-    let place = r.place;
     let a = store_bytes::put_bytes(out, at, b"R\t");
-    let b = put_rule(out, a, rule);
-    let c = put_part(out, b, part);
+    let b = put_rule(out, a, r.rule);
+    let c = put_part(out, b, r.part);
     let d = put_byte(out, c, 9);
-    put_place(out, d, place)
+    put_place(out, d, r.place)
 }
 
 // "A tab in a value prints as a space".
@@ -139,12 +136,10 @@ fn put_spaced(out: &mut [u8], at: usize, v: &[u8]) -> usize
     requires { Room out.old at (spaced v.now) }
     ensures { Wrote out.old at (spaced v.now) result out.new }
 {
-    let mut i: usize = 0;
-    while i < v.len() {
+    for i in 0..v.len() {
         out[at + i] = spaced_byte(v[i]);
-        i += 1;
     }
-    at + i
+    at + v.len()
 }
 
 // What stands before a string's value: part and keyword.

@@ -1,6 +1,6 @@
 -- What the listing program prints (document 01, the end of "Worked values"), byte by byte.
 -- Assumes nothing.
-use Rattle.std.specs.Prelude.{List, ℕ, ◌+◌, ◌*◌, ◌≤◌, length, ltb}
+use Rattle.std.specs.Prelude.{List, ℕ, ◌+◌, ◌*◌, ◌≤◌, length, ltb, Ok, Err, Option, Some, None}
 use Rattle.head_limits.specs.declared.Purpose.TheVariants.{Read}
 use Rattle.text.specs.declared.Manner.TheVariants.{Strict}
 use Rattle.word.specs.Put.{put}
@@ -8,17 +8,14 @@ use Rattle.refusal.specs.Rows.{pick}
 use Rattle.refusal.specs.Table.{refusal}
 use Rattle.refusal.specs.declared.Rule.TheVariants.{InputSize}
 use Rattle.refusal.specs.declared.Part.TheVariants.{File}
-use Rattle.refusal.specs.declared.Verdict.{Verdict}
-use Rattle.refusal.specs.declared.Verdict.TheVariants.{Accepted, Refused}
 use Rattle.image.specs.Image.{check_of}
 use Rattle.lines.specs.Lines.{refusal_line}
 use Rattle.file_lines.specs.FileLines.{file_text}
-use Rattle.listing.specs.declared.Listed.{Listed}
-use Rattle.listing.specs.declared.Listed.TheVariants.{To, Full}
+use Rattle.refusal.specs.Verdicts.{Verdict}
 
 unfoldable pub checked_text : Verdict → List ℕ → List ℕ
-checked_text Accepted f = file_text f
-checked_text (Refused r) f = refusal_line r
+checked_text (Ok _) f = file_text f
+checked_text (Err r) f = refusal_line r
 
 -- "A refusal prints one line only: R, number, part (F for -1), place"
 unfoldable pub listing_of : List ℕ → List ℕ
@@ -33,19 +30,19 @@ program_of input = pick (ltb 65536 (length input)) (refusal_line (refusal InputS
 abbrev pub room_for : ℕ → ℕ
 room_for n = 16 * n + 64
 
-unfoldable pub print_answer : List ℕ → List ℕ → ℕ → Listed
-print_answer text input room = pick (ltb room (room_for (length input))) Full (To (length text))
+unfoldable pub print_answer : List ℕ → List ℕ → ℕ → Option ℕ
+print_answer text input room = pick (ltb room (room_for (length input))) None (Some (length text))
 
-abbrev pub list_answer : List ℕ → ℕ → Listed
+abbrev pub list_answer : List ℕ → ℕ → Option ℕ
 list_answer input room = print_answer (listing_of input) input room
 
-abbrev pub program_answer : List ℕ → ℕ → Listed
+abbrev pub program_answer : List ℕ → ℕ → Option ℕ
 program_answer input room = print_answer (program_of input) input room
 
 -- the listing lies in the row
-abbrev pub Within : Listed → ℕ → Type 0
-Within (To n) room = n ≤ room
-Within Full room = Unit {0}
+abbrev pub Within : Option ℕ → ℕ → Type 0
+Within (Some n) room = n ≤ room
+Within None room = Unit {0}
 
 -- and what the row then holds
 unfoldable pub print_left : List ℕ → List ℕ → List ℕ → List ℕ

@@ -1,10 +1,8 @@
 -- How long a listing can be: 16 bytes for each of the input's, and 64 more. N and M are words of 2 bytes, so a trace's
 -- number has at most 5 digits. A string of o bytes prints at most 16 o, a trace of B bytes 16 B.
 -- Assumes nothing.
-use Rattle.std.specs.Prelude.{◌≡◌, refl, Bool, true, false, List, [], ◌∷◌, ◌++◌, take, drop, leb}
-use Rattle.std.proofs.Common.{ap, length-drop, length-take, length-take-le, leb-false}
-use Prim.Native.Nat.{ℕ, zero, suc, ◌+◌, ◌-◌, ◌*◌, ◌≤◌, ◌<◌}
-use native.Mathlib.Omega.{arith}
+use Rattle.std.specs.Prelude.{◌≡◌, refl, Bool, true, false, List, [], ◌∷◌, ◌++◌, take, drop, leb, Result, Ok, Err, Option, Some, None, ℕ, zero, suc, ◌+◌, ◌-◌, ◌*◌, ◌≤◌, ◌<◌}
+use Rattle.std.proofs.Common.{ap, length-drop, length-take, length-take-le, leb-false, arith}
 use Rattle.std.proofs.Math.ListN.{length, length-append}
 use Rattle.head_limits.specs.declared.Purpose.TheVariants.{Read}
 use Rattle.text.specs.declared.Manner.TheVariants.{Strict}
@@ -14,10 +12,7 @@ use Rattle.word.specs.WordLaws.{word_small}
 use Rattle.refusal.specs.Rows.{pick}
 use Rattle.refusal.specs.declared.Part.{Part}
 use Rattle.refusal.specs.declared.Part.TheVariants.{File, Trace}
-use Rattle.refusal.specs.declared.Verdict.TheVariants.{Accepted}
 use Rattle.sample.specs.Needed.{needed}
-use Rattle.strings.specs.declared.Frame.{Frame}
-use Rattle.strings.specs.declared.Frame.TheVariants.{End, Text, Broken}
 use Rattle.strings.specs.declared.Place.{Place}
 use Rattle.chars.specs.Chars.{note}
 use Rattle.chars.specs.Runs.{same, same_eq}
@@ -43,6 +38,8 @@ use Rattle.listing.specs.Listing.{room_for}
 use Rattle.lines.specs.Sizes.{five, length_ended, length_order, length_head, length_trace, length_label, length_line}
 use Rattle.lines.specs.Spaced.{length_spaced}
 use Rattle.file_lines.specs.Told.{line_some}
+use Rattle.refusal.specs.declared.Rule.{Rule}
+use Rattle.refusal.specs.Verdicts.{accepted}
 
 -- ---- numbers
 one : (n : ℕ) → n < 10 → length (digits n) ≤ 1
@@ -102,12 +99,12 @@ unfolding places_from on_text strings_text
 strings_few p u f zero high t l at s h = omega arith
 strings_few p u f (suc m) high t l at s h = go (frame_of Strict high t l) refl (λ o. strings_few p u f m high t (drop o l) (at + o) s h)
   where
-    go : (w : Frame) → frame_of Strict high t l ≡ w
+    go : (w : Result (Option ℕ) Rule) → frame_of Strict high t l ≡ w
         → ((o : ℕ) → length (strings_text p u (strs_in f (places_from Strict m high t (drop o l) (at + o)))) ≤ 16 * length (drop o l))
         → length (strings_text p u (strs_in f (on_text w [] (λ o. place_of t o l at ∷ places_from Strict m high t (drop o l) (at + o))))) ≤ 16 * length l
-    go End e i = omega arith
-    go (Broken r) e i = omega arith
-    go (Text o) e i = let b = place_fits Strict high t l at o e in one_more o (place_of t o l at) b (i o)
+    go (Ok None) e i = omega arith
+    go (Err r) e i = omega arith
+    go (Ok (Some o)) e i = let b = place_fits Strict high t l at o e in one_more o (place_of t o l at) b (i o)
       where
         one_more : (o : ℕ) (q : Place) → Fits at l q o → length (strings_text p u (strs_in f (places_from Strict m high t (drop o l) (at + o)))) ≤ 16
             * length (drop o l)
@@ -144,7 +141,7 @@ trace_line_few : (k code s : ℕ) → k < 100000 → code < 10 → s < 100000000
 trace_line_few k code s a b c =
     omega (arith, five k a, one code b, digits_few 8 s (omega arith) c, length_trace k code s, length_ended k 9, length_ended code 9, length_ended s 10)
 
-module _ (f : List ℕ) (ok : image_of Strict Read f ≡ Accepted) (size : 32 ≤ length f) (most : length f ≤ maximum) (bytes : Bytes f) where
+module _ (f : List ℕ) (ok : image_of Strict Read f ≡ accepted) (size : 32 ≤ length f) (most : length f ≤ maximum) (bytes : Bytes f) where
   counts : (room_of f < 100000) × (count_of f < 100000)
   unfolding room_of count_of
   counts = (omega (arith, word_small 2 (high_first f) f 4 bytes), omega (arith, word_small 2 (high_first f) f 6 bytes))

@@ -10,49 +10,35 @@ ghost use Rattle.std.specs.Prelude.{◌≡◌, ltb, length};
 ghost use Rattle.listing.specs.Listing.{room_for, list_answer, Within, list_left, program_answer, program_left};
 
 use head_limits::Purpose;
-use refusal::{Rule, Verdict};
+use refusal::Rule;
 use text::Manner;
-
-// How many bytes the listing has; or that the row lent may be too short for it.
-#[derive(Clone, Copy)]
-pub enum Listed {
-    To(usize),
-    Full,
-}
 
 // Whether a row may be too short for the listing of n bytes: 16 bytes for each and 64 more are enough. The row's length
 // is divided, so that no product can wrap.
 fn too_short(room: usize, n: usize) -> bool
     ensures { result ≡ ltb room (room_for n) }
 {
-    if room < 64 {
-        return true;
-    }
-    if (room - 64) / 16 < n {
-        return true;
-    }
-    false
+    room < 64 || (room - 64) / 16 < n
 }
 
 // The listing of a file: the check, once. Where the row lent may be too short nothing is written.
-pub fn list(input: &[u8], out: &mut [u8]) -> Listed
+pub fn list(input: &[u8], out: &mut [u8]) -> Option<usize>
     ensures answer { result ≡ list_answer input.now (length out.old) }
     ensures within { Within result (length out.old) }
     ensures left { out.new ≡ list_left input.now out.old }
 {
     let n = input.len();
     if too_short(out.len(), n) {
-        return Listed::Full;
+        return None;
     }
-    let v = image::check(input, n, Purpose::Read, Manner::Strict);
-    match v {
-        Verdict::Refused(r) => Listed::To(lines::put_refusal(out, 0, r)),
-        Verdict::Accepted => Listed::To(file_lines::put_file(out, input)),
+    match image::check(input, n, Purpose::Read, Manner::Strict) {
+        Err(r) => Some(lines::put_refusal(out, 0, r)),
+        Ok(()) => Some(file_lines::put_file(out, input)),
     }
 }
 
 // What the program prints of its input: 19 first, else the listing.
-pub fn program(input: &[u8], out: &mut [u8]) -> Listed
+pub fn program(input: &[u8], out: &mut [u8]) -> Option<usize>
     ensures answer { result ≡ program_answer input.now (length out.old) }
     ensures within { Within result (length out.old) }
     ensures left { out.new ≡ program_left input.now out.old }
@@ -62,7 +48,7 @@ pub fn program(input: &[u8], out: &mut [u8]) -> Listed
         return list(input, out);
     }
     if too_short(out.len(), input.len()) {
-        return Listed::Full;
+        return None;
     }
-    Listed::To(lines::put_refusal(out, 0, refusal::of_file(Rule::InputSize, 0)))
+    Some(lines::put_refusal(out, 0, refusal::of_file(Rule::InputSize, 0)))
 }

@@ -1,17 +1,9 @@
 -- Theorems on what specs/LocationMarks defines. They stand here, as a wrong definition there is to be refused and not to be unread.
 -- Assumes nothing.
-use Rattle.std.specs.Prelude.{◌≡◌, refl, Bool, true, false, ◌||◌, List, [], ◌∷◌, ◌++◌, ℕ, ◌+◌, length, Float}
+use Rattle.std.specs.Prelude.{◌≡◌, refl, Bool, true, false, ◌||◌, List, [], ◌∷◌, ◌++◌, ℕ, ◌+◌, length, Float, Result, Ok, Err}
 use Rattle.std.proofs.Common.{sym, ◌∙◌, arith}
-use Rattle.decimal_parts.specs.declared.NumberAnswer.{NumberAnswer}
-use Rattle.decimal_parts.specs.declared.NumberAnswer.TheVariants as number
-use Rattle.double.specs.declared.DoubleAnswer.{DoubleAnswer}
-use Rattle.double.specs.declared.DoubleAnswer.TheVariants as double
 use Rattle.location.specs.declared.Coordinate.{Coordinate}
-use Rattle.location.specs.declared.CoordinateAnswer.{CoordinateAnswer}
-use Rattle.location.specs.declared.CoordinateAnswer.TheVariants as coordinate
 use Rattle.location.specs.declared.Coordinates.{Coordinates}
-use Rattle.location.specs.declared.LocationAnswer.{LocationAnswer}
-use Rattle.location.specs.declared.LocationAnswer.TheVariants.{Is}
 use Rattle.chars.specs.Chars.{blank}
 use Rattle.front_bytes.specs.Run.{All, all_append, all_among, all_weaker}
 use Rattle.decimal.specs.Number.{number_in}
@@ -21,33 +13,35 @@ use Rattle.double.specs.Double.{on_number, double_of}
 use Rattle.location.specs.Values.{Value, values_of, Parted, Parted.blanks, Parted.value, parted}
 use Rattle.location.specs.Location.{decimals_of, counted, coordinate_of, on_coordinate, one_of, three_of, located, location_of}
 use Rattle.location.specs.LocationMarks.{Marked, spot}
+use Rattle.refusal.specs.declared.Refusal.{Refusal}
+use Rattle.decimal_parts.specs.declared.Decimal.{Decimal}
 
-double_marks : (t : List ℕ) (x : Float) → double_of t ≡ double.Is x → All mark t
+double_marks : (t : List ℕ) (x : Float) → double_of t ≡ Ok x → All mark t
 unfolding double_of on_number
 double_marks t x e = go (number_in t) refl e
   where
-    go : (a : NumberAnswer) → number_in t ≡ a → on_number a ≡ double.Is x → All mark t
-    go (number.Is n) f g = let w = (is_number t n).0 f in written_marks w.0 t w.1
-    go (number.Refused r) f g = let z : ◌≡◌ {A = ℕ} 0 1 = cc in absurd (omega arith)
+    go : (a : Result Decimal Refusal) → number_in t ≡ a → on_number a ≡ Ok x → All mark t
+    go (Ok n) f g = let w = (is_number t n).0 f in written_marks w.0 t w.1
+    go (Err r) f g = let z : ◌≡◌ {A = ℕ} 0 1 = cc in absurd (omega arith)
 
-coordinate_marks : (t : List ℕ) (x : Coordinate) → coordinate_of t ≡ coordinate.Is x → All mark t
+coordinate_marks : (t : List ℕ) (x : Coordinate) → coordinate_of t ≡ Ok x → All mark t
 unfolding coordinate_of
 coordinate_marks t x e = go (double_of t) refl e
   where
-    go : (a : DoubleAnswer) → double_of t ≡ a → counted (decimals_of (number_in t)) a ≡ coordinate.Is x → All mark t
-    go (double.Is y) f g = double_marks t y f
-    go (double.Refused r) f g = let z : ◌≡◌ {A = ℕ} 0 1 = cc in absurd (omega arith)
+    go : (a : Result Float Refusal) → double_of t ≡ a → counted (decimals_of (number_in t)) a ≡ Ok x → All mark t
+    go (Ok y) f g = double_marks t y f
+    go (Err r) f g = let z : ◌≡◌ {A = ℕ} 0 1 = cc in absurd (omega arith)
 
 -- a value whose double went on
-went_on : (at : ℕ) (t : List ℕ) (k : Coordinate → LocationAnswer) (l : Coordinates) → on_coordinate at (coordinate_of t) k ≡ Is l
-    → All mark t × ((x : Coordinate) × (k x ≡ Is l))
+went_on : (at : ℕ) (t : List ℕ) (k : Coordinate → Result Coordinates Refusal) (l : Coordinates) → on_coordinate at (coordinate_of t) k ≡ Ok l
+    → All mark t × ((x : Coordinate) × (k x ≡ Ok l))
 went_on at t k l e = go (coordinate_of t) refl e
   where
-    go : (a : CoordinateAnswer) → coordinate_of t ≡ a → on_coordinate at a k ≡ Is l → All mark t × ((x : Coordinate) × (k x ≡ Is l))
-    go (coordinate.Is x) f g = (coordinate_marks t x f, (x, g))
-    go (coordinate.Refused r) f g = let z : ◌≡◌ {A = ℕ} 0 1 = cc in absurd (omega arith)
+    go : (a : Result Coordinate Refusal) → coordinate_of t ≡ a → on_coordinate at a k ≡ Ok l → All mark t × ((x : Coordinate) × (k x ≡ Ok l))
+    go (Ok x) f g = (coordinate_marks t x f, (x, g))
+    go (Err r) f g = let z : ◌≡◌ {A = ℕ} 0 1 = cc in absurd (omega arith)
 
-located_marks : (vs : List Value) (l : Coordinates) → located vs ≡ Is l → Marked vs
+located_marks : (vs : List Value) (l : Coordinates) → located vs ≡ Ok l → Marked vs
 unfolding located one_of three_of
 located_marks [] l e = tt
 located_marks (u ∷ []) l e = ((went_on u.0 u.1 _ l e).0, tt)
@@ -80,7 +74,7 @@ parted_spots at t (x ∷ vs) given m = go at x t given m.0 (λ b r more. parted_
     go at x t (value g v r bg sv st rest) m again =
         all_append spot g (v ++ r) (blank_spots g bg) (all_append spot v r (mark_spots v m) (again (at + length g + length v) r rest))
 
-pub other_byte_location : (b : ℕ) → spot b ≡ false → (before after : List ℕ) (l : Coordinates) → location_of (before ++ b ∷ after) ≡ Is l → ⊥
+pub other_byte_location : (b : ℕ) → spot b ≡ false → (before after : List ℕ) (l : Coordinates) → location_of (before ++ b ∷ after) ≡ Ok l → ⊥
 unfolding location_of
 other_byte_location b e before after l h =
     let t = before ++ b ∷ after in
@@ -88,5 +82,5 @@ other_byte_location b e before after l h =
     let n : ◌≡◌ {A = ℕ} 0 1 = cc in
     omega arith
 
-pub comma_location : (before after : List ℕ) (l : Coordinates) → location_of (before ++ 44 ∷ after) ≡ Is l → ⊥
+pub comma_location : (before after : List ℕ) (l : Coordinates) → location_of (before ++ 44 ∷ after) ≡ Ok l → ⊥
 comma_location = other_byte_location 44 refl

@@ -1,32 +1,26 @@
 -- Locations (document 01, "Numbers in values"): x alone or x, y and z, each a double, and how many there were. 23
 -- first, then value by value.
 -- Assumes nothing.
-use Rattle.std.specs.Prelude.{◌≡◌, Bool, false, List, [], ◌∷◌, ℕ, ◌+◌, ◌-◌, ◌≤◌, ◌<◌, pos, length, take, drop, Float}
+use Rattle.std.specs.Prelude.{◌≡◌, Bool, false, List, [], ◌∷◌, ℕ, ◌+◌, ◌-◌, ◌≤◌, ◌<◌, pos, length, take, drop, Float, Result, Ok, Err}
 use Rattle.std.proofs.Math.Path.{refl}
 use Rattle.std.proofs.Common.{sym, ap, subst, ◌∙◌, arith, length-drop, drop_of_length-le, drop-drop}
 use Rattle.std.specs.Float.{fin}
-use Rattle.refusal.specs.declared.Rule.TheVariants.{NoNumber, ValueCount}
+use Rattle.refusal.specs.declared.Rule.TheVariants.{ValueCount}
 use Rattle.refusal.specs.declared.Part.TheVariants.{File}
 use Rattle.refusal.specs.Table.{refusal}
-use Rattle.decimal_parts.specs.declared.NumberAnswer.{NumberAnswer}
-use Rattle.decimal_parts.specs.declared.NumberAnswer.TheVariants as number
-use Rattle.double.specs.declared.DoubleAnswer.{DoubleAnswer}
-use Rattle.double.specs.declared.DoubleAnswer.TheVariants as double
 use Rattle.location.specs.declared.Coordinate.{Coordinate}
-use Rattle.location.specs.declared.CoordinateAnswer.{CoordinateAnswer}
-use Rattle.location.specs.declared.CoordinateAnswer.TheVariants as coordinate
 use Rattle.location.specs.declared.Coordinates.{Coordinates}
-use Rattle.location.specs.declared.LocationAnswer.{LocationAnswer}
-use Rattle.location.specs.declared.LocationAnswer.TheVariants.{Is, Refused}
 use Rattle.chars.specs.Chars.{blank, solid}
 use Rattle.chars.specs.Runs.{run, Stops, run_stops}
 use Rattle.front_bytes.specs.Run.{front, behind}
 use Rattle.decimal.specs.Number.{number_in}
 use Rattle.double.specs.Double.{double_of}
 use Rattle.location.specs.Values.{Value, values_from, values_of, blanks_passed, value_first, values_none}
+use Rattle.refusal.specs.declared.Refusal.{Refusal}
+use Rattle.decimal_parts.specs.declared.Decimal.{Decimal}
 
-abbrev pub value_count : LocationAnswer
-value_count = Refused (refusal ValueCount File 0)
+abbrev pub value_count : Result Coordinates Refusal
+value_count = Err (refusal ValueCount File 0)
 
 -- plus zero, for what is absent
 abbrev pub absent : Float
@@ -36,16 +30,16 @@ absent = fin false 0 (pos 0)
 -- for each value")
 
 -- how many digits stood after the point of a number
-abbrev pub decimals_of : NumberAnswer → ℕ
-decimals_of (number.Is n) = n.decimals
-decimals_of (number.Refused r) = 0
+abbrev pub decimals_of : Result Decimal Refusal → ℕ
+decimals_of (Ok n) = n.decimals
+decimals_of (Err r) = 0
 
 -- a double beside the count; a refusal is passed up
-abbrev pub counted : ℕ → DoubleAnswer → CoordinateAnswer
-counted d (double.Is x) = coordinate.Is (record { value = x; decimals = d })
-counted d (double.Refused r) = coordinate.Refused r
+abbrev pub counted : ℕ → Result Float Refusal → Result Coordinate Refusal
+counted d (Ok x) = Ok (record { value = x; decimals = d })
+counted d (Err r) = Err r
 
-unfoldable pub coordinate_of : List ℕ → CoordinateAnswer
+unfoldable pub coordinate_of : List ℕ → Result Coordinate Refusal
 coordinate_of t = counted (decimals_of (number_in t)) (double_of t)
 
 -- ---- a location
@@ -74,31 +68,43 @@ together x y z = record {
 }
 
 -- a double goes on; a refusal is passed up, and its place is the value's start
-abbrev pub on_coordinate : ℕ → CoordinateAnswer → (Coordinate → LocationAnswer) → LocationAnswer
-on_coordinate at (coordinate.Is x) k = k x
-on_coordinate at (coordinate.Refused r) k = Refused (refusal r.rule r.part at)
+abbrev pub on_coordinate : ℕ → Result Coordinate Refusal → (Coordinate → Result Coordinates Refusal) → Result Coordinates Refusal
+on_coordinate at (Ok x) k = k x
+on_coordinate at (Err r) k = Err (refusal r.rule r.part at)
 
--- what is passed up of an answer that is no double; of a double it is not asked
-abbrev pub passed : ℕ → CoordinateAnswer → LocationAnswer
-passed at a = on_coordinate at a (λ x. Refused (refusal NoNumber File at))
+-- a value's answer, where a refusal has the place where the value starts
+abbrev pub placed : ℕ → Result Coordinate Refusal → Result Coordinate Refusal
+placed at (Ok x) = Ok x
+placed at (Err r) = Err (refusal r.rule r.part at)
 
-unfoldable pub one_of : Value → LocationAnswer
-one_of v = on_coordinate v.0 (coordinate_of v.1) (λ x. Is (alone x))
+unfoldable pub one_of : Value → Result Coordinates Refusal
+one_of v = on_coordinate v.0 (coordinate_of v.1) (λ x. Ok (alone x))
 
-unfoldable pub three_of : Value → Value → Value → LocationAnswer
+unfoldable pub three_of : Value → Value → Value → Result Coordinates Refusal
 three_of u v w =
     on_coordinate u.0 (coordinate_of u.1)
-    (λ x. on_coordinate v.0 (coordinate_of v.1) (λ y. on_coordinate w.0 (coordinate_of w.1) (λ z. Is (together x y z))))
+    (λ x. on_coordinate v.0 (coordinate_of v.1) (λ y. on_coordinate w.0 (coordinate_of w.1) (λ z. Ok (together x y z))))
 
-unfoldable pub located : List Value → LocationAnswer
+unfoldable pub located : List Value → Result Coordinates Refusal
 located [] = value_count
 located (u ∷ []) = one_of u
 located (u ∷ v ∷ []) = value_count
 located (u ∷ v ∷ w ∷ []) = three_of u v w
 located (u ∷ v ∷ w ∷ x ∷ vs) = value_count
 
-unfoldable pub location_of : List ℕ → LocationAnswer
+unfoldable pub location_of : List ℕ → Result Coordinates Refusal
 location_of t = located (values_of t)
+
+-- ---- what stands behind a value that was read so, and behind one that was refused
+
+module _ (at : ℕ) (k : Coordinate → Result Coordinates Refusal) where
+  pub goes_on : (a : Result Coordinate Refusal) {x : Coordinate} → placed at a ≡ Ok x → on_coordinate at a k ≡ k x
+  goes_on (Ok y) {x} e = let s : y ≡ x = cc in rw s
+  goes_on (Err r) e = cc
+
+  pub ends : (a : Result Coordinate Refusal) {r : Refusal} → placed at a ≡ Err r → on_coordinate at a k ≡ Err r
+  ends (Ok y) e = cc
+  ends (Err q) e = cc
 
 -- ---- the code's places: from place i on, past the bytes of a kind
 

@@ -5,24 +5,15 @@
 #![tactic(auto)]
 
 ghost use Rattle.std.specs.Prelude.{◌≡◌};
-ghost use Rattle.double.specs.Double.{double_from};
-ghost use Rattle.location.specs.Location.{counted, coordinate_of, value_count, passed, one_of, three_of};
+ghost use Rattle.location.specs.Location.{coordinate_of, placed, value_count, one_of, three_of};
 
-use decimal_parts::{Decimal, NumberAnswer};
-use double::DoubleAnswer;
-use refusal::{Part, Refusal, Rule};
+use refusal::{Refusal, Rule};
 
 // A value of a location: its double, and how many digits stood after its point (document 02 §4).
 #[derive(Clone, Copy)]
 pub struct Coordinate {
     pub value: f64,
     pub decimals: u32,
-}
-
-#[derive(Clone, Copy)]
-pub enum CoordinateAnswer {
-    Is(Coordinate),
-    Refused(Refusal),
 }
 
 // A location: x alone or x, y and z, how many there were, and of each how many digits stood after its point; absent
@@ -38,77 +29,38 @@ pub struct Coordinates {
     pub z_decimals: u32,
 }
 
-#[derive(Clone, Copy)]
-pub enum LocationAnswer {
-    Is(Coordinates),
-    Refused(Refusal),
-}
-
-// The double of a number, beside the count of its decimals.
-fn coordinate_from(n: Decimal) -> CoordinateAnswer
-    ensures { result ≡ counted n.decimals (double_from n) }
-{
-    let decimals = n.decimals;
-    match double::double_from(n) {
-        DoubleAnswer::Is(value) => CoordinateAnswer::Is(Coordinate { value, decimals }),
-        DoubleAnswer::Refused(r) => CoordinateAnswer::Refused(r),
-    }
-}
-
 // The double that a text is, beside the count of its decimals: the text is read once for both.
-fn coordinate_in(text: &[u8]) -> CoordinateAnswer
+#[tactic(auto, unfolding(crate::specs::Location::coordinate_of, double::specs::Double::double_of, double::specs::Double::on_number))]
+fn coordinate_in(text: &[u8]) -> Result<Coordinate, Refusal>
     ensures { result ≡ coordinate_of text.now }
 {
-    let answer = decimal::number(text);
-    let NumberAnswer::Is(n) = answer else {
-        return CoordinateAnswer::Refused(double::refusal_of(answer));
-    };
-    coordinate_from(n)
-}
-
-// Refusal 23: neither one nor three values.
-pub fn value_count() -> LocationAnswer
-    ensures { result ≡ value_count }
-{
-    LocationAnswer::Refused(Refusal {
-        rule: Rule::ValueCount,
-        part: Part::File,
-        place: 0,
+    let n = decimal::number(text)?;
+    Ok(Coordinate {
+        value: double::double_from(n)?,
+        decimals: n.decimals,
     })
 }
 
-// The refusal of an answer that is no double, passed up with the place where the value starts. (Of a double it is never
-// asked.)
-fn passed(at: usize, answer: CoordinateAnswer) -> LocationAnswer
-    ensures { result ≡ passed at answer }
+// The same of a value of a location: the place of a refusal is where the value starts.
+fn coordinate_at(at: usize, text: &[u8]) -> Result<Coordinate, Refusal>
+    ensures { result ≡ placed at (coordinate_of text.now) }
 {
-    match answer {
-        CoordinateAnswer::Is(_) => LocationAnswer::Refused(Refusal {
-            rule: Rule::NoNumber,
-            part: Part::File,
-            place: at,
-        }),
-        CoordinateAnswer::Refused(r) => {
-            let rule = r.rule;
-            let part = r.part;
-            LocationAnswer::Refused(Refusal {
-                rule,
-                part,
-                place: at,
-            })
-        }
-    }
+    coordinate_in(text).map_err(|r| Refusal { place: at, ..r })
+}
+
+// Refusal 23: neither one nor three values.
+pub fn value_count() -> Result<Coordinates, Refusal>
+    ensures { result ≡ value_count }
+{
+    Err(refusal::of_file(Rule::ValueCount, 0))
 }
 
 // x alone, which starts at a.
-pub fn one(a: usize, x: &[u8]) -> LocationAnswer
+pub fn one(a: usize, x: &[u8]) -> Result<Coordinates, Refusal>
     ensures { result ≡ one_of (a, x.now) }
 {
-    let first = coordinate_in(x);
-    let CoordinateAnswer::Is(u) = first else {
-        return passed(a, first);
-    };
-    LocationAnswer::Is(Coordinates {
+    let u = coordinate_at(a, x)?;
+    Ok(Coordinates {
         x: u.value,
         y: 0.0,
         z: 0.0,
@@ -120,22 +72,20 @@ pub fn one(a: usize, x: &[u8]) -> LocationAnswer
 }
 
 // x, y and z, which start at a, b and c.
-pub fn three(a: usize, x: &[u8], b: usize, y: &[u8], c: usize, z: &[u8]) -> LocationAnswer
+pub fn three(
+    a: usize,
+    x: &[u8],
+    b: usize,
+    y: &[u8],
+    c: usize,
+    z: &[u8],
+) -> Result<Coordinates, Refusal>
     ensures { result ≡ three_of (a, x.now) (b, y.now) (c, z.now) }
 {
-    let first = coordinate_in(x);
-    let CoordinateAnswer::Is(u) = first else {
-        return passed(a, first);
-    };
-    let second = coordinate_in(y);
-    let CoordinateAnswer::Is(v) = second else {
-        return passed(b, second);
-    };
-    let third = coordinate_in(z);
-    let CoordinateAnswer::Is(w) = third else {
-        return passed(c, third);
-    };
-    LocationAnswer::Is(Coordinates {
+    let u = coordinate_at(a, x)?;
+    let v = coordinate_at(b, y)?;
+    let w = coordinate_at(c, z)?;
+    Ok(Coordinates {
         x: u.value,
         y: v.value,
         z: w.value,

@@ -1,5 +1,6 @@
 // A location in its text (document 01, "Numbers in values", row 23; document 02, §4): the values that stand there, one
-// or three, and what they are. The definitions are location/Location. Stands on `location`, `chars`.
+// or three, and what they are. The definitions are location/Location. Stands on `location`, `front_bytes`,
+// `chars`, `refusal`.
 // The rules in words: docs/FORMAT.md, "Numbers in values".
 #![tactic(auto)]
 
@@ -9,7 +10,8 @@ ghost use Rattle.location.specs.Location.{over};
 ghost use Rattle.location.specs.Location.{location_of};
 
 use chars::Kind;
-use location::LocationAnswer;
+use location::Coordinates;
+use refusal::Refusal;
 
 // From place i on, past the bytes of a kind.
 fn over(kind: Kind, text: &[u8], i: usize) -> usize
@@ -21,7 +23,7 @@ fn over(kind: Kind, text: &[u8], i: usize) -> usize
 
 // The location that a text is (document 01, "Numbers in values"): how many values there are is judged before any of
 // them.
-pub fn location(text: &[u8]) -> LocationAnswer
+pub fn location(text: &[u8]) -> Result<Coordinates, Refusal>
     ensures { result ≡ location_of text.now }
 {
     let n = text.len();

@@ -1,14 +1,13 @@
 -- Theorems on what specs/Plain defines. They stand here, as a wrong definition there is to be refused and not to be unread.
 -- Assumes nothing.
-use Rattle.std.specs.Prelude.{◌≡◌, refl, Bool, true, false, ◌&&◌, List, [], ◌⊎◌, ◌↔◌, ℕ, zero, suc, ◌-◌, ◌≤◌, ◌<◌, nat_abs, length, get_or, ltb, eqb}
+use Rattle.std.specs.Prelude.{◌≡◌, refl, Bool, true, false, ◌&&◌, List, [], ◌⊎◌, ◌↔◌, ℕ, zero, suc, ◌≤◌, ◌<◌, nat_abs, length, get_or, ltb, eqb, Ok}
 use Rattle.std.proofs.Common.{sym, ap, subst, ◌∙◌, inl, inr, arith, le-ltb, ne_eqb}
 use Rattle.std.proofs.lemmas.Bool.{eqb-false}
-use Rattle.refusal.specs.declared.Written.TheVariants.{To}
 use Rattle.refusal.specs.Rows.{Clear}
 use Rattle.digits.specs.Value.{value}
 use Rattle.digits.specs.Digits.{digits_first}
 use Rattle.decimal_parts.specs.declared.Decimal.{Decimal}
-use Rattle.decimal_parts.specs.Grammar.{Power.power, Writes}
+use Rattle.decimal_parts.specs.Grammar.{Writes}
 use Rattle.decimal_parts.specs.Answer.{decimal_of}
 use Rattle.numeral.specs.Leading.{digits_leading}
 use Rattle.numeral_text.specs.NumeralText.{unless_zero, spelling}
@@ -54,7 +53,7 @@ shown_clear n t s =
 
 -- a number is written, in so much room, as exactly the text that shows it
 pub shown_exactly : (room : ℕ) (n : Decimal) (t : List ℕ)
-    → ((numeral_answer room n ≡ To (length t)) × (numeral_of n ≡ t)) ↔ (Shows n t × (length t ≤ room))
+    → ((numeral_answer room n ≡ Ok (length t)) × (numeral_of n ≡ t)) ↔ (Shows n t × (length t ≤ room))
 shown_exactly room n t = (
   λ w. (
       let r = rows_from room n (length t) w.0 in
@@ -70,5 +69,5 @@ shown_exactly room n t = (
       )),
   λ s. (
       let e = shown_text n t s.0 in
-      (rows_to room n (shown_clear n t s.0) (rw e s.1) ∙ ap (λ (q : List ℕ). To (length q)) e, e)),
+      (rows_to room n (shown_clear n t s.0) (rw e s.1) ∙ ap (λ (q : List ℕ). Ok (length q)) e, e)),
 )

@@ -1,15 +1,14 @@
--- The power behind E, how many digits a number has, and a law for each answer of the writer. Assumes nothing.
-use Rattle.std.specs.Prelude.{◌≡◌, refl, Bool, true, false, ◌&&◌, ℕ, zero, suc, ◌+◌, ◌-◌, ◌*◌, ◌^◌, ◌/◌, ◌≤◌, ◌<◌, ℤ, pos, negsuc, nat_abs, ltb, eqb}
+-- How many digits a number has, and a law for each answer of the writer. Assumes nothing.
+use Rattle.std.specs.Prelude.{◌≡◌, refl, Bool, true, false, ◌&&◌, ℕ, zero, suc, ◌+◌, ◌-◌, ◌*◌, ◌^◌, ◌/◌, ◌≤◌, ◌<◌, pos, negsuc, nat_abs, ltb, eqb, Result}
 use Rattle.std.proofs.Math.Path.{sym, ap}
-use Rattle.std.proofs.Common.{◌∙◌, div-lt_iff_lt-mul, arith, length-append, pow-add}
-use mathlib.Core.List.{List, [], ◌∷◌}
+use Rattle.std.proofs.Common.{◌∙◌, div-lt_iff_lt-mul, arith, length-append, pow-add, ℤ}
+use Rattle.std.specs.Prelude.{List, [], ◌∷◌}
 use Rattle.std.proofs.Math.Nat.{one-le-pow}
 use Rattle.std.proofs.Math.ListN.{length}
 use Rattle.std.specs.Int.Signed.{lt_z}
-use borrow.Author.Tests.{lt-ltb, le-ltb, ltb-true, ltb-false}
+use Rattle.std.proofs.Common.{lt-ltb, le-ltb, ltb-true, ltb-false}
 use Rattle.word.specs.Put.{put}
 use Rattle.refusal.specs.declared.Rule.TheVariants.{NoNumber, Digits}
-use Rattle.refusal.specs.declared.Written.{Written}
 use Rattle.refusal.specs.Writing.{refuse, on_written}
 use Rattle.digits.specs.Digits.{digits, digits_few, digits_some, digits_below}
 use Rattle.decimal_parts.specs.declared.Decimal.{Decimal}
@@ -19,6 +18,7 @@ use Rattle.numeral_text.specs.NumeralText.{unless_zero, parts_with, sign_text, p
 use Rattle.numeral_text.specs.Stored.{not_zero, text_length}
 use Rattle.numeral_room.specs.Fitted.{fitted}
 use Rattle.numeral.specs.Numeral.{raised, parts_for, numeral_of, numeral_answer, numeral_left}
+use Rattle.refusal.specs.declared.Refusal.{Refusal}
 
 -- ---- the power plus the count, by magnitudes
 
@@ -96,7 +96,7 @@ after_few (suc k) h = digits_few 2 (suc k) (omega arith) (omega arith)
 
 -- ---- a law for each answer of the writer: what it answers, and what it leaves
 
-abbrev pub Answers : List ℕ → Decimal → Written → List ℕ → Type 0
+abbrev pub Answers : List ℕ → Decimal → Result ℕ Refusal → List ℕ → Type 0
 Answers xs n r ys = (r ≡ numeral_answer (length xs) n) × (ys ≡ numeral_left xs n)
 
 module _ (xs : List ℕ) (n : Decimal) where
@@ -135,7 +135,7 @@ module _ (xs : List ℕ) (n : Decimal) where
           unfolding numeral_answer parts_for
           through_rows = rw (sign, digits_within, ← is-far, le-ltb 2 (length (unless_zero far)) (after_few far near))
 
-          pub the_answer : (r : Written) (ys : List ℕ)
+          pub the_answer : (r : Result ℕ Refusal) (ys : List ℕ)
               → r ≡ fitted (length xs) (spelling (parts_with n.minus n.coefficient n.decimals down far))
               → ys ≡ on_written r (put xs 0 (spelling (parts_with n.minus n.coefficient n.decimals down far))) xs
               → Answers xs n r ys

@@ -3,20 +3,18 @@
 -- digit before the point and otherwise no leading zero, then E .. where this is not 0". And this is the text that the
 -- digits make (`Numeral`), for every number that can be written and no other.
 -- Assumes nothing.
-use Rattle.std.specs.Prelude.{◌≡◌, refl, Bool, true, false, ◌&&◌, List, [], ◌∷◌, ◌++◌, ◌⊎◌, ◌↔◌, ℕ, zero, suc, ◌+◌, ◌-◌, ◌^◌, ◌/◌, ◌≤◌, ◌<◌, ℤ, pos, negsuc, nat_abs, ◌+ℤ◌, length, get_or, ltb, eqb}
-use Rattle.std.proofs.Common.{sym, ap, subst, ◌∙◌, inl, inr, le_trans, arith, lt-ltb, le-ltb, ltb-false, ne_eqb}
+use Rattle.std.specs.Prelude.{◌≡◌, refl, Bool, true, false, ◌&&◌, List, [], ◌∷◌, ◌++◌, ◌⊎◌, ℕ, zero, suc, ◌-◌, ◌^◌, ◌/◌, ◌≤◌, ◌<◌, ℤ, pos, negsuc, nat_abs, length, get_or, ltb, eqb, Ok, is_ok}
+use Rattle.std.proofs.Common.{ap, ◌∙◌, inl, inr, le_trans, arith, lt-ltb, le-ltb, ltb-false}
 use Rattle.std.proofs.Math.Nat.{one-le-pow}
 use Rattle.std.proofs.Math.IntN.{+ℤ-neg_ℤ_cancel, -ℤ-+ℤ_cancel}
 use Rattle.std.specs.Int.Signed.{lt_z}
 use Rattle.std.proofs.lemmas.Bool.{eqb-false}
 use Rattle.refusal.specs.declared.Rule.TheVariants.{NoRoom}
-use Rattle.refusal.specs.declared.Written.{Written}
-use Rattle.refusal.specs.declared.Written.TheVariants.{To, Refused}
 use Rattle.refusal.specs.Rows.{pick, Clear, through, clear}
 use Rattle.refusal.specs.Writing.{refuse}
 use Rattle.chars.specs.Chars.{digit}
 use Rattle.digits.specs.Value.{value}
-use Rattle.digits.specs.Digits.{digits, digits_mean, digits_first, digits_some}
+use Rattle.digits.specs.Digits.{digits, digits_mean, digits_some}
 use Rattle.decimal_parts.specs.declared.Decimal.{Decimal}
 use Rattle.front_bytes.specs.Run.{All}
 use Rattle.decimal_parts.specs.Grammar.{Parts, Sign, Sign.dash, Sign.nothing, Digits, Fraction, Fraction.no_point, Fraction.point}
@@ -25,7 +23,7 @@ use Rattle.decimal_power.specs.Power.{signed, power_of}
 use Rattle.decimal_parts.specs.Answer.{decimal_of, parts_are}
 use Rattle.digits.specs.LastDigits.{last_digits, last_length}
 use Rattle.numeral.specs.Leading.{last_digits_lem, last_mean, last_value, before_value, Leading, leading_least}
-use Rattle.numeral.specs.Leading.{each_digit, digits_leading, digits_value}
+use Rattle.numeral.specs.Leading.{each_digit, digits_value}
 use Rattle.numeral_text.specs.NumeralText.{unless_zero, sign_text, point_text, power_text, spelling}
 use Rattle.numeral.specs.Numeral.{raised, parts_for, numeral_of}
 use Rattle.numeral_room.specs.Fitted.{fitted}
@@ -231,26 +229,22 @@ module _ (p : Parts) (t : List ℕ) (h : Writes p t) where
 -- ---- the two views are one
 
 -- a length is answered exactly where no row is met
-is_to : Written → Bool
-is_to (To size) = true
-is_to (Refused r) = false
-
-fits_from : (room : ℕ) (t : List ℕ) (size : ℕ) → fitted room t ≡ To size → (length t ≤ room) × (size ≡ length t)
+fits_from : (room : ℕ) (t : List ℕ) (size : ℕ) → fitted room t ≡ Ok size → (length t ≤ room) × (size ≡ length t)
 fits_from room t size e = go (ltb room (length t)) refl e
   where
-    go : (q : Bool) → ltb room (length t) ≡ q → pick q (refuse NoRoom 0) (To (length t)) ≡ To size → (length t ≤ room) × (size ≡ length t)
+    go : (q : Bool) → ltb room (length t) ≡ q → pick q (refuse NoRoom 0) (Ok (length t)) ≡ Ok size → (length t ≤ room) × (size ≡ length t)
     go true f g = let z : ◌≡◌ {A = ℕ} 0 1 = cc in absurd (omega arith)
     go false f g = (ltb-false room (length t) f, cc)
 
-pub rows_from : (room : ℕ) (n : Decimal) (size : ℕ) → numeral_answer room n ≡ To size
+pub rows_from : (room : ℕ) (n : Decimal) (size : ℕ) → numeral_answer room n ≡ Ok size
     → Clear (numeral_rows n) × (length (numeral_of n) ≤ room) × (size ≡ length (numeral_of n))
-unfolding numeral_answer is_to
+unfolding numeral_answer
 rows_from room n size e =
-    let c = clear is_to (To size) refl (numeral_rows n) (fitted room (numeral_of n)) refl e in
+    let c = clear is_ok (Ok size) refl (numeral_rows n) (fitted room (numeral_of n)) refl e in
     let f = fits_from room (numeral_of n) size c.1 in
     (c.0, f.0, f.1)
 
-pub rows_to : (room : ℕ) (n : Decimal) → Clear (numeral_rows n) → length (numeral_of n) ≤ room → numeral_answer room n ≡ To (length (numeral_of n))
+pub rows_to : (room : ℕ) (n : Decimal) → Clear (numeral_rows n) → length (numeral_of n) ≤ room → numeral_answer room n ≡ Ok (length (numeral_of n))
 unfolding numeral_answer
 rows_to room n c l = through (numeral_rows n) (fitted room (numeral_of n)) c ∙ rw (le-ltb room (length (numeral_of n)) l)
 

@@ -2,18 +2,16 @@
 -- document 01, it is the number that was given, decimals included, and every number answer of the reader can be
 -- written: 24 bytes of room are enough, and no fewer are.
 -- Assumes nothing.
-use Rattle.std.specs.Prelude.{◌≡◌, refl, Bool, true, false, ◌&&◌, List, ℕ, ◌+◌, ◌^◌, ◌/◌, ◌≤◌, nat_abs, negsuc, length, take, drop, ltb, eqb}
+use Rattle.std.specs.Prelude.{◌≡◌, refl, Bool, true, false, ◌&&◌, List, ℕ, ◌+◌, ◌^◌, ◌/◌, ◌≤◌, nat_abs, negsuc, length, take, drop, ltb, eqb, Ok, Err, Result}
 use Rattle.std.proofs.Common.{sym, ap, ◌∙◌, one-mul, arith, le-ltb, ltb-true, ne_eqb}
 use Rattle.word.specs.Put.{put, take_put_end, drop_put_after}
 use Rattle.refusal.specs.declared.Rule.TheVariants.{NoRoom}
 use Rattle.refusal.specs.declared.Refusal.{Refusal}
-use Rattle.refusal.specs.declared.Written.TheVariants.{To, Refused}
 use Rattle.refusal.specs.Rows.{Clear}
 use Rattle.refusal.specs.Writing.{refuse}
 use Rattle.digits.specs.Value.{value, value_le, two_digits}
 use Rattle.digits.specs.Digits.{onto, digits, digits_few}
 use Rattle.decimal_parts.specs.declared.Decimal.{Decimal}
-use Rattle.decimal_parts.specs.declared.NumberAnswer.TheVariants.{Is}
 use Rattle.decimal_parts.specs.Grammar.{Parts, Writes, Short}
 use Rattle.decimal_parts.specs.Answer.{decimal_of}
 use Rattle.decimal.specs.Number.{number_in}
@@ -23,28 +21,28 @@ use Rattle.numeral_text.specs.NumeralText.{unless_zero, sign_text, point_text, p
 use Rattle.numeral.specs.Numeral.{raised, parts_for, numeral_of}
 use Rattle.numeral.specs.Numeral.{numeral_rows, numeral_answer, numeral_left}
 use Rattle.numeral.specs.Answers.{text_most, after_few}
-use Rattle.numeral.specs.Plain.{Plain, rows_from, rows_to, rows_short, parts_number, parts_write, raised_back}
+use Rattle.numeral.specs.Plain.{rows_from, rows_to, rows_short, parts_number, parts_write, raised_back}
 use Rattle.numeral.specs.Plain.{whole_back, far_of}
 
 -- ---- what is written is a number of document 01, and the one that was given
 
-rows_back : (n : Decimal) → Clear (numeral_rows n) → number_in (numeral_of n) ≡ Is n
+rows_back : (n : Decimal) → Clear (numeral_rows n) → number_in (numeral_of n) ≡ Ok n
 rows_back n c = (is_number (numeral_of n) n).1 (parts_for n, parts_write n, rows_short n c, parts_number n c.0)
 
-pub reads_back : (room : ℕ) (n : Decimal) (size : ℕ) → numeral_answer room n ≡ To size → number_in (numeral_of n) ≡ Is n
+pub reads_back : (room : ℕ) (n : Decimal) (size : ℕ) → numeral_answer room n ≡ Ok size → number_in (numeral_of n) ≡ Ok n
 reads_back room n size e = rows_back n (rows_from room n size e).0
 
 -- two answers with one text are one answer
-pub same_is : {n m : Decimal} → Is n ≡ Is m → n ≡ m
+pub same_is : {n m : Decimal} → ◌≡◌ {A = Result Decimal Refusal} (Ok n) (Ok m) → n ≡ m
 same_is e = cc
 
-pub one_text_one_number : (room rest : ℕ) (n m : Decimal) (size long : ℕ) → numeral_answer room n ≡ To size → numeral_answer rest m ≡ To long
+pub one_text_one_number : (room rest : ℕ) (n m : Decimal) (size long : ℕ) → numeral_answer room n ≡ Ok size → numeral_answer rest m ≡ Ok long
     → numeral_of n ≡ numeral_of m → n ≡ m
 one_text_one_number room rest n m size long a b e = same_is (sym (reads_back room n size a) ∙ ap number_in e ∙ reads_back rest m long b)
 
 -- ---- in the lent bytes: the text stands at their start, and what is past it stays; a refusal changes nothing
 
-pub text_there : (xs : List ℕ) (n : Decimal) (size : ℕ) → numeral_answer (length xs) n ≡ To size
+pub text_there : (xs : List ℕ) (n : Decimal) (size : ℕ) → numeral_answer (length xs) n ≡ Ok size
     → (take size (numeral_left xs n) ≡ numeral_of n) × (drop size (numeral_left xs n) ≡ drop size xs)
 unfolding numeral_left
 text_there xs n size e =
@@ -55,7 +53,7 @@ text_there xs n size e =
       drop_put_after size (numeral_of n) xs 0 (omega arith),
     )
 
-pub refused_stays : (xs : List ℕ) (n : Decimal) (r : Refusal) → numeral_answer (length xs) n ≡ Refused r → numeral_left xs n ≡ xs
+pub refused_stays : (xs : List ℕ) (n : Decimal) (r : Refusal) → numeral_answer (length xs) n ≡ Err r → numeral_left xs n ≡ xs
 unfolding numeral_left
 refused_stays xs n r e = rw e
 
@@ -69,7 +67,7 @@ sign_given true c = go (ltb 0 c) refl
     go true e = let l = ltb-true 0 c e in ne_eqb c 0 (omega arith)
     go false e = refl
 
-pub given_clear : (t : List ℕ) (n : Decimal) → number_in t ≡ Is n → Clear (numeral_rows n)
+pub given_clear : (t : List ℕ) (n : Decimal) → number_in t ≡ Ok n → Clear (numeral_rows n)
 unfolding parts_for decimal_of
 given_clear t n e =
     let w = (is_number t n).0 e in
@@ -96,8 +94,8 @@ given_clear t n e =
         let d = two_digits p.exponent s.after in
         rw (raised_back p t h, far_of p.down (value 0 p.exponent)) (after_few (value 0 p.exponent) (omega arith))
 
-pub given_written : (t : List ℕ) (n : Decimal) → number_in t ≡ Is n → (room : ℕ) → 24 ≤ room
-    → (numeral_answer room n ≡ To (length (numeral_of n))) × (number_in (numeral_of n) ≡ Is n)
+pub given_written : (t : List ℕ) (n : Decimal) → number_in t ≡ Ok n → (room : ℕ) → 24 ≤ room
+    → (numeral_answer room n ≡ Ok (length (numeral_of n))) × (number_in (numeral_of n) ≡ Ok n)
 unfolding numeral_of
 given_written t n e room h =
     let c = given_clear t n e in
@@ -109,12 +107,12 @@ given_written t n e room h =
 unfoldable pub longest : Decimal
 longest = record { minus = true; coefficient = 123456789012345678; power = negsuc 115; decimals = 17 }
 
-pub longest_written : numeral_answer 24 longest ≡ To 24
+pub longest_written : numeral_answer 24 longest ≡ Ok 24
 unfolding longest numeral_answer parts_for numeral_of spelling sign_text point_text power_text digits onto last_digits
 longest_written = refl
 
 -- an answer of the reader
-pub longest_given : number_in (numeral_of longest) ≡ Is longest
+pub longest_given : number_in (numeral_of longest) ≡ Ok longest
 longest_given = reads_back 24 longest 24 longest_written
 
 pub least_room : numeral_answer 23 longest ≡ refuse NoRoom 0

@@ -1,7 +1,7 @@
 // A number answer as text for a sheet, with its own decimals (document 02 §4, and rows 20, 21 and 30). Every refusal is
 // found before the first byte is written. Numeral has the definitions, Plain the same by the grammar, Returned that
 // what the reader gave is written and reads back; Leading and Answers have the laws. Stands on `numeral_room`,
-// `numeral_text`, `decimal`, `digits`, `word`.
+// `numeral_text`, `decimal_parts`, `refusal`, and on `decimal`, `digits`, `word` for laws alone.
 // The rules in words: docs/FORMAT.md, "Numbers in values".
 #![tactic(auto)]
 
@@ -11,54 +11,42 @@ ghost use Rattle.numeral.specs.Numeral.{raised, numeral_answer, numeral_left};
 
 use decimal_parts::Decimal;
 use numeral_text::Raised;
-use refusal::{Rule, Written};
+use refusal::{Refusal, Rule};
 
-// The power plus the count. By magnitudes, which cannot wrap: any two may be given.
+// The most decimals of 18 digits, as at least one stands before the point.
+const DECIMALS: u32 = 17;
+
+// The greatest number of 18 digits.
+const COEFFICIENT: u64 = 999999999999999999;
+
+// The greatest number of 2 digits.
+const FAR: u64 = 99;
+
+// The power plus the count: any two may be given, and their sum fits 64 bits.
 fn behind_e(power: i32, count: u32) -> Raised
     ensures { (result.down ≡ lt_z (raised power count) (pos 0)) × (result.far ≡ nat_abs (raised power count)) }
 {
-    let m = word::magnitude(power) as u64;
-    let n = count as u64;
-    if power < 0 {
-        if m <= n {
-            return Raised {
-                down: false,
-                far: n - m,
-            };
-        }
-        return Raised {
-            down: true,
-            far: m - n,
-        };
-    }
+    let e = i64::from(power) + i64::from(count);
     Raised {
-        down: false,
-        far: m + n,
+        down: e < 0,
+        far: e.unsigned_abs(),
     }
 }
 
 // The text of a number answer, at the start of the lent bytes.
-pub fn write(out: &mut [u8], n: Decimal) -> Written
+pub fn write(out: &mut [u8], n: Decimal) -> Result<usize, Refusal>
     ensures answer { result ≡ numeral_answer (length out.old) n }
     ensures left { out.new ≡ numeral_left out.old n }
 {
-    let minus = n.minus;
-    let c = n.coefficient;
-    let k = n.decimals;
-    if minus & (c == 0) {
-        return numeral_room::refused(Rule::NoNumber);
+    if n.minus & (n.coefficient == 0) {
+        return Err(refusal::of_file(Rule::NoNumber, 0));
     }
-    let many = 17 < k;
-    if many {
-        return numeral_room::refused(Rule::Digits);
+    if DECIMALS < n.decimals || COEFFICIENT < n.coefficient {
+        return Err(refusal::of_file(Rule::Digits, 0));
     }
-    if 999999999999999999 < c {
-        return numeral_room::refused(Rule::Digits);
+    let to = behind_e(n.power, n.decimals);
+    if FAR < to.far {
+        return Err(refusal::of_file(Rule::Digits, 0));
     }
-    let to = behind_e(n.power, k);
-    let distant = 99 < to.far;
-    if distant {
-        return numeral_room::refused(Rule::Digits);
-    }
-    numeral_room::put_fitting(out, minus, c, k, to)
+    numeral_room::put_fitting(out, n.minus, n.coefficient, n.decimals, to)
 }

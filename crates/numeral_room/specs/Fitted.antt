@@ -1,12 +1,11 @@
 -- A text against the room for it (document 02 §4): "30 no room".
 -- Assumes nothing.
-use Rattle.std.specs.Prelude.{List, ℕ, length, ltb}
+use Rattle.std.specs.Prelude.{List, ℕ, length, ltb, Result, Ok}
 use Rattle.refusal.specs.declared.Rule.TheVariants.{NoRoom}
-use Rattle.refusal.specs.declared.Written.{Written}
-use Rattle.refusal.specs.declared.Written.TheVariants.{To}
 use Rattle.refusal.specs.Rows.{pick}
 use Rattle.refusal.specs.Writing.{refuse}
+use Rattle.refusal.specs.declared.Refusal.{Refusal}
 
 -- 30, else the text's length
-abbrev pub fitted : ℕ → List ℕ → Written
-fitted room t = pick (ltb room (length t)) (refuse NoRoom 0) (To (length t))
+abbrev pub fitted : ℕ → List ℕ → Result ℕ Refusal
+fitted room t = pick (ltb room (length t)) (refuse NoRoom 0) (Ok (length t))

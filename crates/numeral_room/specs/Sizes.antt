@@ -1,11 +1,9 @@
 -- The sizes of a text's pieces, and the text against the room. Assumes nothing.
-use Rattle.std.specs.Prelude.{◌≡◌, refl, Bool, true, false, List, ℕ, zero, suc, ◌+◌, ◌≤◌, ◌<◌, length}
+use Rattle.std.specs.Prelude.{◌≡◌, refl, Bool, true, false, List, ℕ, zero, suc, ◌+◌, ◌≤◌, ◌<◌, length, Result, Ok}
 use Rattle.std.proofs.Common.{ap, arith, length-append, lt-ltb, le-ltb}
 use Rattle.word.specs.Put.{put}
 use Rattle.word.specs.Wrote.{Wrote}
 use Rattle.refusal.specs.declared.Rule.TheVariants.{NoRoom}
-use Rattle.refusal.specs.declared.Written.{Written}
-use Rattle.refusal.specs.declared.Written.TheVariants.{To}
 use Rattle.refusal.specs.Rows.{pick}
 use Rattle.refusal.specs.Writing.{refuse, on_written}
 use Rattle.digits.specs.Digits.{digits}
@@ -13,6 +11,7 @@ use Rattle.digits.specs.LastDigits.{last_digits, last_length}
 use Rattle.numeral_text.specs.NumeralText.{unless_zero, sign_text, point_text, power_text}
 use Rattle.numeral_text.specs.Stored.{point_shape, power_shape}
 use Rattle.numeral_room.specs.Fitted.{fitted}
+use Rattle.refusal.specs.declared.Refusal.{Refusal}
 
 -- ---- the sizes, as the code adds them up
 
@@ -43,15 +42,15 @@ power_size down far s k h (e, a) (f, b) =
 
 -- ---- row 30: the text against the room
 
-pub room_missing : (xs t : List ℕ) (size : ℕ) (r : Written) → size ≡ length t → length xs < size → r ≡ refuse NoRoom 0
+pub room_missing : (xs t : List ℕ) (size : ℕ) (r : Result ℕ Refusal) → size ≡ length t → length xs < size → r ≡ refuse NoRoom 0
     → (r ≡ fitted (length xs) t) × (xs ≡ on_written r (put xs 0 t) xs)
 room_missing xs t size r e h w =
     let l : length xs < length t = omega arith in
     rw (w, lt-ltb (length xs) (length t) l) (refl, refl)
 
 pub room_enough : (xs t : List ℕ) (size r : ℕ) (zs : List ℕ) → size ≡ length t → size ≤ length xs → Wrote xs 0 t r zs
-    → (To r ≡ fitted (length xs) t) × (zs ≡ put xs 0 t)
+    → (Ok r ≡ fitted (length xs) t) × (zs ≡ put xs 0 t)
 room_enough xs t size r zs e h (w, z) =
     let l : length t ≤ length xs = omega arith in
     let n : r ≡ length t = omega arith in
-    rw (le-ltb (length xs) (length t) l) (ap To n, z)
+    rw (le-ltb (length xs) (length t) l) (ap Ok n, z)

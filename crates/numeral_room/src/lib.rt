@@ -5,34 +5,24 @@
 
 ghost use Rattle.std.specs.Prelude.{◌≡◌, ◌+◌, ◌≤◌, length};
 ghost use Rattle.word.specs.Put.{put};
-ghost use Rattle.refusal.specs.Writing.{refuse, on_written};
+ghost use Rattle.refusal.specs.Writing.{on_written};
 ghost use Rattle.digits.specs.LastDigits.{last_digits};
 ghost use Rattle.numeral_text.specs.NumeralText.{unless_zero, parts_with, sign_text, point_text, power_text, spelling};
 ghost use Rattle.numeral_room.specs.Fitted.{fitted};
 
 use numeral_text::Raised;
-use refusal::{Rule, Written};
-
-// A row of this writing: the part is the file's, the place 0.
-pub fn refused(rule: Rule) -> Written
-    ensures { result ≡ refuse rule 0 }
-{
-    Written::Refused(refusal::of_file(rule, 0))
-}
+use refusal::{Refusal, Rule};
 
 fn sign_size(minus: bool) -> usize
     ensures { (result ≡ length (sign_text minus)) × (result ≤ 1) }
 {
-    if minus { 1 } else { 0 }
+    usize::from(minus)
 }
 
 fn point_size(c: u64, k: u32) -> usize
     ensures { (result ≡ length (point_text (last_digits k c))) × (result ≤ k + 1) }
 {
-    if k < 1 {
-        return 0;
-    }
-    k as usize + 1
+    if k < 1 { 0 } else { k as usize + 1 }
 }
 
 fn power_size(to: Raised) -> usize
@@ -53,7 +43,13 @@ fn text_size(minus: bool, c: u64, k: u32, to: Raised) -> usize
 }
 
 // Row 30, and the text at the start of the lent bytes where it is not met.
-pub fn put_fitting(out: &mut [u8], minus: bool, c: u64, k: u32, to: Raised) -> Written
+pub fn put_fitting(
+    out: &mut [u8],
+    minus: bool,
+    c: u64,
+    k: u32,
+    to: Raised,
+) -> Result<usize, Refusal>
     ensures answer { result ≡ fitted (length out.old)
         (spelling (parts_with minus c k to.down to.far)) }
     ensures left { out.new ≡ on_written result (put out.old 0
@@ -61,7 +57,7 @@ pub fn put_fitting(out: &mut [u8], minus: bool, c: u64, k: u32, to: Raised) -> W
 {
     let size = text_size(minus, c, k, to);
     if out.len() < size {
-        return refused(Rule::NoRoom);
+        return Err(refusal::of_file(Rule::NoRoom, 0));
     }
-    Written::To(numeral_text::put_text(out, minus, c, k, to))
+    Ok(numeral_text::put_text(out, minus, c, k, to))
 }

@@ -1,5 +1,5 @@
 -- What each step of the writer stores, and how long a text is. Assumes nothing.
-use Rattle.std.specs.Prelude.{◌≡◌, refl, Bool, true, false, List, [], ◌∷◌, ◌++◌, ℕ, zero, suc, ◌+◌, ◌-◌, ◌^◌, ◌/◌, ◌≤◌, ◌<◌, length, set}
+use Rattle.std.specs.Prelude.{◌≡◌, refl, Bool, true, false, List, [], ◌∷◌, ◌++◌, ℕ, zero, suc, ◌+◌, ◌≤◌, ◌<◌, length, set, ◌-◌, ◌/◌, ◌^◌}
 use Rattle.std.proofs.Common.{sym, ap, ◌∙◌, div-one, arith, length-set, length-append}
 use Rattle.word.specs.Put.{put}
 use Rattle.word.specs.Wrote.{Room, Wrote, joined, room_back}
@@ -22,7 +22,7 @@ pub sign_none : (xs : List ℕ) (at : ℕ) (m : Bool) → m ≡ false → Wrote 
 unfolding put sign_text
 sign_none xs at m e = rw e (omega arith, refl)
 
--- ---- what stands before the last k digits: a turn, and the end
+-- ---- what stands before the last k digits: a division by ten, and the last
 
 pub before_start : (c k : ℕ) → c / 10 ^ (k - 0) ≡ c / 10 ^ k
 before_start c k = let s : k - 0 ≡ k = omega arith in ap (λ (n : ℕ). c / 10 ^ n) s

@@ -15,15 +15,14 @@ pub struct Raised {
     pub far: u64,
 }
 
-// What stands before the last k digits.
+// What stands before the last k digits: nothing, where ten to the k is past 64 bits.
 pub fn before_last(c: u64, k: u32) -> u64
     ensures { result ≡ c / 10 ^ k }
 {
-    let mut left = c;
-    for _ in 0..k {
-        left /= 10;
+    match 10u64.checked_pow(k) {
+        Some(tens) => c / tens,
+        None => 0,
     }
-    left
 }
 
 fn put_sign(out: &mut [u8], at: usize, minus: bool) -> usize

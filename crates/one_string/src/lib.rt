@@ -12,7 +12,6 @@ ghost use Rattle.strings.specs.Strings.{judged_of, step_of};
 
 use chars::Kind;
 use refusal::{Part, Refusal, Rule};
-use strings::{Frame, Judged, Step};
 use text::Manner;
 
 // Whether v may be the value of the keyword k.
@@ -26,55 +25,50 @@ fn is_value(u: &[u8], k: &[u8], v: &[u8]) -> bool
     chars::all(Kind::Value, v)
 }
 
-// Rows 16 and 17 of what stands between the offset and the terminator; prev is the keyword before.
-fn judge(b: &[u8], u: &[u8], prev: &[u8]) -> Judged
+// Rows 16 and 17 of what stands between the offset and the terminator, a keyword and its value: how long the keyword is;
+// prev is the keyword before.
+fn judge(b: &[u8], u: &[u8], prev: &[u8]) -> Result<usize, Rule>
     requires { 0 < length u.now }
     ensures { result ≡ judged_of Manner.Strict u.now prev.now b.now }
 {
     let n = key_chars::key_run(b, Manner::Strict);
     if n == 0 {
-        return Judged::Wrong(Rule::Character);
+        return Err(Rule::Character);
     }
     let r = &b[n..];
     let g = chars::run(Kind::Blank, r);
     if (g == 0) & (0 < r.len()) {
-        return Judged::Wrong(Rule::Character);
+        return Err(Rule::Character);
     }
     let k = &b[..n];
     if !is_value(u, k, &r[g..]) {
-        return Judged::Wrong(Rule::Character);
+        return Err(Rule::Character);
     }
     if !key_order::rising(prev, k) {
-        return Judged::Wrong(Rule::KeywordOrder);
+        return Err(Rule::KeywordOrder);
     }
-    Judged::Keyword(n)
+    Ok(n)
 }
 
-// Rows 14 to 17 of the string that l starts with, which stands at place `at` of the file.
-pub fn step(l: &[u8], high: bool, t: &[u8], u: &[u8], whose: Part, prev: &[u8], at: usize) -> Step
+// Rows 14 to 17 of the string that l starts with, which stands at place `at` of the file: its size and its keyword's
+// length, none at the end of the list, or the refusal.
+pub fn step(
+    l: &[u8],
+    high: bool,
+    t: &[u8],
+    u: &[u8],
+    whose: Part,
+    prev: &[u8],
+    at: usize,
+) -> Result<Option<(usize, usize)>, Refusal>
     requires { 0 < length u.now }
     ensures { result ≡ step_of Manner.Strict high t.now u.now whose prev.now
         l.now at }
 {
-    let s = strings::framed(l, high, t, Manner::Strict);
-    match s {
-        Frame::End => Step::Done,
-        Frame::Broken(rule) => Step::Bad(Refusal {
-            rule,
-            part: whose,
-            place: at,
-        }),
-        Frame::Text(o) => {
-            let end = o - t.len();
-            let j = judge(&l[2..end], u, prev);
-            match j {
-                Judged::Keyword(n) => Step::Next(o, n),
-                Judged::Wrong(rule) => Step::Bad(Refusal {
-                    rule,
-                    part: whose,
-                    place: at,
-                }),
-            }
-        }
-    }
+    let Some(o) = refusal::placed(strings::framed(l, high, t, Manner::Strict), whose, at)? else {
+        return Ok(None);
+    };
+    let end = o - t.len();
+    let n = refusal::placed(judge(&l[2..end], u, prev), whose, at)?;
+    Ok(Some((o, n)))
 }

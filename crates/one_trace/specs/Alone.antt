@@ -2,23 +2,23 @@
 -- 8; 8 here means no multiple of 4, below 32+M, or p+32 past the end". xs is the lent buffer, n the length given beside
 -- it, f the image: the first n bytes.
 -- Assumes nothing.
-use Rattle.std.specs.Prelude.{Bool, not, List, [], ◌∷◌, ℕ, ◌+◌, ℤ, length, take}
+use Rattle.std.specs.Prelude.{Bool, not, List, [], ◌∷◌, ℕ, ◌+◌, ℤ, length, take, Result, Ok, Err}
 use Rattle.refusal.specs.declared.Rule.TheVariants.{Length, NoTrace}
 use Rattle.refusal.specs.declared.Part.TheVariants.{File}
-use Rattle.refusal.specs.declared.Verdict.{Verdict}
 use Rattle.refusal.specs.Verdicts.{asked}
 use Rattle.refusal.specs.FirstRow.{row, first_of}
 use Rattle.head_limits.specs.declared.Purpose.TheVariants.{Read}
 use Rattle.head_words.specs.declared.FileBlock.{FileBlock}
 use Rattle.head_words.specs.HeadWords.{high_first, room_of, count_of}
 use Rattle.head.specs.Head.{head_of}
-use Rattle.block.specs.declared.TraceAnswer.{TraceAnswer}
-use Rattle.block.specs.declared.TraceAnswer.TheVariants as trace
 use Rattle.block.specs.Block.{pointer_of, pointer_row, block_of, trace_block_of}
 use Rattle.block.specs.BlockLaws.{head_at}
 use Rattle.file_length.specs.FileLength.{bad_length}
 use Rattle.part_number.specs.PartNumber.{whose_of}
 use Rattle.reader.specs.Questions.{no_trace, on_trace, is_trace, trace_number, block_at}
+use Rattle.refusal.specs.declared.Refusal.{Refusal}
+use Rattle.block.specs.declared.TraceBlock.{TraceBlock}
+use Rattle.refusal.specs.Verdicts.{Verdict}
 
 -- ---- the checks in their order
 
@@ -40,15 +40,15 @@ unfoldable pub alone_of : List ℕ → ℕ → ℤ → Verdict
 alone_of xs n z = first_of (alone_checks xs n z)
 
 -- the first of them that is met, or else the block
-unfoldable pub block_alone : List ℕ → ℕ → ℤ → TraceAnswer
-block_alone xs n z = asked trace.Refused (alone_of xs n z) (trace.Is (block_at (take n xs) (trace_number z)))
+unfoldable pub block_alone : List ℕ → ℕ → ℤ → Result TraceBlock Refusal
+block_alone xs n z = asked Err (alone_of xs n z) (Ok (block_at (take n xs) (trace_number z)))
 
 -- ---- what the code answers behind rows 1 to 7, in the file block's own numbers
 
 -- 8 to 13
-unfoldable pub own_of : Bool → List ℕ → ℕ → ℕ → TraceAnswer
-own_of high f m k = asked trace.Refused (first_of (own_checks high f m k (pointer_of high f k))) (trace.Is (trace_block_of high f k))
+unfoldable pub own_of : Bool → List ℕ → ℕ → ℕ → Result TraceBlock Refusal
+own_of high f m k = asked Err (first_of (own_checks high f m k (pointer_of high f k))) (Ok (trace_block_of high f k))
 
 -- and 18 before them
-unfoldable pub named_of : List ℕ → FileBlock → ℤ → TraceAnswer
-named_of f x z = on_trace (whose_of z x.n) (trace.Refused no_trace) (λ k. own_of x.high f x.m k)
+unfoldable pub named_of : List ℕ → FileBlock → ℤ → Result TraceBlock Refusal
+named_of f x z = on_trace (whose_of z x.n) (Err no_trace) (λ k. own_of x.high f x.m k)

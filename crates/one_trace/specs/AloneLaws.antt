@@ -1,6 +1,6 @@
 -- One trace by itself: a law for each answer, and what an answered block has shown.
 -- Assumes nothing.
-use Rattle.std.specs.Prelude.{◌≡◌, refl, Bool, true, not, ℤ, pos, negsuc, length, take}
+use Rattle.std.specs.Prelude.{◌≡◌, refl, Bool, true, not, ℤ, pos, negsuc, length, take, Ok, Err}
 use Rattle.std.proofs.Math.Path.{sym, ap}
 use Rattle.std.proofs.Common.{◌∙◌, length-take-le, ltb-true}
 use Rattle.std.proofs.Math.Bool.{false}
@@ -9,23 +9,18 @@ use Prim.Native.Nat.{ℕ, ◌+◌, ◌≤◌, ◌<◌}
 use Rattle.std.proofs.lemmas.Bool.{not-false}
 use Rattle.word.specs.Tests.{never}
 use Rattle.refusal.specs.Rows.{pick}
-use Rattle.refusal.specs.Verdicts.{asked}
+use Rattle.refusal.specs.Verdicts.{asked, accepted}
 use Rattle.refusal.specs.FirstRow.{row, first_of, first_next, first_two, passed_met_none, asked_row, then_asked}
 use Rattle.refusal.specs.Table.{refusal}
 use Rattle.refusal.specs.declared.Part.TheVariants.{File}
 use Rattle.refusal.specs.declared.Refusal.{Refusal}
 use Rattle.refusal.specs.declared.Rule.TheVariants.{Length, NoTrace}
-use Rattle.refusal.specs.declared.Verdict.{Verdict}
-use Rattle.refusal.specs.declared.Verdict.TheVariants.{Accepted, Refused}
 use Rattle.head_limits.specs.declared.Purpose.TheVariants.{Read}
 use Rattle.head_words.specs.declared.FileBlock.{FileBlock}
-use Rattle.head.specs.declared.FileAnswer.TheVariants as file
 use Rattle.head_words.specs.HeadWords.{high_first, room_of, count_of, file_block_of}
 use Rattle.head.specs.Head.{maximum, head_of, head_answer}
 use Rattle.head.specs.HeadLaws.{Headed, headed}
 use Rattle.block.specs.declared.TraceBlock.{TraceBlock}
-use Rattle.block.specs.declared.TraceAnswer.{TraceAnswer}
-use Rattle.block.specs.declared.TraceAnswer.TheVariants as trace
 use Rattle.block.specs.Block.{pointer_of, pointer_row, block_of, block_answer, trace_block_of}
 use Rattle.block.specs.BlockLaws.{head_at, own_block, Pointed, Blocked}
 use Rattle.trace.specs.TraceLaws.{block_told, block_read}
@@ -40,7 +35,7 @@ use Rattle.one_trace.specs.Alone.{own_checks, alone_checks, alone_of, block_alon
 
 -- ---- the whole
 module _ (xs : List ℕ) (n : ℕ) (z : ℤ) where
-  pub alone_length : bad_length (length xs) n ≡ true → trace.Refused (refusal Length File 0) ≡ block_alone xs n z
+  pub alone_length : bad_length (length xs) n ≡ true → Err (refusal Length File 0) ≡ block_alone xs n z
   unfolding block_alone alone_of first_of
   alone_length h = rw h
 
@@ -65,7 +60,7 @@ named_trace : (z : ℤ) (n : ℕ) → is_trace z n ≡ true → (z ≡ pos (trac
 named_trace (pos k) n h = (refl, ltb-true k n h)
 named_trace (negsuc k) n h = never h
 
-pub alone_passed : (xs : List ℕ) (n : ℕ) (z : ℤ) → alone_of xs n z ≡ Accepted → Alone xs n z
+pub alone_passed : (xs : List ℕ) (n : ℕ) (z : ℤ) → alone_of xs n z ≡ accepted → Alone xs n z
 unfolding alone_of
 alone_passed xs n z e =
     let f : List ℕ = take n xs in
@@ -86,11 +81,11 @@ alone_passed xs n z e =
     }
 
 -- ---- what an answer tells of them
-pub alone_read : (xs : List ℕ) (n : ℕ) (z : ℤ) (x : TraceBlock) → block_alone xs n z ≡ trace.Is x
-    → (alone_of xs n z ≡ Accepted) × (x ≡ block_at (take n xs) (trace_number z))
+pub alone_read : (xs : List ℕ) (n : ℕ) (z : ℤ) (x : TraceBlock) → block_alone xs n z ≡ Ok x
+    → (alone_of xs n z ≡ accepted) × (x ≡ block_at (take n xs) (trace_number z))
 unfolding block_alone
 alone_read xs n z x e = block_read (alone_of xs n z) (block_at (take n xs) (trace_number z)) x e
 
-pub alone_refused : (xs : List ℕ) (n : ℕ) (z : ℤ) (r : Refusal) → block_alone xs n z ≡ trace.Refused r → alone_of xs n z ≡ Refused r
+pub alone_refused : (xs : List ℕ) (n : ℕ) (z : ℤ) (r : Refusal) → block_alone xs n z ≡ Err r → alone_of xs n z ≡ Err r
 unfolding block_alone
 alone_refused xs n z r e = block_told (alone_of xs n z) (block_at (take n xs) (trace_number z)) r e

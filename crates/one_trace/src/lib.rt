@@ -8,63 +8,52 @@
 ghost use Rattle.std.specs.Prelude.{◌≡◌, ◌+◌, ◌*◌, ◌≤◌, ◌<◌, length};
 ghost use Rattle.one_trace.specs.Alone.{own_of, named_of, block_alone};
 
-use block::TraceAnswer;
-use head::FileAnswer;
+use block::TraceBlock;
 use head_limits::Purpose;
 use head_words::FileBlock;
-use part_number::Whose;
-use refusal::{Rule, Verdict};
+use refusal::{Part, Refusal, Rule};
 
 // An answer, handed on arm by arm: a copy of the whole would be one of single bytes.
-fn told(a: TraceAnswer) -> TraceAnswer
+fn told(a: Result<TraceBlock, Refusal>) -> Result<TraceBlock, Refusal>
     ensures { result ≡ a }
 {
     match a {
-        TraceAnswer::Refused(r) => TraceAnswer::Refused(r),
-        TraceAnswer::Is(x) => TraceAnswer::Is(x),
+        Err(r) => Err(r),
+        Ok(x) => Ok(x),
     }
 }
 
 // Rows 8 to 13 of the trace k of an image whose pointer room has m bytes; and its block.
-fn own(f: &[u8], high: bool, m: usize, k: u16) -> TraceAnswer
+fn own(f: &[u8], high: bool, m: usize, k: u16) -> Result<TraceBlock, Refusal>
     requires { (36 + 4 * k ≤ length f.now) × (32 + m ≤ length f.now) }
     ensures { result ≡ own_of high f.now m k }
 {
     let p = block::pointer(f, high, k);
-    let row = block::pointer_row(f.len(), k, 32 + m, p);
-    match row {
-        Verdict::Refused(r) => TraceAnswer::Refused(r),
-        Verdict::Accepted => {
-            let e = p + 32;
-            told(block::block_rows(&f[p..e], high, f.len(), k, p))
-        }
-    }
+    block::pointer_row(f.len(), k, 32 + m, p)?;
+    let e = p + 32;
+    told(block::block_rows(&f[p..e], high, f.len(), k, p))
 }
 
 // Row 18, then those of the trace that is asked for. x is the file block.
-fn named(f: &[u8], x: FileBlock, trace: i32) -> TraceAnswer
+fn named(f: &[u8], x: FileBlock, trace: i32) -> Result<TraceBlock, Refusal>
     requires { (4 * x.n ≤ x.m) × (32 + x.m ≤ length f.now) × (x.n < 65536) }
     ensures { result ≡ named_of f.now x trace }
 {
-    let w = part_number::named(trace, x.n as u16);
-    match w {
-        Whose::One(k) => own(f, x.high, x.m, k),
-        Whose::Whole => TraceAnswer::Refused(reader::no_trace()),
-        Whose::Nobody => TraceAnswer::Refused(reader::no_trace()),
+    match part_number::named(trace, x.n as u16) {
+        Some(Part::Trace(k)) => own(f, x.high, x.m, k),
+        Some(Part::File) => Err(reader::no_trace()),
+        None => Err(reader::no_trace()),
     }
 }
 
 // The block of a trace; -1, the file, is none.
-pub fn block(buffer: &[u8], n: usize, trace: i32) -> TraceAnswer
+pub fn block(buffer: &[u8], n: usize, trace: i32) -> Result<TraceBlock, Refusal>
     ensures { result ≡ block_alone buffer.now n trace }
 {
     if file_length::is_bad_length(buffer.len(), n) {
-        return TraceAnswer::Refused(refusal::of_file(Rule::Length, 0));
+        return Err(refusal::of_file(Rule::Length, 0));
     }
     let f = &buffer[..n];
-    let top = head::head(&f[..32], f.len(), Purpose::Read);
-    match top {
-        FileAnswer::Refused(r) => TraceAnswer::Refused(r),
-        FileAnswer::Is(x) => named(f, x, trace),
-    }
+    let x = head::head(&f[..32], f.len(), Purpose::Read)?;
+    named(f, x, trace)
 }

@@ -1,9 +1,9 @@
 -- What each row of an addition before its samples has shown, and what it leaves.
 -- Assumes nothing.
-use Rattle.std.specs.Prelude.{◌≡◌, refl, Bool, true, false, List, ℕ, ◌+◌, ◌*◌, ◌≤◌, ◌<◌, length, take, eqb}
+use Rattle.std.specs.Prelude.{◌≡◌, refl, Bool, true, false, List, ℕ, ◌+◌, ◌*◌, ◌≤◌, ◌<◌, length, take, eqb, Result, Ok, Err, Option}
 use Rattle.std.proofs.Common.{sym, ◌∙◌, arith, length-take-le}
 use Rattle.std.proofs.Math.Path.{ap}
-use borrow.Author.Tests.{lt-ltb, le-ltb, ltb-false, eqb-false}
+use borrow.Author.Tests.{lt-ltb, le-ltb, eqb-false}
 use Rattle.word.specs.Part.{part}
 use Rattle.word.specs.Word.{word_at}
 use Rattle.word.specs.Bytes.{Bytes}
@@ -11,17 +11,13 @@ use Rattle.word.specs.WordLaws.{word_small}
 use Rattle.refusal.specs.declared.Refusal.{Refusal}
 use Rattle.refusal.specs.declared.Rule.TheVariants.{Length, NoSlot, SheetChannel}
 use Rattle.refusal.specs.declared.Part.TheVariants.{File}
-use Rattle.refusal.specs.declared.Verdict.{Verdict}
-use Rattle.refusal.specs.declared.Verdict.TheVariants as verdict
 use Rattle.refusal.specs.Table.{refusal}
 use Rattle.refusal.specs.Rows.{pick}
-use Rattle.refusal.specs.Verdicts.{asked, refused_not}
+use Rattle.refusal.specs.Verdicts as verdict
+use Rattle.refusal.specs.Verdicts.{asked, refused_not, Verdict}
 use Rattle.text.specs.declared.Manner.TheVariants.{Strict}
-use Rattle.strings.specs.declared.Found.{Found}
 use Rattle.strings.specs.Strings.{places_of, find_of, found}
 use Rattle.channel.specs.Channel.{channel_number}
-use Rattle.sheet.specs.declared.Measured.{Measured}
-use Rattle.sheet.specs.declared.Measured.TheVariants as measured
 use Rattle.sheet.specs.Area.{measured_of}
 use Rattle.sheet_channel.specs.SheetChannel.{bad_sheet}
 use Rattle.head_limits.specs.declared.Purpose.{Purpose}
@@ -36,7 +32,8 @@ use Rattle.trace.specs.Trace.{channel_at}
 use Rattle.image.specs.Image.{with_channel, image_of, bad_length, check_of}
 use Rattle.image.specs.ImageLaws.{long_enough}
 use Rattle.image.specs.Accepted.{image_headed, image_traced, traced_places}
-use Rattle.opening.specs.Opening.{no_slot, wrong_channel, with_row, taken_of, area_answer}
+use Rattle.opening.specs.Opening.{wrong_channel, taken_of, area_answer}
+use Rattle.strings.specs.declared.Place.{Place}
 
 -- ---- what each step has shown
 
@@ -46,22 +43,22 @@ unfolding room_of
 room_small f by = word_small 2 (high_first f) f 4 by
 
 -- row 1 and rows 2 to 7
-pub placed : (purpose : Purpose) (xs : List ℕ) (n : ℕ) → check_of Strict purpose xs n ≡ verdict.Accepted
-    → ((32 ≤ n) × (n ≤ maximum) × (n ≤ length xs)) × Headed purpose (take n xs) × (image_of Strict purpose (take n xs) ≡ verdict.Accepted)
+pub placed : (purpose : Purpose) (xs : List ℕ) (n : ℕ) → check_of Strict purpose xs n ≡ verdict.accepted
+    → ((32 ≤ n) × (n ≤ maximum) × (n ≤ length xs)) × Headed purpose (take n xs) × (image_of Strict purpose (take n xs) ≡ verdict.accepted)
 unfolding check_of
 placed purpose xs n e = go (bad_length (length xs) n) refl e
   where
-    go : (w : Bool) → bad_length (length xs) n ≡ w → pick w (refused Length 0) (image_of Strict purpose (take n xs)) ≡ verdict.Accepted
-        → ((32 ≤ n) × (n ≤ maximum) × (n ≤ length xs)) × Headed purpose (take n xs) × (image_of Strict purpose (take n xs) ≡ verdict.Accepted)
+    go : (w : Bool) → bad_length (length xs) n ≡ w → pick w (refused Length 0) (image_of Strict purpose (take n xs)) ≡ verdict.accepted
+        → ((32 ≤ n) × (n ≤ maximum) × (n ≤ length xs)) × Headed purpose (take n xs) × (image_of Strict purpose (take n xs) ≡ verdict.accepted)
     go true q h = absurd (refused_not _ h)
     go false q h = (long_enough (length xs) n q, image_headed Strict purpose (take n xs) h, h)
 
 -- rows 1 to 17 and 34, 24 to 27 and 35
 pub record Opened (xs : List ℕ) (n : ℕ) (sheet : List ℕ) (size : ℕ) : Type 0 where
-  pub accepted : check_of Strict Grow xs n ≡ verdict.Accepted
+  pub accepted : check_of Strict Grow xs n ≡ verdict.accepted
   pub most : n ≤ maximum
   pub slot : 4 * count_of (take n xs) + 4 ≤ room_of (take n xs)
-  pub measured : measured_of (string_end (take n xs)) (line_end (take n xs)) sheet ≡ measured.Size size
+  pub measured : measured_of (string_end (take n xs)) (line_end (take n xs)) sheet ≡ Ok size
   pub channel : wrong_channel (take n xs) sheet ≡ false
 
 -- ---- rows 1 to 17, 34 and 24 as the code tests them; b is the file block that it read
@@ -74,9 +71,9 @@ pub record Checked (xs : List ℕ) (n : ℕ) : Type 0 where
   pub room : 32 + room_of (take n xs) ≤ n
   pub strings : good_terminator (take n xs) 8 ≡ true
   pub lines : good_terminator (take n xs) 11 ≡ true
-  pub image : image_of Strict Grow (take n xs) ≡ verdict.Accepted
+  pub image : image_of Strict Grow (take n xs) ≡ verdict.accepted
 
-pub accepted : (xs : List ℕ) (n : ℕ) {v : Verdict} → v ≡ check_of Strict Grow xs n → v ≡ verdict.Accepted → Checked xs n
+pub accepted : (xs : List ℕ) (n : ℕ) {v : Verdict} → v ≡ check_of Strict Grow xs n → v ≡ verdict.accepted → Checked xs n
 accepted xs n e v =
     let p = placed Grow xs n (sym e ∙ v) in
     let l = p.0 in
@@ -95,12 +92,12 @@ accepted xs n e v =
     }
 
 module _ (xs : List ℕ) (n : ℕ) (sheet : List ℕ) {v : Verdict} (e : v ≡ check_of Strict Grow xs n) where
-  pub opened_bad : {r : Refusal} → v ≡ verdict.Refused r → measured.Refused r ≡ area_answer xs n sheet
+  pub opened_bad : {r : Refusal} → v ≡ Err r → Err r ≡ area_answer xs n sheet
   unfolding area_answer
   opened_bad h = rw (← e, h)
 
-  module _ (a : v ≡ verdict.Accepted) {b : FileBlock} (read : b ≡ file_block_of (take n xs)) where
-    pub opened_full : b.m < 4 * b.n + 4 → measured.Refused (refusal NoSlot File 0) ≡ area_answer xs n sheet
+  module _ (a : v ≡ verdict.accepted) {b : FileBlock} (read : b ≡ file_block_of (take n xs)) where
+    pub opened_full : b.m < 4 * b.n + 4 → Err (refusal NoSlot File 0) ≡ area_answer xs n sheet
     unfolding file_block_of area_answer
     opened_full h =
         let p : b.m ≡ room_of (take n xs) = ap (λ (k : FileBlock). k.m) read in
@@ -116,17 +113,17 @@ module _ (xs : List ℕ) (n : ℕ) (sheet : List ℕ) {v : Verdict} (e : v ≡ c
 
 -- ---- rows 25 to 27 and 35 of an image f that was accepted
 
-module _ (f sheet : List ℕ) {m : Measured} (e : m ≡ measured_of (string_end f) (line_end f) sheet) where
-  pub taken_bad : {r : Refusal} → m ≡ measured.Refused r → measured.Refused r ≡ taken_of f sheet
+module _ (f sheet : List ℕ) {m : Result ℕ Refusal} (e : m ≡ measured_of (string_end f) (line_end f) sheet) where
+  pub taken_bad : {r : Refusal} → m ≡ Err r → Err r ≡ taken_of f sheet
   unfolding taken_of
   taken_bad h = rw (← e, h)
 
-  module _ {b : ℕ} (h : m ≡ measured.Size b) where
-    pub taken_wrong : wrong_channel f sheet ≡ true → measured.Refused (refusal SheetChannel File 0) ≡ taken_of f sheet
+  module _ {b : ℕ} (h : m ≡ Ok b) where
+    pub taken_wrong : wrong_channel f sheet ≡ true → Err (refusal SheetChannel File 0) ≡ taken_of f sheet
     unfolding taken_of
     taken_wrong w = rw (← e, h, w)
 
-    pub taken_size : wrong_channel f sheet ≡ false → measured.Size b ≡ taken_of f sheet
+    pub taken_size : wrong_channel f sheet ≡ false → Ok b ≡ taken_of f sheet
     unfolding taken_of
     taken_size w = rw (← e, h, w)
 
@@ -150,7 +147,7 @@ pub record Image (f : List ℕ) : Type 0 where
   pub strings : good_terminator f 8 ≡ true
   pub lines : good_terminator f 11 ≡ true
 
-pub image_shown : (f : List ℕ) → image_of Strict Grow f ≡ verdict.Accepted → Image f
+pub image_shown : (f : List ℕ) → image_of Strict Grow f ≡ verdict.accepted → Image f
 image_shown f ok =
     let h = image_headed Strict Grow f ok in
     let r : 32 + room_of f ≤ length f = h.fits in
@@ -161,14 +158,14 @@ pub record First (high : Bool) (f : List ℕ) : Type 0 where
   pub least : 32 ≤ word_at 2 high f (pointer_of high f 0 + 2)
   pub fits : pointer_of high f 0 + word_at 2 high f (pointer_of high f 0 + 2) ≤ length f
 
-pub first_lies : (f : List ℕ) {high : Bool} → image_of Strict Grow f ≡ verdict.Accepted → 0 < count_of f → high ≡ high_first f → First high f
+pub first_lies : (f : List ℕ) {high : Bool} → image_of Strict Grow f ≡ verdict.accepted → 0 < count_of f → high ≡ high_first f → First high f
 unfolding block_size_of
 first_lies f ok some e =
     let t = traced_places Strict f 0 (image_traced Strict Grow f ok 0 some) in
     rw e (record { block = t.0.fits; least = t.1.least; fits = t.1.fits })
 
 -- what was found in its strings is its channel number
-pub first_channel : (f : List ℕ) {high : Bool} {t : List ℕ} {p w : ℕ} {s : Found} → high ≡ high_first f → t ≡ string_end f → p ≡ pointer_of high f 0
+pub first_channel : (f : List ℕ) {high : Bool} {t : List ℕ} {p w : ℕ} {s : Option Place} → high ≡ high_first f → t ≡ string_end f → p ≡ pointer_of high f 0
     → w ≡ word_at 2 high f (p + 2) → s ≡ find_of Strict f (places_of Strict high t (part (p + 32) (p + w) f) (p + 32)) channel_number
     → found s ≡ with_channel Strict (high_first f) (string_end f) f
 unfolding channel_at block_size_of

@@ -6,27 +6,17 @@
 ghost use Rattle.std.specs.Prelude.{◌≡◌};
 ghost use Rattle.part_number.specs.PartNumber.{whose_of};
 
-// Whom a part number names.
-#[derive(Clone, Copy)]
-pub enum Whose {
-    Whole,
-    One(u16),
-    Nobody,
-}
+use refusal::Part;
 
 // Whom a part number names among n traces: -1 the file, 0 to n-1 a trace.
-pub fn named(part: i32, n: u16) -> Whose
+pub fn named(part: i32, n: u16) -> Option<Part>
     ensures { result ≡ whose_of part n }
 {
     if part == -1 {
-        return Whose::Whole;
+        return Some(Part::File);
     }
-    if part < 0 {
-        return Whose::Nobody;
-    }
-    let k = part as u32;
-    if k < n as u32 {
-        return Whose::One(k as u16);
-    }
-    Whose::Nobody
+    let Ok(k) = u16::try_from(part) else {
+        return None;
+    };
+    (k < n).then_some(Part::Trace(k))
 }

@@ -1,12 +1,11 @@
 -- The strings of a part in one row of numbers: "four numbers a string", those of its place: where its keyword starts and
 -- how long it is, where its value starts and how long it is. A law for each turn of the loop that fills the row.
 -- Assumes nothing.
-use Rattle.std.specs.Prelude.{◌≡◌, refl, List, [], ◌∷◌, ◌++◌, ℕ, zero, suc, ◌+◌, ◌-◌, ◌*◌, ◌≤◌, length}
+use Rattle.std.specs.Prelude.{◌≡◌, refl, List, [], ◌∷◌, ◌++◌, ℕ, zero, suc, ◌+◌, ◌-◌, ◌*◌, ◌≤◌, length, Some}
 use Rattle.std.proofs.Common.{sym, ap, ◌∙◌, append-nil, arith, length-append, drop-drop}
 use Rattle.word.specs.Part.{part}
 use Rattle.word.specs.Put.{put, put_none, put_append, put_over}
 use Rattle.strings.specs.declared.Place.{Place}
-use Rattle.strings.specs.declared.Found.TheVariants.{Is}
 use Rattle.strings.specs.Strings.{nth_of}
 
 abbrev pub four_of : Place → List ℕ
@@ -41,7 +40,7 @@ numbers_all ss row e =
     ∙ append-nil (numbers_of ss)
 
 -- the i-th four numbers of the row are those of the i-th string
-pub numbers_nth : (ss : List Place) (i : ℕ) (s : Place) → nth_of ss i ≡ Is s → part (4 * i) (4 * i + 4) (numbers_of ss) ≡ four_of s
+pub numbers_nth : (ss : List Place) (i : ℕ) (s : Place) → nth_of ss i ≡ Some s → part (4 * i) (4 * i + 4) (numbers_of ss) ≡ four_of s
 unfolding numbers_of nth_of
 numbers_nth [] i s h = let z : ◌≡◌ {A = ℕ} 0 1 = cc in absurd (omega arith)
 numbers_nth (r ∷ rs) zero s h = let e : r ≡ s = cc in rw e

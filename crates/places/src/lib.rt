@@ -11,7 +11,7 @@ ghost use Rattle.word.specs.Put.{put};
 ghost use Rattle.strings.specs.Strings.{places_of, PlaceIn};
 ghost use Rattle.places.specs.Numbers.{four_of, numbers_of};
 
-use strings::{Entry, Place};
+use strings::Place;
 use text::Manner;
 
 // The four numbers of a string, from the j-th of the row on. e is the area's end.
@@ -37,16 +37,11 @@ pub fn fill(f: &[u8], a: usize, e: usize, high: bool, t: &[u8], how: Manner, row
     let mut at = a;
     let mut j: usize = 0;
     while at < e {
-        let s = string_entry::entry_at(&f[at..e], high, t, at, how);
-        match s {
-            Entry::Stop => {
-                return;
-            }
-            Entry::At(p, o) => {
-                write(row, j, p, e);
-                j += 4;
-                at += o;
-            }
-        }
+        let Some((p, o)) = string_entry::entry_at(&f[at..e], high, t, at, how) else {
+            return;
+        };
+        write(row, j, p, e);
+        j += 4;
+        at += o;
     }
 }

@@ -1,9 +1,7 @@
 -- The answer of `listing` as a host takes it: no listing has the greatest number of bytes.
 -- Assumes nothing.
-use Rattle.std.specs.Prelude.{ℕ}
-use Rattle.listing.specs.declared.Listed.{Listed}
-use Rattle.listing.specs.declared.Listed.TheVariants.{To, Full}
+use Rattle.std.specs.Prelude.{ℕ, Option, Some, None}
 
-abbrev pub length_told : Listed → ℕ
-length_told (To n) = n
-length_told Full = 18446744073709551615
+abbrev pub length_told : Option ℕ → ℕ
+length_told (Some n) = n
+length_told None = 18446744073709551615

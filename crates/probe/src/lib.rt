@@ -6,16 +6,11 @@ ghost use Rattle.std.specs.Prelude.{◌≡◌, length};
 ghost use Rattle.listing.specs.Listing.{list_answer, list_left, program_answer, program_left};
 ghost use Rattle.probe.specs.Listed.{length_told};
 
-use listing::Listed;
-
 // An answer as a host takes it: no enum crosses to it by value.
-fn told(answer: Listed) -> usize
+fn told(answer: Option<usize>) -> usize
     ensures { result ≡ length_told answer }
 {
-    match answer {
-        Listed::To(n) => n,
-        Listed::Full => 18446744073709551615,
-    }
+    answer.unwrap_or(usize::MAX)
 }
 
 // How many bytes the listing of a file has, stored from the start of the row; or the greatest number, which no listing

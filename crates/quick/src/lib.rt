@@ -13,13 +13,19 @@ ghost use Rattle.until.specs.Until.{look_of};
 ghost use Rattle.quick.specs.Quick.{walk_between, quick_walk, told_by, quick_find, quick_keyword, quick_value};
 ghost use Rattle.quick.specs.Quick.{quick_span};
 
-use block::TraceAnswer;
-use reader::{KeywordAnswer, StringAnswer};
-use refusal::Part;
+use refusal::{Part, Refusal};
+use strings::Place;
 use until::{Ask, Walked};
 
 // The walk along the strings of the trace k of an image, which stand from a to e.
-pub fn between(f: &[u8], a: usize, e: usize, k: u16, ask: Ask, key: &[u8]) -> Walked
+pub fn between(
+    f: &[u8],
+    a: usize,
+    e: usize,
+    k: u16,
+    ask: Ask,
+    key: &[u8],
+) -> Result<Walked, Refusal>
     requires { (a ≤ e) × (e ≤ length f.now) × (32 ≤ length f.now) × (good_terminator f.now 8 ≡ true)
         × (good_terminator f.now 11 ≡ true) }
     ensures { result ≡ walk_between (look_of ask key.now) f.now k a e }
@@ -38,47 +44,36 @@ pub fn between(f: &[u8], a: usize, e: usize, k: u16, ask: Ask, key: &[u8]) -> Wa
 }
 
 // The rows before the strings, then the walk. -1, the file, is no trace.
-pub fn walk(buffer: &[u8], n: usize, trace: i32, ask: Ask, key: &[u8]) -> Walked
+pub fn walk(buffer: &[u8], n: usize, trace: i32, ask: Ask, key: &[u8]) -> Result<Walked, Refusal>
     ensures { result ≡ quick_walk (look_of ask key.now) buffer.now n trace }
 {
-    let b = one_trace::block(buffer, n, trace);
-    match b {
-        TraceAnswer::Refused(r) => Walked::Bad(r),
-        TraceAnswer::Is(x) => {
-            let k = (trace as u32) as u16;
-            between(&buffer[..n], x.p + 32, x.p + x.b, k, ask, key)
-        }
-    }
+    let x = one_trace::block(buffer, n, trace)?;
+    let k = (trace as u32) as u16;
+    between(&buffer[..n], x.p + 32, x.p + x.b, k, ask, key)
 }
 
 // Where a walk ended, as an answer.
-pub fn told(w: Walked) -> StringAnswer
+pub fn told(w: Result<Walked, Refusal>) -> Result<Option<Place>, Refusal>
     ensures { result ≡ told_by w }
 {
-    match w {
-        Walked::At(p) => StringAnswer::There(p),
-        Walked::Over(_) => StringAnswer::Absent,
-        Walked::Bad(r) => StringAnswer::Refused(r),
+    match w? {
+        Walked::At(p) => Ok(Some(p)),
+        Walked::Over(_) => Ok(None),
     }
 }
 
 // The string of a trace with a keyword. Any bytes may be asked for.
-pub fn find(buffer: &[u8], n: usize, trace: i32, key: &[u8]) -> StringAnswer
+pub fn find(buffer: &[u8], n: usize, trace: i32, key: &[u8]) -> Result<Option<Place>, Refusal>
     ensures { result ≡ quick_find buffer.now n trace key.now }
 {
     told(walk(buffer, n, trace, Ask::Keyword, key))
 }
 
 // Whether the keyword is there: one of the two calls.
-pub fn keyword(buffer: &[u8], n: usize, trace: i32, key: &[u8]) -> KeywordAnswer
+pub fn keyword(buffer: &[u8], n: usize, trace: i32, key: &[u8]) -> Result<bool, Refusal>
     ensures { result ≡ quick_keyword buffer.now n trace key.now }
 {
-    let s = find(buffer, n, trace, key);
-    match s {
-        StringAnswer::There(_) => KeywordAnswer::Yes,
-        StringAnswer::Absent => KeywordAnswer::No,
-        StringAnswer::Refused(r) => KeywordAnswer::Refused(r),
-    }
+    Ok(find(buffer, n, trace, key)?.is_some())
 }
 
 // Its value, as the caller's own bytes; for a no or a refusal the empty part at the start: the other one.

@@ -6,29 +6,21 @@
 ghost use Rattle.std.specs.Prelude.{◌≡◌, length};
 ghost use Rattle.quick.specs.Quick.{quick_strings, quick_strings_left};
 
-use block::TraceAnswer;
-use refusal::Verdict;
+use refusal::Refusal;
 use text::Manner;
 use until::{Ask, Walked};
 
 // All its strings, into a row of four numbers each.
-pub fn strings(buffer: &[u8], n: usize, trace: i32, row: &mut [usize]) -> Verdict
+pub fn strings(buffer: &[u8], n: usize, trace: i32, row: &mut [usize]) -> Result<(), Refusal>
     ensures answer { result ≡ quick_strings buffer.now n trace (length row.old) }
     ensures row { row.new ≡ quick_strings_left buffer.now n trace row.old }
 {
-    let b = one_trace::block(buffer, n, trace);
-    match b {
-        TraceAnswer::Refused(r) => Verdict::Refused(r),
-        TraceAnswer::Is(x) => {
-            let f = &buffer[..n];
-            let a = x.p + 32;
-            let e = x.p + x.b;
-            let w = quick::between(f, a, e, (trace as u32) as u16, Ask::All, &f[..0]);
-            match w {
-                Walked::Over(c) => string_rows::fill(f, a, e, c, Manner::Strict, row),
-                Walked::Bad(r) => Verdict::Refused(r),
-                Walked::At(_) => Verdict::Accepted, // where all are counted, no walk ends so
-            }
-        }
+    let x = one_trace::block(buffer, n, trace)?;
+    let f = &buffer[..n];
+    let a = x.p + 32;
+    let e = x.p + x.b;
+    match quick::between(f, a, e, (trace as u32) as u16, Ask::All, &f[..0])? {
+        Walked::Over(c) => string_rows::fill(f, a, e, c, Manner::Strict, row),
+        Walked::At(_) => Ok(()), // where all are counted, no walk ends so
     }
 }

@@ -7,23 +7,25 @@
 ghost use Rattle.std.specs.Prelude.{◌≡◌, length};
 ghost use Rattle.quick.specs.Quick.{quick_integers, quick_integers_left, quick_bits, quick_patterns_left, quick_classes_left};
 
-use block::TraceAnswer;
-use refusal::Verdict;
+use refusal::Refusal;
 
 // The samples of a trace of code 1 to 3, into a row of S numbers.
-pub fn integers(buffer: &[u8], n: usize, trace: i32, row: &mut [i32]) -> Verdict
+pub fn integers(buffer: &[u8], n: usize, trace: i32, row: &mut [i32]) -> Result<(), Refusal>
     ensures answer { result ≡ quick_integers buffer.now n trace (length row.old) }
     ensures row { row.new ≡ quick_integers_left buffer.now n trace row.old }
 {
-    let b = one_trace::block(buffer, n, trace);
-    match b {
-        TraceAnswer::Refused(r) => Verdict::Refused(r),
-        TraceAnswer::Is(t) => sample_rows::integers(&buffer[..n], t, row),
-    }
+    let t = one_trace::block(buffer, n, trace)?;
+    sample_rows::integers(&buffer[..n], t, row)
 }
 
 // The bit patterns of a trace of code 4 or 5 and their classes, into two rows of S elements.
-pub fn bits(buffer: &[u8], n: usize, trace: i32, row: &mut [u64], classes: &mut [u8]) -> Verdict
+pub fn bits(
+    buffer: &[u8],
+    n: usize,
+    trace: i32,
+    row: &mut [u64],
+    classes: &mut [u8],
+) -> Result<(), Refusal>
     ensures answer { result ≡ quick_bits buffer.now n trace (length row.old)
         (length classes.old) }
     ensures row { row.new ≡ quick_patterns_left buffer.now n trace row.old
@@ -31,9 +33,6 @@ pub fn bits(buffer: &[u8], n: usize, trace: i32, row: &mut [u64], classes: &mut 
     ensures classes { classes.new
         ≡ quick_classes_left buffer.now n trace row.old classes.old }
 {
-    let x = one_trace::block(buffer, n, trace);
-    match x {
-        TraceAnswer::Refused(r) => Verdict::Refused(r),
-        TraceAnswer::Is(t) => bit_rows::bits(&buffer[..n], t, row, classes),
-    }
+    let x = one_trace::block(buffer, n, trace)?;
+    bit_rows::bits(&buffer[..n], x, row, classes)
 }

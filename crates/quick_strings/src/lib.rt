@@ -6,29 +6,29 @@
 ghost use Rattle.std.specs.Prelude.{◌≡◌};
 ghost use Rattle.quick.specs.Quick.{counted_by, quick_nth, quick_count};
 
-use reader::{CountAnswer, StringAnswer};
+use refusal::Refusal;
+use strings::Place;
 use until::{Ask, Walked};
 
 // How many were passed, as an answer.
-fn counted(w: Walked) -> CountAnswer
+fn counted(w: Result<Walked, Refusal>) -> Result<usize, Refusal>
     ensures { result ≡ counted_by w }
 {
-    match w {
-        Walked::Over(j) => CountAnswer::Is(j),
-        Walked::Bad(r) => CountAnswer::Refused(r),
-        Walked::At(_) => CountAnswer::Is(0), // where all are counted, no walk ends so
+    match w? {
+        Walked::Over(j) => Ok(j),
+        Walked::At(_) => Ok(0), // where all are counted, no walk ends so
     }
 }
 
 // How many strings a trace has.
-pub fn count(buffer: &[u8], n: usize, trace: i32) -> CountAnswer
+pub fn count(buffer: &[u8], n: usize, trace: i32) -> Result<usize, Refusal>
     ensures { result ≡ quick_count buffer.now n trace }
 {
     counted(quick::walk(buffer, n, trace, Ask::All, &buffer[..0]))
 }
 
 // Its i-th string, counted from 0; past the last there is none.
-pub fn string(buffer: &[u8], n: usize, trace: i32, i: usize) -> StringAnswer
+pub fn string(buffer: &[u8], n: usize, trace: i32, i: usize) -> Result<Option<Place>, Refusal>
     ensures { result ≡ quick_nth buffer.now n trace i }
 {
     quick::told(quick::walk(buffer, n, trace, Ask::Index(i), &buffer[..0]))

@@ -7,23 +7,23 @@
 ghost use Rattle.std.specs.Prelude.{◌≡◌};
 ghost use Rattle.quick.specs.Quick.{quick_number, quick_double, quick_location};
 
-use decimal_parts::NumberAnswer;
-use double::DoubleAnswer;
-use location::LocationAnswer;
+use decimal_parts::Decimal;
+use location::Coordinates;
+use refusal::Refusal;
 
-pub fn number(buffer: &[u8], n: usize, trace: i32, key: &[u8]) -> NumberAnswer
+pub fn number(buffer: &[u8], n: usize, trace: i32, key: &[u8]) -> Result<Decimal, Refusal>
     ensures { result ≡ quick_number buffer.now n trace key.now }
 {
     values::number_of(buffer, quick::find(buffer, n, trace, key))
 }
 
-pub fn double(buffer: &[u8], n: usize, trace: i32, key: &[u8]) -> DoubleAnswer
+pub fn double(buffer: &[u8], n: usize, trace: i32, key: &[u8]) -> Result<f64, Refusal>
     ensures { result ≡ quick_double buffer.now n trace key.now }
 {
     values::double_of(buffer, quick::find(buffer, n, trace, key))
 }
 
-pub fn location(buffer: &[u8], n: usize, trace: i32, key: &[u8]) -> LocationAnswer
+pub fn location(buffer: &[u8], n: usize, trace: i32, key: &[u8]) -> Result<Coordinates, Refusal>
     ensures { result ≡ quick_location buffer.now n trace key.now }
 {
     values::location_of(buffer, quick::find(buffer, n, trace, key))

@@ -1,23 +1,17 @@
 -- Blocks and samples of an accepted file: when they are answered, and what is left in the lent rows: the samples of
 -- that trace, all S of them, or the rows as they were.
 -- Assumes nothing.
-use Rattle.std.specs.Prelude.{◌≡◌, true, List, ℕ, zero, suc, ◌≤◌, ◌<◌, ℤ, pos, length, take}
+use Rattle.std.specs.Prelude.{◌≡◌, true, List, ℕ, zero, suc, ◌≤◌, ◌<◌, ℤ, pos, length, take, Ok, Err, Option, Some, None, false}
 use Rattle.std.proofs.Math.Path.{refl}
 use Rattle.std.proofs.Common.{arith}
 use borrow.Author.Tests.{eq-eqb, eqb-true, not-false}
-use Rattle.refusal.specs.Verdicts.{asked, refused_not}
+use Rattle.refusal.specs.Verdicts.{asked, refused_not, accepted}
 use Rattle.refusal.specs.Rows.{ruled_clear}
 use Rattle.refusal.specs.declared.Refusal.{Refusal}
-use Rattle.refusal.specs.declared.Verdict.{Verdict}
-use Rattle.refusal.specs.declared.Verdict.TheVariants.{Accepted, Refused}
 use Rattle.head_words.specs.HeadWords.{high_first, count_of}
 use Rattle.head.specs.Head.{refused}
 use Rattle.block.specs.Block.{data_at, end_at, trace_block_of}
 use Rattle.image.specs.Image.{check_of}
-use Rattle.part_number.specs.declared.Whose.{Whose}
-use Rattle.part_number.specs.declared.Whose.TheVariants.{Whole, One, Nobody}
-use Rattle.head.specs.declared.FileAnswer.TheVariants as file
-use Rattle.block.specs.declared.TraceAnswer.TheVariants as trace
 use Rattle.text.specs.declared.Manner.{Manner}
 use Rattle.word.specs.Part.{part}
 use Rattle.sample.specs.Run.{values_from}
@@ -31,6 +25,10 @@ use Rattle.reader.specs.Questions.{integers_verdict, bits_verdict, integers_answ
 use Rattle.reader.specs.Questions.{patterns_of, classes_of, integers_left, patterns_left, classes_left}
 use Rattle.reader.specs.Reach.{whose_trace}
 use Rattle.reader.specs.Listed.{whose_one}
+use Rattle.refusal.specs.declared.Part.{Part}
+use Rattle.refusal.specs.Verdicts.{Verdict}
+use Rattle.refusal.specs.declared.Part.TheVariants.{File}
+use Rattle.refusal.specs.declared.Part.TheVariants.{Trace}
 
 -- ---- the kinds of codes
 
@@ -64,9 +62,9 @@ module _ (f : List ℕ) (k : ℕ) where
 
 -- ---- trace k of an accepted file, asked in its kind with rows of S elements: its samples are left
 
-module _ (how : Manner) (xs : List ℕ) (n k : ℕ) (ok : check_of how Read xs n ≡ Accepted) (low : k < count_of (take n xs)) where
+module _ (how : Manner) (xs : List ℕ) (n k : ℕ) (ok : check_of how Read xs n ≡ accepted) (low : k < count_of (take n xs)) where
   pub integers_read_lem : (row : List ℤ) → of_integers (code_at (take n xs) k) ≡ true → length row ≡ count_at (take n xs) k
-      → (integers_answer how xs n (pos k) (length row) ≡ Accepted) × (integers_left how xs n (pos k) row ≡ samples_of (take n xs) k)
+      → (integers_answer how xs n (pos k) (length row) ≡ accepted) × (integers_left how xs n (pos k) row ≡ samples_of (take n xs) k)
   unfolding integers_answer integers_verdict integers_left trace_block_of
   integers_read_lem row c s =
       let w = whose_one k (count_of (take n xs)) low in
@@ -74,7 +72,7 @@ module _ (how : Manner) (xs : List ℕ) (n k : ℕ) (ok : check_of how Read xs n
       (rw (ok, w, c, q), rw (ok, w, c, q))
 
   pub bits_read_lem : (row classes : List ℕ) → of_bits (code_at (take n xs) k) ≡ true → length row ≡ count_at (take n xs) k → length classes ≡ count_at (take n xs) k
-      → (bits_answer how xs n (pos k) (length row) (length classes) ≡ Accepted)
+      → (bits_answer how xs n (pos k) (length row) (length classes) ≡ accepted)
       × (patterns_left how xs n (pos k) row classes ≡ patterns_of (take n xs) k)
       × (classes_left how xs n (pos k) row classes ≡ classes_of (take n xs) k)
   unfolding bits_answer bits_verdict patterns_left classes_left trace_block_of
@@ -86,13 +84,13 @@ module _ (how : Manner) (xs : List ℕ) (n k : ℕ) (ok : check_of how Read xs n
 
 -- ---- a refusal leaves the rows as they were
 
-pub integers_kept : (how : Manner) (xs : List ℕ) (n : ℕ) (z : ℤ) (row : List ℤ) (r : Refusal) → integers_answer how xs n z (length row) ≡ Refused r
+pub integers_kept : (how : Manner) (xs : List ℕ) (n : ℕ) (z : ℤ) (row : List ℤ) (r : Refusal) → integers_answer how xs n z (length row) ≡ Err r
     → integers_left how xs n z row ≡ row
 unfolding integers_left
 integers_kept how xs n z row r h = rw h
 
 pub bits_kept : (how : Manner) (xs : List ℕ) (n : ℕ) (z : ℤ) (row classes : List ℕ) (r : Refusal)
-    → bits_answer how xs n z (length row) (length classes) ≡ Refused r
+    → bits_answer how xs n z (length row) (length classes) ≡ Err r
     → (patterns_left how xs n z row classes ≡ row) × (classes_left how xs n z row classes ≡ classes)
 unfolding patterns_left classes_left
 bits_kept how xs n z row classes r h = (rw h, rw h)
@@ -101,40 +99,40 @@ bits_kept how xs n z row classes r h = (rw h, rw h)
 
 -- the file is accepted and z is a trace k of it
 pub record Asks (how : Manner) (xs : List ℕ) (n : ℕ) (z : ℤ) : Type 0 where
-  pub accepted : check_of how Read xs n ≡ Accepted
+  pub accepted : check_of how Read xs n ≡ accepted
   pub k : ℕ
   pub number : z ≡ pos k
   pub low : k < count_of (take n xs)
 
 asks : (how : Manner) (xs : List ℕ) (n : ℕ) (z : ℤ) (rows : ℕ → Verdict)
-    → asked Refused (check_of how Read xs n) (on_trace (whose_of z (count_of (take n xs))) (Refused no_trace) rows) ≡ Accepted
-    → (a : Asks how xs n z) × (rows a.k ≡ Accepted)
+    → asked Err (check_of how Read xs n) (on_trace (whose_of z (count_of (take n xs))) (Err no_trace) rows) ≡ accepted
+    → (a : Asks how xs n z) × (rows a.k ≡ accepted)
 asks how xs n z rows h = go (check_of how Read xs n) refl (whose_of z (count_of (take n xs))) refl h
   where
-    go : (v : Verdict) → check_of how Read xs n ≡ v → (w : Whose) → whose_of z (count_of (take n xs)) ≡ w
-        → asked Refused v (on_trace w (Refused no_trace) rows) ≡ Accepted
-        → (a : Asks how xs n z) × (rows a.k ≡ Accepted)
-    go (Refused r) q w p e = absurd (refused_not r e)
-    go Accepted q Whole p e = absurd (refused_not _ e)
-    go Accepted q Nobody p e = absurd (refused_not _ e)
-    go Accepted q (One k) p e =
+    go : (v : Verdict) → check_of how Read xs n ≡ v → (w : Option Part) → whose_of z (count_of (take n xs)) ≡ w
+        → asked Err v (on_trace w (Err no_trace) rows) ≡ accepted
+        → (a : Asks how xs n z) × (rows a.k ≡ accepted)
+    go (Err r) q w p e = absurd (refused_not r e)
+    go (Ok _) q (Some File) p e = absurd (refused_not _ e)
+    go (Ok _) q None p e = absurd (refused_not _ e)
+    go (Ok _) q (Some (Trace k)) p e =
         let s = whose_trace z (count_of (take n xs)) k p in
         (record { accepted = q; k = k; number = s.0; low = s.1 }, e)
 
-pub integers_accepted : (how : Manner) (xs : List ℕ) (n : ℕ) (z : ℤ) (s : ℕ) → integers_answer how xs n z s ≡ Accepted
+pub integers_accepted : (how : Manner) (xs : List ℕ) (n : ℕ) (z : ℤ) (s : ℕ) → integers_answer how xs n z s ≡ accepted
     → (a : Asks how xs n z) × (of_integers (code_at (take n xs) a.k) ≡ true) × (s ≡ count_at (take n xs) a.k)
 unfolding integers_answer integers_verdict trace_block_of
 integers_accepted how xs n z s h =
     let a = asks how xs n z (λ k. integers_verdict (block_at (take n xs) k) s) h in
     let k : ℕ = a.0.k in
-    let c = (ruled_clear (λ r. refused r 0) Accepted (λ r. refused_not _) (integers_rows (block_at (take n xs) k) s) Accepted a.1).0 in
+    let c = (ruled_clear (λ r. refused r 0) accepted (λ r. refused_not _) (integers_rows (block_at (take n xs) k) s) accepted a.1).0 in
     (a.0, not-false _ c.0, eqb-true _ _ (not-false _ c.1.0))
 
-pub bits_accepted : (how : Manner) (xs : List ℕ) (n : ℕ) (z : ℤ) (s t : ℕ) → bits_answer how xs n z s t ≡ Accepted
+pub bits_accepted : (how : Manner) (xs : List ℕ) (n : ℕ) (z : ℤ) (s t : ℕ) → bits_answer how xs n z s t ≡ accepted
     → (a : Asks how xs n z) × (of_bits (code_at (take n xs) a.k) ≡ true) × (s ≡ count_at (take n xs) a.k) × (t ≡ count_at (take n xs) a.k)
 unfolding bits_answer bits_verdict trace_block_of
 bits_accepted how xs n z s t h =
     let a = asks how xs n z (λ k. bits_verdict (block_at (take n xs) k) s t) h in
     let k : ℕ = a.0.k in
-    let c = (ruled_clear (λ r. refused r 0) Accepted (λ r. refused_not _) (bits_rows (block_at (take n xs) k) s t) Accepted a.1).0 in
+    let c = (ruled_clear (λ r. refused r 0) accepted (λ r. refused_not _) (bits_rows (block_at (take n xs) k) s t) accepted a.1).0 in
     (a.0, not-false _ c.0, eqb-true _ _ (not-false _ c.1.0), eqb-true _ _ (not-false _ c.1.1.0))

@@ -2,20 +2,16 @@
 -- every place that is found.
 -- Assumes nothing.
 use Rattle.std.proofs.Math.Path.{◌≡◌, refl}
-use Rattle.std.proofs.Common.{sym, ap, ◌∙◌, arith, length-take-le, ltb-true}
+use Rattle.std.proofs.Common.{sym, ap, ◌∙◌, arith, length-take-le, ltb-true, Result, Ok, Err, Option, Some, None}
 use Rattle.std.specs.Prelude.{Bool, true, false, List, ℕ, zero, suc, ◌+◌, ◌-◌, ◌*◌, ◌≤◌, ◌<◌, ℤ, pos, negsuc, take, ltb}
 use Rattle.std.proofs.Math.ListN.{length}
 use Rattle.std.specs.Borrow.{Bor}
-use Rattle.refusal.specs.Verdicts.{asked, refused_not}
+use Rattle.refusal.specs.Verdicts.{pair_parts, asked, refused_not, accepted}
 use Rattle.word.specs.Part.{part_take, PartOf}
 use Rattle.refusal.specs.Rows.{pick}
 use Rattle.refusal.specs.declared.Rule.TheVariants.{Length}
 use Rattle.refusal.specs.declared.Refusal.{Refusal}
-use Rattle.refusal.specs.declared.Verdict.{Verdict}
-use Rattle.refusal.specs.declared.Verdict.TheVariants.{Accepted, Refused}
 use Rattle.strings.specs.declared.Place.{Place}
-use Rattle.strings.specs.declared.Found.{Found}
-use Rattle.strings.specs.declared.Found.TheVariants.{Nothing, Is}
 use Rattle.strings.specs.Strings.{PlaceIn, nth_of, find_of}
 use Rattle.lookup.specs.Lists.{AllIn, area_in_lem, nth_in, find_in}
 use Rattle.block.specs.declared.TraceBlock.{TraceBlock}
@@ -29,15 +25,6 @@ use Rattle.block.specs.BlockLaws.{Pointed, Blocked}
 use Rattle.file_length.specs.FileLength.{long_enough}
 use Rattle.image.specs.Keeps.{trace_at, end_before}
 use Rattle.image.specs.Accepted.{image_headed, image_traced, traced_places}
-use Rattle.part_number.specs.declared.Whose.{Whose}
-use Rattle.part_number.specs.declared.Whose.TheVariants.{Whole, One, Nobody}
-use Rattle.reader.specs.declared.Area.{Area}
-use Rattle.reader.specs.declared.Area.TheVariants.{Outside, From}
-use Rattle.reader.specs.declared.Opened.{Opened}
-use Rattle.reader.specs.declared.Opened.TheVariants as opened
-use Rattle.block.specs.declared.TraceAnswer.TheVariants as trace
-use Rattle.reader.specs.declared.StringAnswer.{StringAnswer}
-use Rattle.reader.specs.declared.StringAnswer.TheVariants as string
 use Rattle.text.specs.declared.Manner.{Manner}
 use Rattle.head_limits.specs.declared.Purpose.TheVariants.{Read}
 use Rattle.part_number.specs.PartNumber.{whose_of}
@@ -45,20 +32,24 @@ use Rattle.reader.specs.Questions.{no_trace, area_named, area_asked, on_area, on
 use Rattle.reader.specs.Questions.{nth_answer, find_answer, trace_answer, value_there, value_answer, span_there}
 use Rattle.reader.specs.Questions.{span_answer, on_string}
 use Rattle.reader.specs.Leaves.{opened_of, on_opened, nth_opened, find_opened, Within, Fits}
+use Rattle.refusal.specs.declared.Part.{Part}
+use Rattle.refusal.specs.Verdicts.{Verdict}
+use Rattle.refusal.specs.declared.Part.TheVariants.{File}
+use Rattle.refusal.specs.declared.Part.TheVariants.{Trace}
 
 -- ---- an accepted check
 pub record Checked (how : Manner) (xs : List ℕ) (n : ℕ) : Type 0 where
-  pub image : image_of how Read (take n xs) ≡ Accepted
+  pub image : image_of how Read (take n xs) ≡ accepted
   pub least : 32 ≤ n
   pub most : n ≤ maximum
   pub fits : n ≤ length xs
   pub size : length (take n xs) ≡ n
 
-pub checked : (how : Manner) (xs : List ℕ) (n : ℕ) → check_of how Read xs n ≡ Accepted → Checked how xs n
+pub checked : (how : Manner) (xs : List ℕ) (n : ℕ) → check_of how Read xs n ≡ accepted → Checked how xs n
 unfolding check_of
 checked how xs n e = go (bad_length (length xs) n) refl e
   where
-    go : (w : Bool) → bad_length (length xs) n ≡ w → pick w (refused Length 0) (image_of how Read (take n xs)) ≡ Accepted → Checked how xs n
+    go : (w : Bool) → bad_length (length xs) n ≡ w → pick w (refused Length 0) (image_of how Read (take n xs)) ≡ accepted → Checked how xs n
     go true q h = absurd (refused_not _ h)
     go false q h =
         let l = long_enough (length xs) n q in
@@ -66,11 +57,11 @@ checked how xs n e = go (bad_length (length xs) n) refl e
 
 -- ---- whom a number names
 
-pub whose_trace : (z : ℤ) (n k : ℕ) → whose_of z n ≡ One k → (z ≡ pos k) × (k < n)
+pub whose_trace : (z : ℤ) (n k : ℕ) → whose_of z n ≡ Some (Trace k) → (z ≡ pos k) × (k < n)
 unfolding whose_of
 whose_trace (pos j) n k h = go (ltb j n) refl h
   where
-    go : (w : Bool) → ltb j n ≡ w → pick w (One j) Nobody ≡ One k → (pos j ≡ pos k) × (k < n)
+    go : (w : Bool) → ltb j n ≡ w → pick w (Some (Trace j)) None ≡ Some (Trace k) → (pos j ≡ pos k) × (k < n)
     go true q e = let s : j ≡ k = cc in let l : j < n = ltb-true j n q in (ap pos s, omega arith)
     go false q e = let y : ◌≡◌ {A = ℕ} 0 1 = cc in absurd (omega arith)
 whose_trace (negsuc zero) n k h = let y : ◌≡◌ {A = ℕ} 0 1 = cc in absurd (omega arith)
@@ -78,7 +69,7 @@ whose_trace (negsuc (suc j)) n k h = let y : ◌≡◌ {A = ℕ} 0 1 = cc in abs
 
 -- ---- an accepted image: each trace, and the area of each part, lies in it
 
-module _ (how : Manner) (f : List ℕ) (ok : image_of how Read f ≡ Accepted) where
+module _ (how : Manner) (f : List ℕ) (ok : image_of how Read f ≡ accepted) where
   pub some_trace : 0 < count_of f
   some_trace = go (count_of f) refl
     where
@@ -102,51 +93,51 @@ module _ (how : Manner) (f : List ℕ) (ok : image_of how Read f ≡ Accepted) w
   one_fits : (k : ℕ) → k < count_of f → (trace_at f k + 32 ≤ data_at (high_first f) f (trace_at f k)) × (data_at (high_first f) f (trace_at f k) ≤ length f)
   one_fits k l = let b = trace_blocked k l in (omega (arith, b.least), b.fits)
 
-  pub area_fits : (z : ℤ) (a e : ℕ) → area_asked f z ≡ From a e → (a ≤ e) × (e ≤ length f)
+  pub area_fits : (z : ℤ) (a e : ℕ) → area_asked f z ≡ Some (a, e) → (a ≤ e) × (e ≤ length f)
   unfolding area_named
   area_fits z a e h = go (whose_of z (count_of f)) refl h
     where
-      go : (w : Whose) → whose_of z (count_of f) ≡ w → area_named f w ≡ From a e → (a ≤ e) × (e ≤ length f)
-      go Whole q h =
-          let x : 32 + room_of f ≡ a = cc in
-          let y : trace_at f 0 ≡ e = cc in
-          (omega (arith, whole_fits.0), omega (arith, whole_fits.1))
-      go (One k) q h =
+      go : (w : Option Part) → whose_of z (count_of f) ≡ w → area_named f w ≡ Some (a, e) → (a ≤ e) × (e ≤ length f)
+      go (Some File) q h =
+          let p : ◌≡◌ {A = ℕ × ℕ} (32 + room_of f, trace_at f 0) (a, e) = cc in
+          let s = pair_parts p in
+          (omega (arith, whole_fits.0, s.0, s.1), omega (arith, whole_fits.1, s.1))
+      go (Some (Trace k)) q h =
           let i = one_fits k (whose_trace z (count_of f) k q).1 in
-          let x : trace_at f k + 32 ≡ a = cc in
-          let y : data_at (high_first f) f (trace_at f k) ≡ e = cc in
-          (omega (arith, i.0), omega (arith, i.1))
-      go Nobody q h = let y : ◌≡◌ {A = ℕ} 0 1 = cc in absurd (omega arith)
+          let p : ◌≡◌ {A = ℕ × ℕ} (trace_at f k + 32, data_at (high_first f) f (trace_at f k)) (a, e) = cc in
+          let s = pair_parts p in
+          (omega (arith, i.0, s.0, s.1), omega (arith, i.1, s.1))
+      go None q h = let y : ◌≡◌ {A = ℕ} 0 1 = cc in absurd (omega arith)
 
 -- ---- an area that was opened
 
 pub record Reached (how : Manner) (xs : List ℕ) (n : ℕ) (z : ℤ) (a e : ℕ) : Type 0 where
-  pub accepted : check_of how Read xs n ≡ Accepted
+  pub accepted : check_of how Read xs n ≡ accepted
   pub known : Checked how xs n
-  pub area : area_asked (take n xs) z ≡ From a e
+  pub area : area_asked (take n xs) z ≡ Some (a, e)
   pub low : a ≤ e
   pub end : e ≤ length (take n xs)
   pub good : good_terminator (take n xs) 8 ≡ true
 
-pub reached : (how : Manner) (xs : List ℕ) (n : ℕ) (z : ℤ) (a e : ℕ) → opened_of how xs n z ≡ opened.From a e → Reached how xs n z a e
+pub reached : (how : Manner) (xs : List ℕ) (n : ℕ) (z : ℤ) (a e : ℕ) → opened_of how xs n z ≡ Ok (a, e) → Reached how xs n z a e
 unfolding opened_of
 reached how xs n z a e h = go (check_of how Read xs n) refl (area_asked (take n xs) z) refl h
   where
-    go : (v : Verdict) → check_of how Read xs n ≡ v → (w : Area) → area_asked (take n xs) z ≡ w
-        → asked opened.Bad v (on_area w (opened.Bad no_trace) opened.From) ≡ opened.From a e → Reached how xs n z a e
-    go (Refused r) q w p k = let y : ◌≡◌ {A = ℕ} 0 1 = cc in absurd (omega arith)
-    go Accepted q Outside p k = let y : ◌≡◌ {A = ℕ} 0 1 = cc in absurd (omega arith)
-    go Accepted q (From b d) p k =
+    go : (v : Verdict) → check_of how Read xs n ≡ v → (w : Option (ℕ × ℕ)) → area_asked (take n xs) z ≡ w
+        → asked Err v (on_area {A = Result (ℕ × ℕ) Refusal} w (Err no_trace) (λ a b. Ok (a, b))) ≡ Ok (a, e) → Reached how xs n z a e
+    go (Err r) q w p k = let y : ◌≡◌ {A = ℕ} 0 1 = cc in absurd (omega arith)
+    go (Ok _) q None p k = let y : ◌≡◌ {A = ℕ} 0 1 = cc in absurd (omega arith)
+    go (Ok _) q (Some (b, d)) p k =
         let c = checked how xs n q in
-        let s : b ≡ a = cc in
-        let t : d ≡ e = cc in
+        let h : ◌≡◌ {A = ℕ × ℕ} (b, d) (a, e) = cc in
+        let m = pair_parts h in
         let i = area_fits how (take n xs) c.image z b d p in
         record {
           accepted = q;
           known = c;
-          area = rw (s, t) at p;
-          low = omega (arith, i.0);
-          end = omega (arith, i.1);
+          area = rw (m.0, m.1) at p;
+          low = omega (arith, i.0, m.0, m.1);
+          end = omega (arith, i.1, m.1);
           good = (image_headed how Read (take n xs) c.image).strings;
         }
 
@@ -156,18 +147,18 @@ places_in_lem : (how : Manner) (xs : List ℕ) (n : ℕ) (z : ℤ) (a e : ℕ) �
 unfolding places_in
 places_in_lem how xs n z a e r = area_in_lem how (high_first (take n xs)) (string_end (take n xs)) (take n xs) a e r.low r.end
 
-there_within : (e n : ℕ) (s : Found) → e ≤ n → ((p : Place) → s ≡ Is p → PlaceIn e p) → Within n (there s)
-there_within e n Nothing l h = tt
-there_within e n (Is p) l h = let i = h p refl in (i.0, i.1, i.2, omega (arith, i.3))
+there_within : (e n : ℕ) (s : Option Place) → e ≤ n → ((p : Place) → s ≡ Some p → PlaceIn e p) → Within n (there s)
+there_within e n None l h = tt
+there_within e n (Some p) l h = let i = h p refl in (i.0, i.1, i.2, omega (arith, i.3))
 
 module _ (how : Manner) (xs : List ℕ) (n : ℕ) (z : ℤ) where
-  opened_within : (m : ℕ) (some : ℕ → ℕ → StringAnswer) → ((a e : ℕ) → Reached how xs n z a e → Within m (some a e))
-      → Within m (on_opened (opened_of how xs n z) string.Refused some)
+  opened_within : (m : ℕ) (some : ℕ → ℕ → Result (Option Place) Refusal) → ((a e : ℕ) → Reached how xs n z a e → Within m (some a e))
+      → Within m (on_opened (opened_of how xs n z) Err some)
   opened_within m some h = go (opened_of how xs n z) refl
     where
-      go : (o : Opened) → opened_of how xs n z ≡ o → Within m (on_opened o string.Refused some)
-      go (opened.Bad r) q = tt
-      go (opened.From a e) q = h a e (reached how xs n z a e q)
+      go : (o : Result (ℕ × ℕ) Refusal) → opened_of how xs n z ≡ o → Within m (on_opened o Err some)
+      go (Err r) q = tt
+      go (Ok (a, e)) q = h a e (reached how xs n z a e q)
 
   nth_ends : (m : ℕ) → ((a e : ℕ) → Reached how xs n z a e → e ≤ m) → (i : ℕ) → Within m (nth_answer how xs n z i)
   nth_ends m h i =
@@ -196,62 +187,62 @@ module _ (how : Manner) (xs : List ℕ) (n : ℕ) (z : ℤ) where
   find_lent key = find_ends (length xs) (λ a e r. omega (arith, r.end, r.known.size, r.known.fits)) key
 
 -- a value within the first n bytes is the same part of the buffer
-pub value_within : (xs : List ℕ) (n : ℕ) (s : StringAnswer) → Within n s → value_there xs s ≡ value_there (take n xs) s
-value_within xs n (string.There p) h = sym (part_take n p.value p.end xs h.3)
-value_within xs n string.Absent h = refl
-value_within xs n (string.Refused r) h = refl
+pub value_within : (xs : List ℕ) (n : ℕ) (s : Result (Option Place) Refusal) → Within n s → value_there xs s ≡ value_there (take n xs) s
+value_within xs n (Ok (Some p)) h = sym (part_take n p.value p.end xs h.3)
+value_within xs n (Ok None) h = refl
+value_within xs n (Err r) h = refl
 
 -- so what was found is the answer's, whichever question was asked: its value, and what is made of it unless it was refused
-pub found_told : (xs : List ℕ) (n : ℕ) (s t : StringAnswer) → s ≡ t → Within n t → value_there xs s ≡ value_there (take n xs) t
-found_told xs n s t e w = ap (λ (r : StringAnswer). value_there xs r) e ∙ value_within xs n t w
+pub found_told : (xs : List ℕ) (n : ℕ) (s t : Result (Option Place) Refusal) → s ≡ t → Within n t → value_there xs s ≡ value_there (take n xs) t
+found_told xs n s t e w = ap (λ (r : Result (Option Place) Refusal). value_there xs r) e ∙ value_within xs n t w
 
-pub made_told : {A : Type 0} (bad : Refusal → A) (g : List ℕ → A) (xs : List ℕ) (s t : StringAnswer) (v : List ℕ) → s ≡ t → value_there xs s ≡ v
+pub made_told : {A : Type 0} (bad : Refusal → A) (g : List ℕ → A) (xs : List ℕ) (s t : Result (Option Place) Refusal) (v : List ℕ) → s ≡ t → value_there xs s ≡ v
     → on_string bad s (g (value_there xs s)) ≡ on_string bad t (g v)
-made_told bad g xs s t v e w = ap (λ (l : List ℕ). on_string bad s (g l)) w ∙ ap (λ (r : StringAnswer). on_string bad r (g v)) e
+made_told bad g xs s t v e w = ap (λ (l : List ℕ). on_string bad s (g l)) w ∙ ap (λ (r : Result (Option Place) Refusal). on_string bad r (g v)) e
 
 -- of the full question
-pub value_told : (how : Manner) (xs : List ℕ) (n : ℕ) (z : ℤ) (key : List ℕ) (s : StringAnswer) → s ≡ find_answer how xs n z key
+pub value_told : (how : Manner) (xs : List ℕ) (n : ℕ) (z : ℤ) (key : List ℕ) (s : Result (Option Place) Refusal) → s ≡ find_answer how xs n z key
     → value_there xs s ≡ value_answer how xs n z key
 unfolding value_answer
 value_told how xs n z key s e = found_told xs n s (find_answer how xs n z key) e (find_within how xs n z key)
 
 -- where it stands is where the answer stands
-pub span_told : (how : Manner) {b r : Bor (List ℕ)} (xs : List ℕ) (n : ℕ) (z : ℤ) (key : List ℕ) (s : StringAnswer) → s ≡ find_answer how xs n z key
+pub span_told : (how : Manner) {b r : Bor (List ℕ)} (xs : List ℕ) (n : ℕ) (z : ℤ) (key : List ℕ) (s : Result (Option Place) Refusal) → s ≡ find_answer how xs n z key
     → PartOf b (span_there s) r
     → PartOf b (span_answer how xs n z key) r
 unfolding span_answer
 span_told how xs n z key s e h = rw e at h
 
-pub value_made : (how : Manner) {A : Type 0} (bad : Refusal → A) (g : List ℕ → A) (xs : List ℕ) (n : ℕ) (z : ℤ) (key : List ℕ) (s : StringAnswer)
+pub value_made : (how : Manner) {A : Type 0} (bad : Refusal → A) (g : List ℕ → A) (xs : List ℕ) (n : ℕ) (z : ℤ) (key : List ℕ) (s : Result (Option Place) Refusal)
     → s ≡ find_answer how xs n z key → on_string bad s (g (value_there xs s)) ≡ on_string bad (find_answer how xs n z key) (g (value_answer how xs n z key))
 value_made how bad g xs n z key s e =
     made_told bad g xs s (find_answer how xs n z key) (value_answer how xs n z key) e (value_told how xs n z key s e)
 
-pub held : (n : ℕ) (s : StringAnswer) (p : Place) → s ≡ string.There p → Within n s → PlaceIn n p
+pub held : (n : ℕ) (s : Result (Option Place) Refusal) (p : Place) → s ≡ Ok (Some p) → Within n s → PlaceIn n p
 held n s p e h = rw e at h
 
 -- ---- a trace that is answered
 
 pub record Told (how : Manner) (xs : List ℕ) (n : ℕ) (z : ℤ) (t : TraceBlock) : Type 0 where
-  pub accepted : check_of how Read xs n ≡ Accepted
+  pub accepted : check_of how Read xs n ≡ accepted
   pub known : Checked how xs n
   pub k : ℕ
   pub number : z ≡ pos k
-  pub whose : whose_of z (count_of (take n xs)) ≡ One k
+  pub whose : whose_of z (count_of (take n xs)) ≡ Some (Trace k)
   pub low : k < count_of (take n xs)
   pub block : t ≡ trace_block_of (high_first (take n xs)) (take n xs) k
 
-pub told : (how : Manner) (xs : List ℕ) (n : ℕ) (z : ℤ) (t : TraceBlock) → trace_answer how xs n z ≡ trace.Is t → Told how xs n z t
+pub told : (how : Manner) (xs : List ℕ) (n : ℕ) (z : ℤ) (t : TraceBlock) → trace_answer how xs n z ≡ Ok t → Told how xs n z t
 unfolding trace_answer
 told how xs n z t h = go (check_of how Read xs n) refl (whose_of z (count_of (take n xs))) refl h
   where
-    go : (v : Verdict) → check_of how Read xs n ≡ v → (w : Whose) → whose_of z (count_of (take n xs)) ≡ w
-        → asked trace.Refused v (on_trace w (trace.Refused no_trace) (λ k. trace.Is (trace_block_of (high_first (take n xs)) (take n xs) k))) ≡ trace.Is t
+    go : (v : Verdict) → check_of how Read xs n ≡ v → (w : Option Part) → whose_of z (count_of (take n xs)) ≡ w
+        → asked Err v (on_trace w (Err no_trace) (λ k. Ok (trace_block_of (high_first (take n xs)) (take n xs) k))) ≡ Ok t
         → Told how xs n z t
-    go (Refused r) q w p k = let y : ◌≡◌ {A = ℕ} 0 1 = cc in absurd (omega arith)
-    go Accepted q Whole p k = let y : ◌≡◌ {A = ℕ} 0 1 = cc in absurd (omega arith)
-    go Accepted q Nobody p k = let y : ◌≡◌ {A = ℕ} 0 1 = cc in absurd (omega arith)
-    go Accepted q (One j) p k =
+    go (Err r) q w p k = let y : ◌≡◌ {A = ℕ} 0 1 = cc in absurd (omega arith)
+    go (Ok _) q (Some File) p k = let y : ◌≡◌ {A = ℕ} 0 1 = cc in absurd (omega arith)
+    go (Ok _) q None p k = let y : ◌≡◌ {A = ℕ} 0 1 = cc in absurd (omega arith)
+    go (Ok _) q (Some (Trace j)) p k =
         let s = whose_trace z (count_of (take n xs)) j p in
         record { accepted = q; known = checked how xs n q; k = j; number = s.0; whose = p; low = s.1; block = cc }
 

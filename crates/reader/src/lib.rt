@@ -7,7 +7,7 @@
 #![tactic(auto)]
 
 ghost use Rattle.std.specs.Prelude.{◌≡◌, ◌≤◌, length};
-ghost use Rattle.refusal.specs.declared.Verdict.TheVariants.{Accepted};
+ghost use Rattle.refusal.specs.Verdicts.{accepted};
 ghost use Rattle.head_limits.specs.declared.Purpose.TheVariants.{Read};
 ghost use Rattle.head_words.specs.HeadWords.{count_of};
 ghost use Rattle.image.specs.Image.{image_of};
@@ -16,41 +16,12 @@ ghost use Rattle.part_number.specs.PartNumber.{whose_of};
 ghost use Rattle.reader.specs.Leaves.{opened_of};
 
 use head_limits::Purpose;
-use part_number::Whose;
-use refusal::{Refusal, Rule, Verdict};
+use refusal::{Part, Refusal, Rule};
 use strings::Place;
 use text::Manner;
 
-// The bytes that the strings of a part stand in.
-#[derive(Clone, Copy)]
-pub enum Area {
-    Outside,
-    From(usize, usize),
-}
-
-#[derive(Clone, Copy)]
-pub enum CountAnswer {
-    Is(usize),
-    Refused(Refusal),
-}
-
-// Where a string stands in the file; or that there is none; or the refusal.
-#[derive(Clone, Copy)]
-pub enum StringAnswer {
-    There(Place),
-    Absent,
-    Refused(Refusal),
-}
-
-#[derive(Clone, Copy)]
-pub enum KeywordAnswer {
-    Yes,
-    No,
-    Refused(Refusal),
-}
-
 // Whom a part number names among the traces of an image.
-pub fn whose_in(f: &[u8], part: i32) -> Whose
+pub fn whose_in(f: &[u8], part: i32) -> Option<Part>
     requires { 32 ≤ length f.now }
     ensures { result ≡ whose_of part (count_of f.now) }
 {
@@ -66,39 +37,25 @@ pub fn no_trace() -> Refusal
 }
 
 // Where the strings of a part of an accepted image stand.
-fn area_of(f: &[u8], part: i32, how: Manner) -> Area
-    requires { (32 ≤ length f.now) × (image_of how Read f.now ≡ Accepted) }
+fn area_of(f: &[u8], part: i32, how: Manner) -> Option<(usize, usize)>
+    requires { (32 ≤ length f.now) × (image_of how Read f.now ≡ accepted) }
     ensures { result ≡ area_asked f.now part }
 {
     let high = head_words::is_high(f);
-    let w = whose_in(f, part);
-    match w {
-        Whose::Nobody => Area::Outside,
-        Whose::Whole => Area::From(32 + word::word2(f, high, 4), block::pointer(f, high, 0)),
-        Whose::One(k) => {
+    match whose_in(f, part) {
+        None => None,
+        Some(Part::File) => Some((32 + word::word2(f, high, 4), block::pointer(f, high, 0))),
+        Some(Part::Trace(k)) => {
             let p = block::pointer(f, high, k);
-            Area::From(p + 32, p + word::word2(f, high, p + 2))
+            Some((p + 32, p + word::word2(f, high, p + 2)))
         }
     }
 }
 
 // The check, then where the strings of a part stand; or the refusal of either.
-#[derive(Clone, Copy)]
-pub enum Opened {
-    From(usize, usize),
-    Bad(Refusal),
-}
-
-pub fn open_area(buffer: &[u8], n: usize, part: i32, how: Manner) -> Opened
+pub fn open_area(buffer: &[u8], n: usize, part: i32, how: Manner) -> Result<(usize, usize), Refusal>
     ensures { result ≡ opened_of how buffer.now n part }
 {
-    let v = image::check(buffer, n, Purpose::Read, how);
-    if let Verdict::Refused(r) = v {
-        return Opened::Bad(r);
-    }
-    let w = area_of(&buffer[..n], part, how);
-    match w {
-        Area::Outside => Opened::Bad(no_trace()),
-        Area::From(a, e) => Opened::From(a, e),
-    }
+    image::check(buffer, n, Purpose::Read, how)?;
+    area_of(&buffer[..n], part, how).ok_or(no_trace())
 }

@@ -1,67 +1,66 @@
 -- The first row that is met answers. A row of the refusal table is what it answers: the refusal where its test holds,
 -- and else nothing.
 -- Assumes nothing.
-use Rattle.std.specs.Prelude.{◌≡◌, Bool, List, [], ◌∷◌, ◌++◌, ◌↔◌, ℕ}
+use Rattle.std.specs.Prelude.{◌≡◌, Bool, List, [], ◌∷◌, ◌++◌, ◌↔◌, ℕ, Ok, Err}
 use Rattle.std.proofs.Math.Path.{refl}
 use Rattle.std.proofs.Common.{sym, ap, ap₂, ◌∙◌}
 use Rattle.std.proofs.Math.Bool.{true, false}
-use Rattle.refusal.specs.Verdicts.{refused_not, asked, and_then}
+use Rattle.refusal.specs.Verdicts.{refused_not, asked, and_then, accepted}
 use Rattle.refusal.specs.declared.Refusal.{Refusal}
 use Rattle.refusal.specs.declared.Rule.{Rule}
 use Rattle.refusal.specs.declared.Part.{Part}
-use Rattle.refusal.specs.declared.Verdict.{Verdict}
-use Rattle.refusal.specs.declared.Verdict.TheVariants.{Accepted, Refused}
 use Rattle.refusal.specs.Table.{refusal}
 use Rattle.refusal.specs.Rows.{Rows, pick, first, ruled}
+use Rattle.refusal.specs.Verdicts.{Verdict}
 
 abbrev pub row : Bool → Rule → Part → ℕ → Verdict
-row test r part at = pick test (Refused (refusal r part at)) Accepted
+row test r part at = pick test (Err (refusal r part at)) accepted
 
 unfoldable pub first_of : List Verdict → Verdict
-first_of [] = Accepted
-first_of (Accepted ∷ vs) = first_of vs
-first_of (Refused r ∷ vs) = Refused r
+first_of [] = accepted
+first_of (Ok _ ∷ vs) = first_of vs
+first_of (Err r ∷ vs) = Err r
 
 -- none of them is met
 abbrev pub NoneMet : List Verdict → Type 0
 NoneMet [] = Unit {0}
-NoneMet (v ∷ vs) = (v ≡ Accepted) × NoneMet vs
+NoneMet (v ∷ vs) = (v ≡ accepted) × NoneMet vs
 
 -- this one is met, and none before it
 abbrev pub Met : List Verdict → Refusal → Type 0
-Met vs r = (before after : List Verdict) × (vs ≡ before ++ (Refused r ∷ after)) × NoneMet before
+Met vs r = (before after : List Verdict) × (vs ≡ before ++ (Err r ∷ after)) × NoneMet before
 
-met_is_first : (vs : List Verdict) (r : Refusal) → first_of vs ≡ Refused r → Met vs r
+met_is_first : (vs : List Verdict) (r : Refusal) → first_of vs ≡ Err r → Met vs r
 unfolding first_of
 met_is_first [] r e = absurd (refused_not r (sym e))
-met_is_first (Accepted ∷ vs) r e =
+met_is_first (Ok _ ∷ vs) r e =
     let m = met_is_first vs r e in
-    (Accepted ∷ m.0, m.1, ap (λ (l : List Verdict). Accepted ∷ l) m.2, (refl, m.3))
-met_is_first (Refused q ∷ vs) r e = let s : q ≡ r = cc in ([], vs, ap (λ (y : Refusal). Refused y ∷ vs) s, tt)
+    (accepted ∷ m.0, m.1, ap (λ (l : List Verdict). accepted ∷ l) m.2, (refl, m.3))
+met_is_first (Err q ∷ vs) r e = let s : q ≡ r = cc in ([], vs, ap (λ (y : Refusal). Err y ∷ vs) s, tt)
 
-first_is_met : (before after : List Verdict) (r : Refusal) → NoneMet before → first_of (before ++ (Refused r ∷ after)) ≡ Refused r
+first_is_met : (before after : List Verdict) (r : Refusal) → NoneMet before → first_of (before ++ (Err r ∷ after)) ≡ Err r
 unfolding first_of
 first_is_met [] after r n = refl
 first_is_met (v ∷ before) after r n = rw n.0 (first_is_met before after r n.1)
 
 -- "input that meets rows of the refusal table gets the first of them in its order, with its place". Rules out a check
 -- that answers a later row, or another place.
-pub refused_by_the_first : (vs : List Verdict) (r : Refusal) → (first_of vs ≡ Refused r) ↔ Met vs r
+pub refused_by_the_first : (vs : List Verdict) (r : Refusal) → (first_of vs ≡ Err r) ↔ Met vs r
 refused_by_the_first vs r = (met_is_first vs r, λ m. rw m.2 (first_is_met m.0 m.1 r m.3))
 
-pub passed_met_none : (vs : List Verdict) → first_of vs ≡ Accepted → NoneMet vs
+pub passed_met_none : (vs : List Verdict) → first_of vs ≡ accepted → NoneMet vs
 unfolding first_of
 passed_met_none [] e = tt
-passed_met_none (Accepted ∷ vs) e = (refl, passed_met_none vs e)
-passed_met_none (Refused r ∷ vs) e = absurd (refused_not r e)
+passed_met_none (Ok _ ∷ vs) e = (refl, passed_met_none vs e)
+passed_met_none (Err r ∷ vs) e = absurd (refused_not r e)
 
-pub met_none_passed : (vs : List Verdict) → NoneMet vs → first_of vs ≡ Accepted
+pub met_none_passed : (vs : List Verdict) → NoneMet vs → first_of vs ≡ accepted
 unfolding first_of
 met_none_passed [] n = refl
 met_none_passed (v ∷ vs) n = rw n.0 (met_none_passed vs n.1)
 
 -- "no other input is refused". Rules out a refusal that no row gives.
-pub accepted_where_none_is_met : (vs : List Verdict) → (first_of vs ≡ Accepted) ↔ NoneMet vs
+pub accepted_where_none_is_met : (vs : List Verdict) → (first_of vs ≡ accepted) ↔ NoneMet vs
 accepted_where_none_is_met vs = (passed_met_none vs, met_none_passed vs)
 
 -- ---- rows one behind the other
@@ -69,13 +68,13 @@ accepted_where_none_is_met vs = (passed_met_none vs, met_none_passed vs)
 pub first_more : (a b : List Verdict) → first_of (a ++ b) ≡ and_then (first_of a) (first_of b)
 unfolding first_of and_then
 first_more [] b = refl
-first_more (Accepted ∷ a) b = first_more a b
-first_more (Refused r ∷ a) b = refl
+first_more (Ok _ ∷ a) b = first_more a b
+first_more (Err r ∷ a) b = refl
 
 pub first_next : (v : Verdict) (vs : List Verdict) → first_of (v ∷ vs) ≡ and_then v (first_of vs)
 unfolding first_of and_then
-first_next Accepted vs = refl
-first_next (Refused r) vs = refl
+first_next (Ok _) vs = refl
+first_next (Err r) vs = refl
 
 -- ---- checks one behind the other, each with its own rows: the first check that refuses answers by the first row that
 -- is met
@@ -100,21 +99,21 @@ first_flat (v ∷ cs) (vs ∷ rs) h = first_next v cs ∙ ap₂ and_then h.0 (fi
 -- a check of one row
 pub first_one : (v : Verdict) → v ≡ first_of (v ∷ [])
 unfolding first_of
-first_one Accepted = refl
-first_one (Refused r) = refl
+first_one (Ok _) = refl
+first_one (Err r) = refl
 
 pub first_two : (a b : Verdict) → first_of (a ∷ b ∷ []) ≡ and_then a b
 unfolding first_of and_then
-first_two Accepted Accepted = refl
-first_two Accepted (Refused r) = refl
-first_two (Refused r) b = refl
+first_two (Ok _) (Ok _) = refl
+first_two (Ok _) (Err r) = refl
+first_two (Err r) b = refl
 
-pub first_nothing : first_of [] ≡ Accepted
+pub first_nothing : first_of [] ≡ accepted
 unfolding first_of
 first_nothing = refl
 
 pub first_row_lem : (test : Bool) (r : Rule) (p : Part) (at : ℕ) (vs : List Verdict)
-    → first_of (row test r p at ∷ vs) ≡ pick test (Refused (refusal r p at)) (first_of vs)
+    → first_of (row test r p at ∷ vs) ≡ pick test (Err (refusal r p at)) (first_of vs)
 unfolding first_of
 first_row_lem true r p at vs = refl
 first_row_lem false r p at vs = refl
@@ -122,14 +121,14 @@ first_row_lem false r p at vs = refl
 -- rows as tests with their answers
 unfoldable pub each : Rows Verdict → List Verdict
 each [] = []
-each (r ∷ rs) = pick r.0 r.1 Accepted ∷ each rs
+each (r ∷ rs) = pick r.0 r.1 accepted ∷ each rs
 
 -- each of them answers a refusal
 abbrev pub Refuses : Rows Verdict → Type 0
 Refuses [] = Unit {0}
-Refuses (r ∷ rs) = ((q : Refusal) × (r.1 ≡ Refused q)) × Refuses rs
+Refuses (r ∷ rs) = ((q : Refusal) × (r.1 ≡ Err q)) × Refuses rs
 
-pub first_each : (rs : Rows Verdict) → Refuses rs → first rs Accepted ≡ first_of (each rs)
+pub first_each : (rs : Rows Verdict) → Refuses rs → first rs accepted ≡ first_of (each rs)
 unfolding first_of each
 first_each [] h = refl
 first_each ((true, v) ∷ rs) h = rw h.0.1
@@ -142,7 +141,7 @@ rows_at p at [] = []
 rows_at p at (r ∷ rs) = row r.0 r.1 p at ∷ rows_at p at rs
 
 -- the first rule that is broken, in whatever answer: the same rows at a place, and then what comes behind them
-pub rule_first : (rs : Rows Rule) (p : Part) (at : ℕ) (v : Verdict) → ruled rs (λ r. Refused (refusal r p at)) v ≡ and_then (first_of (rows_at p at rs)) v
+pub rule_first : (rs : Rows Rule) (p : Part) (at : ℕ) (v : Verdict) → ruled rs (λ r. Err (refusal r p at)) v ≡ and_then (first_of (rows_at p at rs)) v
 unfolding first_of and_then
 rule_first [] p at v = refl
 rule_first ((true, r) ∷ rs) p at v = refl
@@ -153,8 +152,8 @@ rule_first ((false, r) ∷ rs) p at v = rule_first rs p at v
 module _ {A : Type 0} (bad : Refusal → A) where
   pub then_asked : (a b : Verdict) (x : A) → asked bad (and_then a b) x ≡ asked bad a (asked bad b x)
   unfolding and_then
-  then_asked Accepted b x = refl
-  then_asked (Refused r) b x = refl
+  then_asked (Ok _) b x = refl
+  then_asked (Err r) b x = refl
 
   pub asked_more : (a b : List Verdict) (x : A) → asked bad (first_of (a ++ b)) x ≡ asked bad (first_of a) (asked bad (first_of b) x)
   asked_more a b x = ap (λ (v : Verdict). asked bad v x) (first_more a b) ∙ then_asked (first_of a) (first_of b) x

@@ -1,11 +1,13 @@
-// The answers that all crates share: a refusal with its rule, part and place, the verdict of a check, and what a writing
-// answers. Document 01, "Refusal numbers, in order of checking": Table has the numbers, Rows how the first row met
-// answers, Writing what is left of lent memory. Stands on nothing.
+// The refusal that all crates share, with its rule, part and place: what a question, a check or a writing answers where it
+// has no value is `Err` of it, and a refused writing has changed nothing. Document 01, "Refusal numbers, in order of
+// checking": Table has the numbers, Rows how the first row met answers, Verdicts what a check tells, Writing what is left
+// of lent memory. Stands on nothing.
 // The rules in words: docs/FORMAT.md, "Refusal numbers, in order of checking".
 #![tactic(auto)]
 
 ghost use Rattle.std.specs.Prelude.{◌≡◌};
 ghost use Rattle.refusal.specs.Table.{number_of, Numbered, part_of, refusal};
+ghost use Rattle.refusal.specs.Verdicts.{placed};
 
 // The rules that an input can break, in the order of their numbers, which are those of `specs/Table.antt`: `number`
 // promises it. The words stand there.
@@ -63,20 +65,6 @@ pub struct Refusal {
     pub place: usize,
 }
 
-#[derive(Clone, Copy)]
-pub enum Verdict {
-    Accepted,
-    Refused(Refusal),
-}
-
-// The length that a writing made (of the image after a start or an addition, of a number's text), or the refusal, which
-// has changed nothing.
-#[derive(Clone, Copy)]
-pub enum Written {
-    To(usize),
-    Refused(Refusal),
-}
-
 // The number that the enum has for a rule, as a cast of an enum gives it: a signed one.
 fn row(rule: Rule) -> i64
     ensures { Numbered rule result }
@@ -98,6 +86,16 @@ pub fn part_number(part: Part) -> i32
     match part {
         Part::File => -1,
         Part::Trace(k) => k as i32,
+    }
+}
+
+// An answer that has a rule where it has no value, with the part and the place where the rule is broken.
+pub fn placed<T>(answer: Result<T, Rule>, part: Part, place: usize) -> Result<T, Refusal>
+    ensures { result ≡ placed answer part place }
+{
+    match answer {
+        Ok(value) => Ok(value),
+        Err(rule) => Err(Refusal { rule, part, place }),
     }
 }
 

@@ -4,11 +4,9 @@ use Rattle.std.specs.Prelude.{◌≡◌, refl, Bool, true, false, List, ℕ, zer
 use Rattle.std.proofs.Common.{◌∙◌, arith}
 use borrow.Author.Tests.{eq-eqb, ne_eqb, le-leb}
 use Rattle.head_limits.specs.declared.Purpose.TheVariants.{Read}
-use Rattle.refusal.specs.Verdicts.{asked}
+use Rattle.refusal.specs.Verdicts.{asked, accepted}
 use Rattle.word.specs.Part.{length_part}
 use Rattle.refusal.specs.declared.Rule.TheVariants.{RowLength, CodeKind}
-use Rattle.refusal.specs.declared.Verdict.{Verdict}
-use Rattle.refusal.specs.declared.Verdict.TheVariants.{Accepted}
 use Rattle.sample.specs.Needed.{needed}
 use Rattle.decode.specs.Sample.{integers_asked, integers_there, integers_read, bits_there, patterns_read, classes_read}
 use Rattle.block.specs.declared.TraceBlock.{TraceBlock}
@@ -18,6 +16,7 @@ use Rattle.reader.specs.Questions.{of_integers, of_bits, data_in}
 use Rattle.reader.specs.Questions.{integers_verdict, bits_verdict, samples_in, patterns_in}
 use Rattle.reader.specs.Questions.{classes_in, kept}
 use Rattle.reader.specs.Leaves.{Fits}
+use Rattle.refusal.specs.Verdicts.{Verdict}
 
 -- ---- the data block has the bytes that its samples need
 data_long : (f : List ℕ) (t : TraceBlock) → Fits (length f) t → length (data_in f t) ≡ t.d
@@ -58,7 +57,7 @@ module _ (f : List ℕ) (t : TraceBlock) (row : List ℤ) where
   integers_long k l = rw (k, ne_eqb (length row) t.s l) (refl, refl)
 
   pub integers_done : (h : Bool) (new : List ℤ) → of_integers t.code ≡ true → length row ≡ t.s → Fits (length f) t → h ≡ high_first f
-      → new ≡ integers_read t.code h (data_in f t) row → IntegersEnd Accepted new
+      → new ≡ integers_read t.code h (data_in f t) row → IntegersEnd accepted new
   unfolding integers_verdict integers_read samples_in
   integers_done h new k l fit e w =
       rw (k, eq-eqb (length row) t.s l) (refl, w ∙ rw (l, e, integers_there_lem f t fit k))
@@ -84,7 +83,7 @@ module _ (f : List ℕ) (t : TraceBlock) (row classes : List ℕ) where
   classes_long k l m = rw (k, eq-eqb (length row) t.s l, ne_eqb (length classes) t.s m) (refl, (refl, refl))
 
   pub bits_done : (h : Bool) (new cs : List ℕ) → of_bits t.code ≡ true → length row ≡ t.s → length classes ≡ t.s → Fits (length f) t → h ≡ high_first f
-      → new ≡ patterns_read t.code h (data_in f t) row classes → cs ≡ classes_read t.code h (data_in f t) row classes → BitsEnd Accepted new cs
+      → new ≡ patterns_read t.code h (data_in f t) row classes → cs ≡ classes_read t.code h (data_in f t) row classes → BitsEnd accepted new cs
   unfolding bits_verdict patterns_read classes_read patterns_in classes_in
   bits_done h new cs k l m fit e v w =
       let b = bits_there_lem f t fit k in

@@ -11,7 +11,7 @@ ghost use Rattle.reader.specs.Questions.{kept};
 ghost use Rattle.reader.specs.Leaves.{Fits};
 
 use block::TraceBlock;
-use refusal::{Rule, Verdict};
+use refusal::{Refusal, Rule};
 
 // Codes 1 to 3.
 fn is_integers(code: u8) -> bool
@@ -26,15 +26,15 @@ fn is_integers(code: u8) -> bool
 }
 
 // Rows 32 and 33: part -1, place 0.
-pub fn refusing(rule: Rule) -> Verdict
+pub fn refusing(rule: Rule) -> Result<(), Refusal>
     ensures { result ≡ refused rule 0 }
 {
-    Verdict::Refused(refusal::of_file(rule, 0))
+    Err(refusal::of_file(rule, 0))
 }
 
 // Rows 33 and 32; then the data block of the trace alone, out of the middle of the image, is handed to the decoder. t is
 // the trace's block.
-pub fn integers(f: &[u8], t: TraceBlock, row: &mut [i32]) -> Verdict
+pub fn integers(f: &[u8], t: TraceBlock, row: &mut [i32]) -> Result<(), Refusal>
     requires { (2 ≤ length f.now) × Fits (length f.now) t }
     ensures answer { result ≡ integers_verdict t (length row.old) }
     ensures row { row.new ≡ kept (integers_verdict t (length row.old))
@@ -53,5 +53,5 @@ pub fn integers(f: &[u8], t: TraceBlock, row: &mut [i32]) -> Verdict
     let b = t.b;
     let d = t.d;
     decode::read_integers(code, &f[p + b..p + b + d], head_words::is_high(f), row);
-    Verdict::Accepted // the row holds all S samples
+    Ok(()) // the row holds all S samples
 }

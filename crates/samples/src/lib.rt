@@ -7,20 +7,22 @@
 ghost use Rattle.std.specs.Prelude.{◌≡◌, length};
 ghost use Rattle.reader.specs.Questions.{integers_answer, integers_left, bits_answer, patterns_left, classes_left};
 
-use block::TraceAnswer;
-use refusal::Verdict;
+use refusal::Refusal;
 use text::Manner;
 
 // The samples of a trace of code 1 to 3, into a row of S numbers.
-pub fn integers(buffer: &[u8], n: usize, trace: i32, row: &mut [i32], how: Manner) -> Verdict
+pub fn integers(
+    buffer: &[u8],
+    n: usize,
+    trace: i32,
+    row: &mut [i32],
+    how: Manner,
+) -> Result<(), Refusal>
     ensures answer { result ≡ integers_answer how buffer.now n trace (length row.old) }
     ensures row { row.new ≡ integers_left how buffer.now n trace row.old }
 {
-    let a = block_answers::trace_block(buffer, n, trace, how);
-    match a {
-        TraceAnswer::Refused(r) => Verdict::Refused(r),
-        TraceAnswer::Is(t) => sample_rows::integers(&buffer[..n], t, row),
-    }
+    let t = block_answers::trace_block(buffer, n, trace, how)?;
+    sample_rows::integers(&buffer[..n], t, row)
 }
 
 // The bit patterns of a trace of code 4 or 5 and their classes, into two rows of S elements.
@@ -31,7 +33,7 @@ pub fn bits(
     row: &mut [u64],
     classes: &mut [u8],
     how: Manner,
-) -> Verdict
+) -> Result<(), Refusal>
     ensures answer { result ≡ bits_answer how buffer.now n trace (length row.old)
         (length classes.old) }
     ensures row { row.new ≡ patterns_left how buffer.now n trace row.old
@@ -39,9 +41,6 @@ pub fn bits(
     ensures classes { classes.new
         ≡ classes_left how buffer.now n trace row.old classes.old }
 {
-    let b = block_answers::trace_block(buffer, n, trace, how);
-    match b {
-        TraceAnswer::Refused(r) => Verdict::Refused(r),
-        TraceAnswer::Is(t) => bit_rows::bits(&buffer[..n], t, row, classes),
-    }
+    let x = block_answers::trace_block(buffer, n, trace, how)?;
+    bit_rows::bits(&buffer[..n], x, row, classes)
 }

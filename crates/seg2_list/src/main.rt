@@ -7,7 +7,6 @@
 ghost use Rattle.std.specs.Prelude.{◌≡◌, length};
 ghost use Rattle.std.specs.Io.{ReadsAtMost};
 
-use listing::Listed;
 use std::io;
 use std::io::{Read, Write};
 
@@ -40,8 +39,7 @@ fn read_full<R: Read>(from: &mut R, row: &mut [u8]) -> io::Result<usize>
 
 // What was read, listed.
 fn print<W: Write>(to: &mut W, input: &[u8], out: &mut [u8]) -> io::Result<()> {
-    let answer = listing::program(input, out);
-    if let Listed::To(n) = answer {
+    if let Some(n) = listing::program(input, out) {
         to.write_all(&out[..n])?;
     }
     Ok(())

@@ -3,7 +3,7 @@
 -- 65,500 bytes" (document 01, "What we write"; row 27). `high` is the byte order, t the string terminator, u the line
 -- terminator.
 -- Assumes nothing.
-use Rattle.std.specs.Prelude.{Bool, List, [], ◌∷◌, ℕ, ◌+◌, ◌-◌, replicate, ltb}
+use Rattle.std.specs.Prelude.{Bool, List, [], ◌∷◌, ℕ, ◌+◌, ◌-◌, replicate, ltb, Result, Ok, Err}
 use Rattle.word.specs.Round.{round4}
 use Rattle.refusal.specs.declared.Rule.TheVariants.{AreaSize}
 use Rattle.refusal.specs.declared.Part.TheVariants.{File}
@@ -14,10 +14,8 @@ use Rattle.chars.specs.Chars.{note}
 use Rattle.chars.specs.Runs.{same}
 use Rattle.note.specs.Note.{with_ends}
 use Rattle.strings.specs.Spelled.{Str, size_of, written}
-use Rattle.sheet.specs.declared.Measured as measured
-use Rattle.sheet.specs.declared.Measured.{Measured}
-use Rattle.sheet.specs.declared.Measured.TheVariants.{Size}
 use Rattle.sheet.specs.Lines.{Line, sheet_lines, lines_verdict}
+use Rattle.refusal.specs.declared.Refusal.{Refusal}
 
 -- ---- the strings that lines mean
 
@@ -67,8 +65,8 @@ area_size t u s = round4 (text_size t (sheet_strings u s))
 abbrev pub area_most : ℕ
 area_most = 65500
 
-abbrev pub sized : ℕ → Measured
-sized n = pick (ltb area_most n) (measured.TheVariants.Refused (refusal AreaSize File 0)) (Size n)
+abbrev pub sized : ℕ → Result ℕ Refusal
+sized n = pick (ltb area_most n) (Err (refusal AreaSize File 0)) (Ok n)
 
-unfoldable pub measured_of : List ℕ → List ℕ → List ℕ → Measured
-measured_of t u s = asked measured.TheVariants.Refused (lines_verdict s) (sized (area_size t u s))
+unfoldable pub measured_of : List ℕ → List ℕ → List ℕ → Result ℕ Refusal
+measured_of t u s = asked Err (lines_verdict s) (sized (area_size t u s))

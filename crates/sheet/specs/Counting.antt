@@ -1,6 +1,6 @@
 -- The walk that checks a sheet and counts its area: what holds where a line starts, and a law for each turn.
 -- Assumes nothing.
-use Rattle.std.specs.Prelude.{◌≡◌, Bool, ◌&&◌, ◌||◌, take, drop}
+use Rattle.std.specs.Prelude.{◌≡◌, Bool, ◌&&◌, ◌||◌, take, drop, Ok, Err}
 use Rattle.std.proofs.Math.Path.{refl, sym}
 use Rattle.std.proofs.Common.{ap, ◌∙◌, length-take-le, take-take, drop-drop}
 use Rattle.std.proofs.Math.Bool.{true, false}
@@ -12,24 +12,20 @@ use Rattle.std.proofs.Math.Dec.{ltb}
 use borrow.Author.Tests.{lt-ltb, le-ltb, ltb-true, ne_eqb, eq-eqb}
 use Rattle.word.specs.Part.{part}
 use Rattle.word.specs.Round.{round4}
-use Rattle.refusal.specs.Verdicts.{asked}
+use Rattle.refusal.specs.Verdicts.{asked, accepted}
 use Rattle.refusal.specs.Rows.{pick}
 use Rattle.refusal.specs.Table.{refusal}
 use Rattle.refusal.specs.declared.Refusal.{Refusal}
 use Rattle.refusal.specs.declared.Rule.TheVariants.{AreaSize}
 use Rattle.refusal.specs.declared.Part.TheVariants.{File}
-use Rattle.refusal.specs.declared.Verdict.TheVariants.{Accepted, Refused}
 use Rattle.chars.specs.Chars.{note}
 use Rattle.chars.specs.Runs.{same}
 use Rattle.key_order.specs.Order.{rises, rises_note}
-use Rattle.sheet_line.specs.declared.Step.TheVariants.{Next, Bad}
-use Rattle.sheet.specs.declared.Measured as measured
-use Rattle.sheet.specs.declared.Measured.TheVariants.{Size}
 use Rattle.sheet_line.specs.SheetLine.{line_len, line_key_len, continues, line_step}
-use Rattle.sheet.specs.Lines.{Line, on_line_step, check_from, lines_verdict, sheet_lines_from, sheet_lines}
+use Rattle.sheet.specs.Lines.{Line, on_line_step, check_from, lines_verdict, sheet_lines_from}
 use Rattle.sheet.specs.Area.{area_most, sheet_strings, text_size, area_size, sized, measured_of}
 use Rattle.sheet_line.specs.Judging.{next_told}
-use Rattle.sheet.specs.Sizes.{line_cost, costs, joined_size, capped}
+use Rattle.sheet.specs.Sizes.{line_cost, costs, capped}
 
 -- ---- one line of a walk
 
@@ -42,7 +38,7 @@ pub check_step : (m : ℕ) (prev s : List ℕ) (at : ℕ) → 0 < length s
 unfolding check_from
 check_step m prev s at h = rw (ne_eqb (length s) 0 (omega arith))
 
-pub check_none : (m : ℕ) (prev s : List ℕ) (at : ℕ) → length s ≡ 0 → check_from m prev s at ≡ Accepted
+pub check_none : (m : ℕ) (prev s : List ℕ) (at : ℕ) → length s ≡ 0 → check_from m prev s at ≡ accepted
 unfolding check_from
 check_none zero prev s at h = refl
 check_none (suc m) prev s at h = rw (eq-eqb (length s) 0 h)
@@ -53,7 +49,7 @@ lines_none zero s h = refl
 lines_none (suc m) s h = rw (eq-eqb (length s) 0 h)
 
 -- a step past a line takes it off the list of lines
-pub lines_step : (m : ℕ) (prev s : List ℕ) (at n w : ℕ) → line_step prev s at ≡ Next n w
+pub lines_step : (m : ℕ) (prev s : List ℕ) (at n w : ℕ) → line_step prev s at ≡ Ok (n, w)
     → sheet_lines_from (suc m) s ≡ record { key = take w s; value = drop (w + 1) (take n s) } ∷ sheet_lines_from m (drop (n + 1) s)
 unfolding sheet_lines_from
 lines_step m prev s at n w h =
@@ -94,7 +90,7 @@ pub record Counted (t u s : List ℕ) (at k g n : ℕ) : Type 0 where
   pub told : n ≡ capped exact
   pub whole : exact + costs t u (same (part k g s) note) (sheet_lines_from fuel (drop at s)) ≡ text_size t (sheet_strings u s)
 
-pub turn_fits : (prev s : List ℕ) (at o w : ℕ) → at < length s → line_step prev (drop at s) at ≡ Next o w → (w < o) × (at + o < length s)
+pub turn_fits : (prev s : List ℕ) (at o w : ℕ) → at < length s → line_step prev (drop at s) at ≡ Ok (o, w) → (w < o) × (at + o < length s)
 turn_fits prev s at o w low h =
     let b = next_told prev (drop at s) at o w h in
     let i : w < length (take o (drop at s)) = b.3.within in
@@ -103,7 +99,7 @@ turn_fits prev s at o w low h =
     (omega arith, omega (arith, b.1))
 
 module _ (t u s : List ℕ) (at k g n : ℕ) (c : Counted t u s at k g n) where
-  pub counted_turn : at < length s → (o w x : ℕ) → line_step (part k g s) (drop at s) at ≡ Next o w
+  pub counted_turn : at < length s → (o w x : ℕ) → line_step (part k g s) (drop at s) at ≡ Ok (o, w)
       → x ≡ capped (n + line_cost t u (continues (part k g s) (part at (at + w) s)) w (o - w - 1)) → Counted t u s (at + o + 1) at (at + w) x
   counted_turn low o w x h e = go c.fuel c.enough c.checked c.whole
     where
@@ -141,20 +137,20 @@ module _ (t u s : List ℕ) (at k g n : ℕ) (c : Counted t u s at k g n) where
             whole = omega arith;
           }
 
-  pub counted_bad : at < length s → (r : Refusal) → line_step (part k g s) (drop at s) at ≡ Bad r → measured.TheVariants.Refused r ≡ measured_of t u s
+  pub counted_bad : at < length s → (r : Refusal) → line_step (part k g s) (drop at s) at ≡ Err r → Err r ≡ measured_of t u s
   unfolding measured_of
   counted_bad low r h = go c.fuel c.enough c.checked
     where
       go : (m : ℕ) → length s - at ≤ m → check_from m (part k g s) (drop at s) at ≡ lines_verdict s
-          → measured.TheVariants.Refused r ≡ asked measured.TheVariants.Refused (lines_verdict s) (sized (area_size t u s))
+          → Err r ≡ asked Err (lines_verdict s) (sized (area_size t u s))
       go zero a b = absurd (omega arith)
       go (suc m) a b =
           let long : length (drop at s) ≡ length s - at = length-drop at s in
-          let v : lines_verdict s ≡ Refused r = sym b ∙ check_step m (part k g s) (drop at s) at (omega arith) ∙ rw h in
+          let v : lines_verdict s ≡ Err r = sym b ∙ check_step m (part k g s) (drop at s) at (omega arith) ∙ rw h in
           rw v
 
   -- where no line is left all is counted
-  counted_all : length s ≤ at → (lines_verdict s ≡ Accepted) × (text_size t (sheet_strings u s) ≡ c.exact)
+  counted_all : length s ≤ at → (lines_verdict s ≡ accepted) × (text_size t (sheet_strings u s) ≡ c.exact)
   unfolding costs
   counted_all h =
       let none : length (drop at s) ≡ 0 = length-drop at s ∙ (let z : length s - at ≡ 0 = omega arith in z) in (
@@ -166,7 +162,7 @@ module _ (t u s : List ℕ) (at k g n : ℕ) (c : Counted t u s at k g n) where
       no_more true = omega arith
       no_more false = omega arith
 
-  pub counted_large : length s ≤ at → area_most < round4 n → measured.TheVariants.Refused (refusal AreaSize File 0) ≡ measured_of t u s
+  pub counted_large : length s ≤ at → area_most < round4 n → Err (refusal AreaSize File 0) ≡ measured_of t u s
   unfolding measured_of area_size
   counted_large h l =
       let a = counted_all h in
@@ -176,7 +172,7 @@ module _ (t u s : List ℕ) (at k g n : ℕ) (c : Counted t u s at k g n) where
       go true q e = let m = ltb-true area_most c.exact q in omega arith
       go false q e = omega arith
 
-  pub counted_size : length s ≤ at → round4 n ≤ area_most → Size (round4 n) ≡ measured_of t u s
+  pub counted_size : length s ≤ at → round4 n ≤ area_most → Ok (round4 n) ≡ measured_of t u s
   unfolding measured_of area_size
   counted_size h l =
       let a = counted_all h in

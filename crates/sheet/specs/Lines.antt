@@ -2,25 +2,23 @@
 -- sheet_line/SheetLine. A sheet is the list of its bytes; every definition is on the bytes that are left of it, and a
 -- place is carried along only for refusals.
 -- Assumes nothing.
-use Rattle.std.specs.Prelude.{List, [], ◌∷◌, ℕ, zero, suc, ◌+◌, length, take, drop, eqb}
-use Rattle.refusal.specs.declared.Verdict.{Verdict}
-use Rattle.refusal.specs.declared.Verdict.TheVariants.{Accepted, Refused}
+use Rattle.std.specs.Prelude.{List, [], ◌∷◌, ℕ, zero, suc, ◌+◌, length, take, drop, eqb, Result, Ok, Err}
 use Rattle.refusal.specs.Rows.{pick}
-use Rattle.sheet_line.specs.declared.Step.{Step}
-use Rattle.sheet_line.specs.declared.Step.TheVariants.{Next, Bad}
 use Rattle.sheet_line.specs.SheetLine.{line_of, after_line, line_key, line_value, line_step}
+use Rattle.refusal.specs.declared.Refusal.{Refusal}
+use Rattle.refusal.specs.Verdicts.{Verdict, accepted}
 
 -- ---- a whole sheet, "line by line, 25 first"
 
-abbrev pub on_line_step : Step → (ℕ → ℕ → Verdict) → Verdict
-on_line_step (Next n w) next = next n w
-on_line_step (Bad r) next = Refused r
+abbrev pub on_line_step : Result (ℕ × ℕ) Refusal → (ℕ → ℕ → Verdict) → Verdict
+on_line_step (Ok (n, w)) next = next n w
+on_line_step (Err r) next = Err r
 
 -- the lines from s on. The number bounds how many there are; the length of s is enough, for each has a byte
 unfoldable pub check_from : ℕ → List ℕ → List ℕ → ℕ → Verdict
-check_from zero prev s at = Accepted
+check_from zero prev s at = accepted
 check_from (suc m) prev s at =
-    pick (eqb (length s) 0) Accepted (on_line_step (line_step prev s at) (λ n w. check_from m (take w s) (drop (n + 1) s) (at + n + 1)))
+    pick (eqb (length s) 0) accepted (on_line_step (line_step prev s at) (λ n w. check_from m (take w s) (drop (n + 1) s) (at + n + 1)))
 
 unfoldable pub lines_verdict : List ℕ → Verdict
 lines_verdict s = check_from (length s) [] s 0

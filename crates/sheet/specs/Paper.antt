@@ -2,22 +2,20 @@
 -- (document 01, "What we write"). Theorems: a sheet passes 25 and 26 exactly where it is such a list's bytes, and that
 -- list is the one that is read off it.
 -- Assumes nothing.
-use Rattle.std.specs.Prelude.{◌≡◌, Bool, true, false, not, ◌&&◌, ◌||◌, List, [], ◌∷◌, ◌++◌, ℕ, zero, suc, ◌+◌, ◌≤◌, ◌<◌, length, get_or, take, drop, eqb}
+use Rattle.std.specs.Prelude.{◌≡◌, Bool, true, false, not, ◌&&◌, ◌||◌, List, [], ◌∷◌, ◌++◌, ℕ, zero, suc, ◌+◌, ◌≤◌, ◌<◌, length, get_or, take, drop, eqb, Result, Ok, Err}
 use Rattle.std.proofs.Math.Path.{refl}
 use Rattle.std.proofs.Common.{sym, ap, ap₂, ◌∙◌, append_assoc, le_refl, add-one, arith, length-append, length-drop, take-append-drop, length-take-le, drop-cons, take-take, eqb-true}
 use Rattle.std.proofs.Math.Seq.{take-append_seam, drop-append-add, get_or-append_seam, split_at}
 use Rattle.std.proofs.lemmas.Bool.{not-false}
-use Rattle.refusal.specs.declared.Verdict.TheVariants.{Accepted}
-use Rattle.strings.specs.declared.Judged.TheVariants.{Keyword}
 use Rattle.chars.specs.Chars.{in_line, key_char}
 use Rattle.chars.specs.Runs.{run, all, Stops, all_append, all_weaker, run_all, run_stops, run_append}
 use Rattle.key_order.specs.Order.{rises}
-use Rattle.sheet_line.specs.declared.Step.{Step}
-use Rattle.sheet_line.specs.declared.Step.TheVariants.{Next, Bad}
 use Rattle.sheet_line.specs.SheetLine.{plain, line_len, line_key_len, spaced, continues, line_judged, line_step}
 use Rattle.sheet.specs.Lines.{Line, on_line_step, check_from, lines_verdict, sheet_lines_from, sheet_lines}
 use Rattle.sheet_line.specs.Judging.{Told, judged_good, step_good, next_told}
 use Rattle.sheet.specs.Counting.{check_step, check_none, lines_none, lines_step}
+use Rattle.refusal.specs.declared.Refusal.{Refusal}
+use Rattle.refusal.specs.Verdicts.{accepted}
 
 -- "keyword (as above), tab, value", and 0Ah behind each
 abbrev pub bytes_of_line : Line → List ℕ
@@ -105,7 +103,7 @@ module _ {prev : List ℕ} {l : Line} (good : GoodLine prev l) where
   pub value_back : drop (length l.key + 1) (bytes_of_line l) ≡ l.value
   value_back = drop-append-add l.key (9 ∷ l.value) 1
 
-  good_judged : line_judged prev (bytes_of_line l) ≡ Keyword (length l.key)
+  good_judged : line_judged prev (bytes_of_line l) ≡ Ok (length l.key)
   good_judged =
       sym
       (judged_good prev (bytes_of_line l) (length l.key) (sym good_key) good.some
@@ -114,7 +112,7 @@ module _ {prev : List ℕ} {l : Line} (good : GoodLine prev l) where
       (rw (value_back, key_back) (opens_so (spaced l.value) (continues prev l.key) good.opens))
       (rw key_back (follows_so (continues prev l.key) (rises prev l.key) good.follows)))
 
-  pub good_step : (r : List ℕ) (at : ℕ) → line_step prev (bytes_of_line l ++ (10 ∷ r)) at ≡ Next (length (bytes_of_line l)) (length l.key)
+  pub good_step : (r : List ℕ) (at : ℕ) → line_step prev (bytes_of_line l ++ (10 ∷ r)) at ≡ Ok (length (bytes_of_line l), length l.key)
   good_step r at =
       let b : List ℕ = bytes_of_line l in
       let a = length-append b (10 ∷ r) in
@@ -135,21 +133,21 @@ line_value_lem l r = rw (take-append_seam (bytes_of_line l) (10 ∷ r)) (drop-ap
 -- ---- good lines are accepted, and read off again
 
 good_from : (m : ℕ) (prev : List ℕ) (ls : List Line) (at : ℕ) → GoodLines prev ls → length (sheet_of ls) ≤ m
-    → (check_from m prev (sheet_of ls) at ≡ Accepted) × (sheet_lines_from m (sheet_of ls) ≡ ls)
+    → (check_from m prev (sheet_of ls) at ≡ accepted) × (sheet_lines_from m (sheet_of ls) ≡ ls)
 unfolding sheet_of
 good_from m prev [] at g h = (check_none m prev [] at refl, lines_none m [] refl)
 good_from zero prev (l ∷ ls) at g h = absurd (let a = length-append (bytes_of_line l) (10 ∷ sheet_of ls) in omega arith)
 good_from (suc m) prev (l ∷ ls) at g h =
     let b : List ℕ = bytes_of_line l in
     let a : length (b ++ (10 ∷ sheet_of ls)) ≡ length b + suc (length (sheet_of ls)) = length-append b (10 ∷ sheet_of ls) in
-    let s : line_step prev (b ++ (10 ∷ sheet_of ls)) at ≡ Next (length b) (length l.key) = good_step g.0 (sheet_of ls) at in
+    let s : line_step prev (b ++ (10 ∷ sheet_of ls)) at ≡ Ok (length b, length l.key) = good_step g.0 (sheet_of ls) at in
     let i = good_from m l.key ls (at + length b + 1) g.1 (omega arith) in (
       check_step m prev (b ++ (10 ∷ sheet_of ls)) at (omega arith) ∙ rw (s, line_key_lem l (sheet_of ls), after_line_lem b (sheet_of ls)) i.0,
       lines_step m prev (b ++ (10 ∷ sheet_of ls)) at (length b) (length l.key) s
           ∙ rw (line_key_lem l (sheet_of ls), line_value_lem l (sheet_of ls), after_line_lem b (sheet_of ls), i.1),
     )
 
-pub good_accepted : (ls : List Line) → GoodLines [] ls → lines_verdict (sheet_of ls) ≡ Accepted
+pub good_accepted : (ls : List Line) → GoodLines [] ls → lines_verdict (sheet_of ls) ≡ accepted
 unfolding lines_verdict
 good_accepted ls g = (good_from (length (sheet_of ls)) [] ls 0 g (le_refl (length (sheet_of ls)))).0
 
@@ -160,7 +158,7 @@ lines_read prev ls g = (good_from (length (sheet_of ls)) prev ls 0 g (le_refl (l
 -- ---- what is accepted is good lines
 
 -- a line that was let through is its keyword, a tab and its value, with 0Ah behind
-next_line : (prev s : List ℕ) (at n w : ℕ) → line_step prev s at ≡ Next n w
+next_line : (prev s : List ℕ) (at n w : ℕ) → line_step prev s at ≡ Ok (n, w)
     → (s ≡ bytes_of_line (record { key = take w s; value = drop (w + 1) (take n s) }) ++ (10 ∷ drop (n + 1) s))
     × GoodLine prev (record { key = take w s; value = drop (w + 1) (take n s) })
 unfolding line_len line_key_len
@@ -193,7 +191,7 @@ next_line prev s at n w h =
       },
     )
 
-lined_from : (m : ℕ) (prev s : List ℕ) (at : ℕ) → length s ≤ m → check_from m prev s at ≡ Accepted
+lined_from : (m : ℕ) (prev s : List ℕ) (at : ℕ) → length s ≤ m → check_from m prev s at ≡ accepted
     → (s ≡ sheet_of (sheet_lines_from m s)) × GoodLines prev (sheet_lines_from m s)
 unfolding sheet_of sheet_lines_from
 lined_from zero prev [] at h e = (refl, tt)
@@ -202,12 +200,12 @@ lined_from (suc m) prev [] at h e = (refl, tt)
 lined_from (suc m) prev (b ∷ bs) at h e =
     go (line_step prev (b ∷ bs) at) refl (sym (check_step m prev (b ∷ bs) at (omega arith)) ∙ e) (λ q r j d k. lined_from m q r j d k)
   where
-    go : (st : Step) → line_step prev (b ∷ bs) at ≡ st
-        → on_line_step st (λ n w. check_from m (take w (b ∷ bs)) (drop (n + 1) (b ∷ bs)) (at + n + 1)) ≡ Accepted
-        → ((q r : List ℕ) (j : ℕ) → length r ≤ m → check_from m q r j ≡ Accepted → (r ≡ sheet_of (sheet_lines_from m r)) × GoodLines q (sheet_lines_from m r))
+    go : (st : Result (ℕ × ℕ) Refusal) → line_step prev (b ∷ bs) at ≡ st
+        → on_line_step st (λ n w. check_from m (take w (b ∷ bs)) (drop (n + 1) (b ∷ bs)) (at + n + 1)) ≡ accepted
+        → ((q r : List ℕ) (j : ℕ) → length r ≤ m → check_from m q r j ≡ accepted → (r ≡ sheet_of (sheet_lines_from m r)) × GoodLines q (sheet_lines_from m r))
         → (b ∷ bs ≡ sheet_of (sheet_lines_from (suc m) (b ∷ bs))) × GoodLines prev (sheet_lines_from (suc m) (b ∷ bs))
-    go (Bad r) q k again = let z : ◌≡◌ {A = ℕ} 0 1 = cc in absurd (omega arith)
-    go (Next n w) q k again =
+    go (Err r) q k again = let z : ◌≡◌ {A = ℕ} 0 1 = cc in absurd (omega arith)
+    go (Ok (n, w)) q k again =
         let d = length-drop (n + 1) (b ∷ bs) in
         let i = again (take w (b ∷ bs)) (drop (n + 1) (b ∷ bs)) (at + n + 1) (omega arith) k in
         let p = next_line prev (b ∷ bs) at n w q in
@@ -215,7 +213,7 @@ lined_from (suc m) prev (b ∷ bs) at h e =
         let l : Line = record { key = take w (b ∷ bs); value = drop (w + 1) (take n (b ∷ bs)) } in
         rw ls (p.0 ∙ ap (λ (r : List ℕ). bytes_of_line l ++ (10 ∷ r)) i.0, (p.1, i.1))
 
-pub accepted_lines : (s : List ℕ) → lines_verdict s ≡ Accepted → (s ≡ sheet_of (sheet_lines s)) × GoodLines [] (sheet_lines s)
+pub accepted_lines : (s : List ℕ) → lines_verdict s ≡ accepted → (s ≡ sheet_of (sheet_lines s)) × GoodLines [] (sheet_lines s)
 unfolding lines_verdict sheet_lines
 accepted_lines s e = lined_from (length s) [] s 0 (le_refl (length s)) e
 

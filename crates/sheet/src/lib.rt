@@ -10,35 +10,17 @@ ghost use Rattle.sheet.specs.Area.{area_most, measured_of};
 ghost use Rattle.sheet.specs.Sizes.{line_cost, capped};
 
 use refusal::{Refusal, Rule};
-use sheet_line::Step;
 
 // "An area is at most 65,500 bytes": `area_most` of the definitions. Whatever is over it is counted as one more.
 pub const AREA: usize = 65500;
 
 const OVER: usize = 65501;
 
-// What a sheet answers: the size of its area, or the refusal.
-#[derive(Clone, Copy)]
-pub enum Measured {
-    Size(usize),
-    Refused(Refusal),
-}
-
 // A sum that stops at the limit: whatever is over 65,500 counts as 65,501, so that no sheet is too long to be counted.
 fn add(n: usize, m: usize) -> usize
     ensures { (result ≡ capped (n + m)) × (result ≤ area_most + 1) }
 {
-    if AREA < n {
-        return OVER;
-    }
-    if AREA < m {
-        return OVER;
-    }
-    let s = n + m;
-    if AREA < s {
-        return OVER;
-    }
-    s
+    n.saturating_add(m).min(OVER)
 }
 
 // What a line adds to the area: its keyword has w bytes, its value v, the terminators t and u.
@@ -52,7 +34,7 @@ fn grown(n: usize, more: bool, w: usize, v: usize, t: &[u8], u: &[u8]) -> usize
 }
 
 // The check of a sheet, and the size of the area that it is written as in a file with these terminators.
-pub fn measure(sheet: &[u8], t: &[u8], u: &[u8]) -> Measured
+pub fn measure(sheet: &[u8], t: &[u8], u: &[u8]) -> Result<usize, Refusal>
     ensures { result ≡ measured_of t.now u.now sheet.now }
 {
     let mut at: usize = 0;
@@ -60,25 +42,18 @@ pub fn measure(sheet: &[u8], t: &[u8], u: &[u8]) -> Measured
     let mut g: usize = 0;
     let mut n: usize = 2;
     while at < sheet.len() {
-        let s = sheet_line::step_at(&sheet[at..], &sheet[k..g], at);
-        match s {
-            Step::Bad(r) => {
-                return Measured::Refused(r);
-            }
-            Step::Next(o, w) => {
-                let e = at + w;
-                let more = sheet_line::is_continued(&sheet[k..g], &sheet[at..e]);
-                n = grown(n, more, w, o - w - 1, t, u);
-                k = at;
-                g = e;
-                at = at + o + 1;
-            }
-        }
+        let (o, w) = sheet_line::step_at(&sheet[at..], &sheet[k..g], at)?;
+        let e = at + w;
+        let more = sheet_line::is_continued(&sheet[k..g], &sheet[at..e]);
+        n = grown(n, more, w, o - w - 1, t, u);
+        k = at;
+        g = e;
+        at += o + 1;
     }
     let size = word::round_up(n);
     let over = AREA < size;
     if over {
-        return Measured::Refused(refusal::of_file(Rule::AreaSize, 0));
+        return Err(refusal::of_file(Rule::AreaSize, 0));
     }
-    Measured::Size(size)
+    Ok(size)
 }

@@ -8,7 +8,6 @@ use Rattle.std.proofs.Math.Bool.{true, false}
 use mathlib.Core.List.{List, [], ◌∷◌}
 use Rattle.word.specs.Tests.{never}
 use Rattle.refusal.specs.Rows.{pick}
-use Rattle.refusal.specs.declared.Verdict.TheVariants.{Accepted}
 use Rattle.chars.specs.Chars.{note}
 use Rattle.chars.specs.Runs.{same, same_eq}
 use Rattle.text.specs.declared.Manner.TheVariants.{Strict}
@@ -22,6 +21,7 @@ use Rattle.channel.specs.Count.{count_in}
 use Rattle.channel.specs.Channel.{channel_number, keeps_channel, channel_kept}
 use Rattle.channel_line.specs.ChannelLine.{has_line, value_of_line}
 use Rattle.sheet_channel.specs.SheetChannel.{bad_sheet}
+use Rattle.refusal.specs.Verdicts.{accepted}
 
 -- ---- the string
 
@@ -64,16 +64,16 @@ module _ (key : List ℕ) (other : same note key ≡ false) where
       go false e i = rw (i.0, i.1) (refl, refl)
 
   -- a keyword that is not NOTE's: the sheet means its line
-  pub key_meant : (u s : List ℕ) → lines_verdict s ≡ Accepted
+  pub key_meant : (u s : List ℕ) → lines_verdict s ≡ accepted
       → (has_key Strict (sheet_strings u s) key ≡ has_line (sheet_lines s) key) × (value_of_key Strict (sheet_strings u s) key ≡ value_of_line (sheet_lines s) key)
   unfolding sheet_strings
   key_meant u s h = lines_meant u [] (sheet_lines s) (accepted_lines s h).1
 
-pub has_meant : (u s : List ℕ) → lines_verdict s ≡ Accepted → has_key Strict (sheet_strings u s) channel_number ≡ has_line (sheet_lines s) channel_number
+pub has_meant : (u s : List ℕ) → lines_verdict s ≡ accepted → has_key Strict (sheet_strings u s) channel_number ≡ has_line (sheet_lines s) channel_number
 unfolding same
 has_meant u s h = (key_meant channel_number refl u s h).0
 
-pub value_meant : (u s : List ℕ) → lines_verdict s ≡ Accepted
+pub value_meant : (u s : List ℕ) → lines_verdict s ≡ accepted
     → value_of_key Strict (sheet_strings u s) channel_number ≡ value_of_line (sheet_lines s) channel_number
 unfolding same
 value_meant u s h = (key_meant channel_number refl u s h).1

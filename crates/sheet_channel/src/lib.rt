@@ -12,7 +12,7 @@ pub fn is_bad(sheet: &[u8], free: bool, with: bool) -> bool
     ensures { result ≡ bad_sheet free with sheet.now }
 {
     let l = channel_line::find(sheet);
-    if l.len() == 0 {
+    if l.is_empty() {
         return !free & with;
     }
     channel::is_bad(free | with, true, channel_line::value_of(l))

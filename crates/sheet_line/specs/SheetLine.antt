@@ -2,19 +2,16 @@
 -- value" (document 01, "What we write"; rows 25 and 26). Every definition is on the bytes that are left of the sheet, and
 -- a place is carried along only for refusals.
 -- Assumes nothing.
-use Rattle.std.specs.Prelude.{Bool, not, ◌&&◌, ◌||◌, List, [], ◌∷◌, ℕ, ◌+◌, length, get_or, take, drop, leb, eqb}
+use Rattle.std.specs.Prelude.{Bool, not, ◌&&◌, ◌||◌, List, [], ◌∷◌, ℕ, ◌+◌, length, get_or, take, drop, leb, eqb, Result, Ok, Err}
 use Rattle.refusal.specs.declared.Rule.{Rule}
 use Rattle.refusal.specs.declared.Rule.TheVariants.{SheetLine, SheetOrder}
 use Rattle.refusal.specs.declared.Part.TheVariants.{File}
 use Rattle.refusal.specs.Table.{refusal}
 use Rattle.refusal.specs.Rows.{Rows, pick, ruled}
-use Rattle.strings.specs.declared.Judged.{Judged}
-use Rattle.strings.specs.declared.Judged.TheVariants.{Keyword, Wrong}
 use Rattle.chars.specs.Chars.{key_char, in_line, printed, note}
 use Rattle.chars.specs.Runs.{run, all, same}
 use Rattle.key_order.specs.Order.{rises}
-use Rattle.sheet_line.specs.declared.Step.{Step}
-use Rattle.sheet_line.specs.declared.Step.TheVariants.{Next, Bad}
+use Rattle.refusal.specs.declared.Refusal.{Refusal}
 
 -- "Value codes are 32 to 126": no tab and no other control character
 abbrev pub plain : ℕ → Bool
@@ -63,14 +60,14 @@ line_rows prev l =
     ∷ (not (continues prev (line_key l) || rises prev (line_key l)), SheetOrder)
     ∷ []
 
-unfoldable pub line_judged : List ℕ → List ℕ → Judged
-line_judged prev l = ruled (line_rows prev l) Wrong (Keyword (line_key_len l))
+unfoldable pub line_judged : List ℕ → List ℕ → Result ℕ Rule
+line_judged prev l = ruled (line_rows prev l) Err (Ok (line_key_len l))
 
 -- the place of both is the line's start, the part the file
-abbrev pub on_line_judged : Judged → ℕ → ℕ → Step
-on_line_judged (Keyword w) at n = Next n w
-on_line_judged (Wrong r) at n = Bad (refusal r File at)
+abbrev pub on_line_judged : Result ℕ Rule → ℕ → ℕ → Result (ℕ × ℕ) Refusal
+on_line_judged (Ok w) at n = Ok (n, w)
+on_line_judged (Err r) at n = Err (refusal r File at)
 
 -- "An empty or unfinished line is bad"
-unfoldable pub line_step : List ℕ → List ℕ → ℕ → Step
-line_step prev s at = pick (leb (length s) (line_len s)) (Bad (refusal SheetLine File at)) (on_line_judged (line_judged prev (line_of s)) at (line_len s))
+unfoldable pub line_step : List ℕ → List ℕ → ℕ → Result (ℕ × ℕ) Refusal
+line_step prev s at = pick (leb (length s) (line_len s)) (Err (refusal SheetLine File at)) (on_line_judged (line_judged prev (line_of s)) at (line_len s))

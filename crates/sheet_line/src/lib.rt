@@ -7,16 +7,8 @@ ghost use Rattle.std.specs.Prelude.{◌≡◌, ◌≤◌, length};
 ghost use Rattle.sheet_line.specs.SheetLine.{line_len, spaced, continues, line_judged, line_step};
 
 use chars::Kind;
-use refusal::{Refusal, Rule};
-use strings::Judged;
+use refusal::{Part, Refusal, Rule};
 use text::Manner;
-
-// A step over one line: past it, with its length and its keyword's; or the refusal.
-#[derive(Clone, Copy)]
-pub enum Step {
-    Next(usize, usize),
-    Bad(Refusal),
-}
 
 // The length of the first line, without its end.
 pub fn line_len(s: &[u8]) -> usize
@@ -29,10 +21,7 @@ pub fn line_len(s: &[u8]) -> usize
 fn is_spaced(v: &[u8]) -> bool
     ensures { result ≡ spaced v.now }
 {
-    if v.len() == 0 {
-        return false;
-    }
-    v[0] == 32
+    v.first() == Some(&32)
 }
 
 // Whether a line with the keyword k is a further line of the NOTE before it.
@@ -42,49 +31,38 @@ pub fn is_continued(prev: &[u8], k: &[u8]) -> bool
     key_order::is_note(prev) & key_order::is_note(k)
 }
 
-// Rows 25 and 26 of a line without its end; prev is the keyword before.
-fn judge(l: &[u8], prev: &[u8]) -> Judged
+// Rows 25 and 26 of a line without its end: the length of its keyword, or the rule; prev is the keyword before.
+fn judge(l: &[u8], prev: &[u8]) -> Result<usize, Rule>
     ensures { result ≡ line_judged prev.now l.now }
 {
     let n = key_chars::key_run(l, Manner::Strict);
-    if n == 0 {
-        return Judged::Wrong(Rule::SheetLine);
+    if n == 0 || l.len() <= n || l[n] != 9 {
+        return Err(Rule::SheetLine);
     }
-    if l.len() <= n {
-        return Judged::Wrong(Rule::SheetLine);
-    }
-    if l[n] != 9 {
-        return Judged::Wrong(Rule::SheetLine);
-    }
-    let from = n + 1;
-    let v = &l[from..];
+    let v = &l[n + 1..];
     if !chars::all(Kind::Printed, v) {
-        return Judged::Wrong(Rule::SheetLine);
+        return Err(Rule::SheetLine);
     }
     let k = &l[..n];
     let more = is_continued(prev, k);
-    if is_spaced(v) & !more {
-        return Judged::Wrong(Rule::SheetLine);
+    if is_spaced(v) && !more {
+        return Err(Rule::SheetLine);
     }
-    let rises = key_order::rising(prev, k);
-    let ordered = more | rises;
+    let ordered = more || key_order::rising(prev, k);
     if !ordered {
-        return Judged::Wrong(Rule::SheetOrder);
+        return Err(Rule::SheetOrder);
     }
-    Judged::Keyword(n)
+    Ok(n)
 }
 
-// Rows 25 and 26 of the line that s starts with, at place `at` of the sheet.
-pub fn step_at(s: &[u8], prev: &[u8], at: usize) -> Step
+// Rows 25 and 26 of the line that s starts with, at place `at` of the sheet: the lengths of the line and of its keyword.
+pub fn step_at(s: &[u8], prev: &[u8], at: usize) -> Result<(usize, usize), Refusal>
     ensures { result ≡ line_step prev.now s.now at }
 {
     let n = line_len(s);
     if s.len() <= n {
-        return Step::Bad(refusal::of_file(Rule::SheetLine, at));
+        return Err(refusal::of_file(Rule::SheetLine, at));
     }
-    let j = judge(&s[..n], prev);
-    match j {
-        Judged::Keyword(w) => Step::Next(n, w),
-        Judged::Wrong(rule) => Step::Bad(refusal::of_file(rule, at)),
-    }
+    let w = refusal::placed(judge(&s[..n], prev), Part::File, at)?;
+    Ok((n, w))
 }

@@ -22,13 +22,11 @@ pub fn write_line(part: &mut [u8], high: bool, t: &[u8], l: &[u8], w: usize, to:
     let n = 2 + l.len() + t.len();
     let a = to + 2;
     let b = a + w;
-    let c = b + 1;
     let d = a + l.len();
-    let from = w + 1;
     store::put2(part, high, to, n as u16);
     store_bytes::copy(part, a, &l[..w]);
     store_bytes::copy(part, b, b" ");
-    store_bytes::copy(part, c, &l[from..]);
+    store_bytes::copy(part, b + 1, &l[w + 1..]);
     store_bytes::copy(part, d, t);
     to + n
 }
@@ -54,10 +52,8 @@ fn write_lines(part: &mut [u8], u: &[u8], s: &[u8], to: usize) -> usize
     let mut at: usize = 0;
     let mut end = to;
     while at < s.len() {
-        let n = sheet_line::line_len(&s[at..]);
-        let from = at + 5;
-        let e = at + n;
-        end = write_more(part, u, &s[from..e], end);
+        let e = at + sheet_line::line_len(&s[at..]);
+        end = write_more(part, u, &s[at + 5..e], end);
         at = e + 1;
     }
     end
@@ -76,10 +72,9 @@ pub fn write_note(part: &mut [u8], high: bool, t: &[u8], u: &[u8], s: &[u8], to:
     let a = to + 2;
     let b = a + 5;
     let c = a + n;
-    let from = n + 1;
     store_bytes::copy(part, a, b"NOTE ");
     store_bytes::copy(part, b, &s[5..n]);
-    let e = write_lines(part, u, &s[from..], c);
+    let e = write_lines(part, u, &s[n + 1..], c);
     store_bytes::copy(part, e, t);
     let end = e + t.len();
     store::put2(part, high, to, (end - to) as u16);

@@ -6,7 +6,6 @@ use Rattle.std.proofs.Common.{sym, ap, ap₂, ◌∙◌, append-nil, arith, leng
 use Rattle.word.specs.Part.{part, length_part}
 use Rattle.word.specs.Put.{put, put_none}
 use Rattle.word.specs.Round.{round4}
-use Rattle.refusal.specs.declared.Verdict.TheVariants.{Accepted}
 use Rattle.chars.specs.Chars.{key_char, note}
 use Rattle.chars.specs.Runs.{run, same, same_eq}
 use Rattle.strings.specs.Spelled.{Str, size_of}
@@ -17,6 +16,7 @@ use Rattle.sheet.specs.Counting.{past_line}
 use Rattle.sheet.specs.Paper.{bytes_of_line, accepted_lines}
 use Rattle.sheet_string.specs.StringBytes.{string_bytes, length_string, put_then, Lined, Ahead, lines_over, ahead, line_at}
 use Rattle.sheet_string.specs.StringBytes.{line_of, line_size, Headed}
+use Rattle.refusal.specs.Verdicts.{accepted}
 
 -- strings one behind the other, before the end mark
 unfoldable pub texts_of : Bool → List ℕ → List Str → List ℕ
@@ -35,7 +35,7 @@ texts_size high t (s ∷ ss) =
 -- ---- what the writers ask: `measure` let the sheet through, and there is room
 
 pub record Writable (t u s : List ℕ) (room : ℕ) : Type 0 where
-  pub lines : lines_verdict s ≡ Accepted
+  pub lines : lines_verdict s ≡ accepted
   pub limit : area_size t u s ≤ area_most
   pub fits : area_size t u s ≤ room
 

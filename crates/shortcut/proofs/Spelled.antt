@@ -1,10 +1,7 @@
 -- Theorems on what specs/Spelled defines. They stand here, as a wrong definition there is to be refused and not to be unread.
 -- Assumes nothing.
-use Rattle.std.specs.Prelude.{◌≡◌, refl, Bool, length, drop}
-use Rattle.std.proofs.Common.{ap, ◌∙◌, le_refl, arith}
-use mathlib.Core.List.{List, [], ◌∷◌, ◌++◌, append_assoc}
-use Prim.Native.Nat.{ℕ, zero, suc, ◌+◌, ◌≤◌, ◌<◌}
-use Rattle.std.proofs.Math.ListN.{take, length-append}
+use Rattle.std.specs.Prelude.{◌≡◌, refl, Bool, length, drop, List, [], ◌∷◌, ◌++◌, ℕ, zero, suc, ◌+◌, ◌≤◌, ◌<◌, take}
+use Rattle.std.proofs.Common.{ap, ◌∙◌, le_refl, arith, append_assoc, length-append}
 use Rattle.std.proofs.Math.Seq.{take-append_seam}
 use Rattle.std.proofs.lemmas.Bool.{lt-leb}
 use Rattle.word.specs.Tests.{never}

@@ -1,39 +1,27 @@
 -- Theorems on what specs/Strings defines. They stand here, as a wrong definition there is to be refused and not to be unread.
 -- Assumes nothing.
-use Rattle.std.proofs.Math.Path.{◌≡◌, refl, sym}
-use Rattle.std.proofs.Common.{◌∙◌}
-use Rattle.std.specs.Prelude.{Bool, drop}
-use Rattle.std.proofs.Math.Bool.{true, false}
-use mathlib.Core.List.{List, [], ◌∷◌}
-use Prim.Native.Nat.{ℕ, zero, suc, ◌+◌, ◌-◌, ◌≤◌, ◌<◌}
-use Rattle.std.proofs.Math.Nat.{lt_of_not-le}
+use Rattle.std.specs.Prelude.{◌≡◌, Result, Ok, Err, Option, Some, None, Bool, drop, true, false, List, [], ◌∷◌, ℕ, zero, suc, ◌+◌, ◌-◌, ◌≤◌, ◌<◌, length, take, leb, eqb}
+use Rattle.std.proofs.Common.{refl, sym, ◌∙◌, lt_of_not-le, arith, length-drop, leb-true, leb-false, lt-ltb, le-ltb, le-leb, ne_eqb}
 use Rattle.std.proofs.Math.Decide.{dec_le}
-use native.Mathlib.Omega.{arith}
-use Rattle.std.proofs.Math.ListN.{length, take, length-drop}
-use Rattle.std.proofs.Math.Dec.{leb, eqb}
-use borrow.Author.Tests.{leb-true, leb-false, lt-ltb, le-ltb, le-leb, ne_eqb}
 use Rattle.word.specs.Tests.{both, never}
 use Rattle.refusal.specs.Rows.{pick}
 use Rattle.refusal.specs.declared.Part.{Part}
 use Rattle.text.specs.declared.Manner.TheVariants.{Strict}
-use Rattle.strings.specs.declared.Frame.{Frame}
-use Rattle.strings.specs.declared.Frame.TheVariants.{End, Text, Broken}
-use Rattle.strings.specs.declared.Step.{Step}
-use Rattle.strings.specs.declared.Step.TheVariants.{Next, Done, Bad}
 use Rattle.strings.specs.declared.Place.{Place}
 use Rattle.strings.specs.Strings.{offset, body, frame_of, on_frame, step_of, place_of, on_text, places_from, places_of}
 use Rattle.strings.specs.Frames.{frame_short, frame_end, frame_small, frame_past}
 use Rattle.strings.specs.Walks.{in_frame, next_fits, done_frame}
-use Rattle.strings.proofs.Walks.{place_fits}
-use Rattle.strings.proofs.Walks.{next_bounds}
+use Rattle.strings.proofs.Walks.{place_fits, next_bounds}
 use Rattle.ignored.specs.Areas.{offset_same, part_same, front_same, rest_same, drop_long}
 use Rattle.until.specs.declared.Turn.{Turn}
 use Rattle.until.specs.declared.Turn.TheVariants.{Here, Gone, On}
 use Rattle.until.specs.declared.Walked.{Walked}
-use Rattle.until.specs.declared.Walked.TheVariants as walked
 use Rattle.until.specs.Until.{to_end, on_turn, on_step, walk_from, walk_of}
 use Rattle.shortcut.specs.Read.{reaches, string_read, read_from, read_of}
 use Rattle.shortcut.specs.Strings.{offset_read}
+use Rattle.refusal.specs.declared.Refusal.{Refusal}
+use Rattle.refusal.specs.declared.Rule.{Rule}
+use Rattle.until.specs.declared.Walked.TheVariants as walked
 
 module _ (high : Bool) (t : List ℕ) where
   -- ---- one string
@@ -52,7 +40,7 @@ module _ (high : Bool) (t : List ℕ) where
       let b = both (leb (3 + length t) (offset high l)) (leb (offset high l) (length l)) w in
       (leb-true _ _ b.0, leb-true _ _ b.1)
 
-  reach_so : (l : List ℕ) (o : ℕ) → frame_of Strict high t l ≡ Text o → (2 ≤ length l) × (reaches high t l ≡ true) × (offset high l ≡ o)
+  reach_so : (l : List ℕ) (o : ℕ) → frame_of Strict high t l ≡ Ok (Some o) → (2 ≤ length l) × (reaches high t l ≡ true) × (offset high l ≡ o)
   reach_so l o f =
       let i = in_frame Strict high t l o f in
       (i.two, rw (i.told, le-leb (3 + length t) o i.low, le-leb o (length l) i.fit), i.told)
@@ -124,10 +112,10 @@ module _ (high : Bool) (t : List ℕ) where
         go true w two = in_same l r n (offset_alike two) (rw (whole_read l two w) at q)
         go false w two = out_same l r n two (offset_alike two) w
 
-    text_alike : (o : ℕ) → frame_of Strict high t l ≡ Text o → take o l ≡ take o r
+    text_alike : (o : ℕ) → frame_of Strict high t l ≡ Ok (Some o) → take o l ≡ take o r
     text_alike o f = let w = reach_so l o f in rw (whole_read l w.0 w.1, w.2) at q
 
-    body_alike : (o : ℕ) → frame_of Strict high t l ≡ Text o → body t o l ≡ body t o r
+    body_alike : (o : ℕ) → frame_of Strict high t l ≡ Ok (Some o) → body t o l ≡ body t o r
     unfolding body
     body_alike o f = part_same 2 (o - length t) o l r (omega arith) (text_alike o f)
 
@@ -137,13 +125,13 @@ module _ (high : Bool) (t : List ℕ) where
     unfolding step_of on_frame
     step_alike prev l r at n q = rw (← frame_alike l r n q) (go (frame_of Strict high t l) refl)
       where
-        go : (w : Frame) → frame_of Strict high t l ≡ w → on_frame Strict w t u prev l p at ≡ on_frame Strict w t u prev r p at
-        go End f = refl
-        go (Broken b) f = refl
-        go (Text o) f = rw (body_alike l r n q o f)
+        go : (w : Result (Option ℕ) Rule) → frame_of Strict high t l ≡ w → on_frame Strict w t u prev l p at ≡ on_frame Strict w t u prev r p at
+        go (Ok None) f = refl
+        go (Err b) f = refl
+        go (Ok (Some o)) f = rw (body_alike l r n q o f)
 
     -- a step past a string has read it
-    next_read : (prev l : List ℕ) (at o k : ℕ) → step_of Strict high t u p prev l at ≡ Next o k → string_read high t l ≡ o
+    next_read : (prev l : List ℕ) (at o k : ℕ) → step_of Strict high t u p prev l at ≡ Ok (Some (o, k)) → string_read high t l ≡ o
     next_read prev l at o k h =
         let w = reach_so l o (next_fits Strict high t u p prev l at o k h).0 in
         whole_read l w.0 w.1 ∙ w.2
@@ -153,12 +141,12 @@ module _ (high : Bool) (t : List ℕ) where
       abbrev More : ℕ → ℕ → List ℕ → ℕ → ℕ → ℕ → ℕ
       More m j l at o k = on_turn (look j (take k (drop 2 l))) 0 0 (read_from look m high t u p (j + 1) (take k (drop 2 l)) (drop o l) (at + o))
 
-      abbrev Walk : ℕ → ℕ → List ℕ → ℕ → ℕ → ℕ → Walked
+      abbrev Walk : ℕ → ℕ → List ℕ → ℕ → ℕ → ℕ → Result Walked Refusal
       Walk m j l at o k =
-          on_turn (look j (take k (drop 2 l))) (walked.At (place_of t o l at)) (walked.Over j)
+          on_turn (look j (take k (drop 2 l))) (Ok (walked.At (place_of t o l at))) (Ok (walked.Over j))
           (walk_from look m high t u p (j + 1) (take k (drop 2 l)) (drop o l) (at + o))
 
-      pub read_next : (m j : ℕ) (prev l : List ℕ) (at o k : ℕ) → step_of Strict high t u p prev l at ≡ Next o k
+      pub read_next : (m j : ℕ) (prev l : List ℕ) (at o k : ℕ) → step_of Strict high t u p prev l at ≡ Ok (Some (o, k))
           → read_from look (suc m) high t u p j prev l at ≡ o + More m j l at o k
       unfolding read_from
       read_next m j prev l at o k h = rw (h, next_read prev l at o k h)
@@ -185,23 +173,23 @@ module _ (high : Bool) (t : List ℕ) where
               → take (read_from look m high t u p (j + 1) prev l at) l ≡ take (read_from look m high t u p (j + 1) prev l at) r
               → walk_from look m high t u p (j + 1) prev l at ≡ walk_from look m high t u p (j + 1) prev r at
 
-          goes_on : (o k : ℕ) → frame_of Strict high t l ≡ Text o → (w : Turn)
+          goes_on : (o k : ℕ) → frame_of Strict high t l ≡ Ok (Some o) → (w : Turn)
               → take (o + on_turn w 0 0 (read_from look m high t u p (j + 1) (take k (drop 2 l)) (drop o l) (at + o))) l
               ≡ take (o + on_turn w 0 0 (read_from look m high t u p (j + 1) (take k (drop 2 l)) (drop o l) (at + o))) r
               → Again
-              → on_turn w (walked.At (place_of t o l at)) (walked.Over j) (walk_from look m high t u p (j + 1) (take k (drop 2 l)) (drop o l) (at + o))
-              ≡ on_turn w (walked.At (place_of t o r at)) (walked.Over j) (walk_from look m high t u p (j + 1) (take k (drop 2 l)) (drop o r) (at + o))
+              → on_turn w (Ok (walked.At (place_of t o l at))) (Ok (walked.Over j)) (walk_from look m high t u p (j + 1) (take k (drop 2 l)) (drop o l) (at + o))
+              ≡ on_turn w (Ok (walked.At (place_of t o r at))) (Ok (walked.Over j)) (walk_from look m high t u p (j + 1) (take k (drop 2 l)) (drop o r) (at + o))
           goes_on o k f Here s again = rw (body_alike l r n (read_front m j prev l r at q) o f)
           goes_on o k f Gone s again = refl
           goes_on o k f On s again =
               again (take k (drop 2 l)) (drop o l) (drop o r) (at + o) (drop_long o l r n)
               (rest_same o (read_from look m high t u p (j + 1) (take k (drop 2 l)) (drop o l) (at + o)) l r s)
 
-          go : (st : Step) → step_of Strict high t u p prev l at ≡ st → Again
-              → on_step st walked.Bad (walked.Over j) (λ o k. Walk m j l at o k) ≡ on_step st walked.Bad (walked.Over j) (λ o k. Walk m j r at o k)
-          go Done h again = refl
-          go (Bad x) h again = refl
-          go (Next o k) h again =
+          go : (st : Result (Option (ℕ × ℕ)) Refusal) → step_of Strict high t u p prev l at ≡ st → Again
+              → on_step st Err (Ok (walked.Over j)) (λ o k. Walk m j l at o k) ≡ on_step st Err (Ok (walked.Over j)) (λ o k. Walk m j r at o k)
+          go (Ok None) h again = refl
+          go (Err x) h again = refl
+          go (Ok (Some (o, k))) h again =
               let f = (next_fits Strict high t u p prev l at o k h).0 in
               let b = next_bounds Strict high t u p prev l at o k h in
               let g = text_alike l r n (read_front m j prev l r at q) o f in
@@ -225,12 +213,12 @@ module _ (high : Bool) (t : List ℕ) where
           more o Gone x h i = omega arith
           more o On x h i = omega (arith, length-drop o l)
 
-          go : (st : Step) → step_of Strict high t u p prev l at ≡ st
+          go : (st : Result (Option (ℕ × ℕ)) Refusal) → step_of Strict high t u p prev l at ≡ st
               → ((o k : ℕ) → read_from look m high t u p (j + 1) (take k (drop 2 l)) (drop o l) (at + o) ≤ length (drop o l))
               → string_read high t l + on_step st (λ r. 0) 0 (λ o k. More m j l at o k) ≤ length l
-          go Done h again = omega (arith, read_most l)
-          go (Bad x) h again = omega (arith, read_most l)
-          go (Next o k) h again =
+          go (Ok None) h again = omega (arith, read_most l)
+          go (Err x) h again = omega (arith, read_most l)
+          go (Ok (Some (o, k))) h again =
               let b = next_bounds Strict high t u p prev l at o k h in
               rw (next_read prev l at o k h)
               (more o (look j (take k (drop 2 l))) (read_from look m high t u p (j + 1) (take k (drop 2 l)) (drop o l) (at + o)) b.1 (again o k))
@@ -243,7 +231,7 @@ module _ (high : Bool) (t : List ℕ) where
         abbrev EndsWith : ℕ → ℕ → Type 0
         EndsWith at x = (at ≤ s.value) × (s.value ≤ s.end) × (s.end + length t ≡ at + x)
 
-        from_ends : (m j : ℕ) (prev l : List ℕ) (at : ℕ) → walk_from look m high t u p j prev l at ≡ walked.At s
+        from_ends : (m j : ℕ) (prev l : List ℕ) (at : ℕ) → walk_from look m high t u p j prev l at ≡ Ok (walked.At s)
             → EndsWith at (read_from look m high t u p j prev l at)
         unfolding walk_from
         from_ends zero j prev l at q = let z : ◌≡◌ {A = ℕ} 0 1 = cc in absurd (omega arith)
@@ -253,10 +241,10 @@ module _ (high : Bool) (t : List ℕ) where
             here : (r : Place) → r ≡ s → (o x : ℕ) → (at ≤ r.value) × (r.value ≤ r.end) × (r.end + length t ≡ at + o) → EndsWith at (o + 0)
             here r e o x h = let k = rw e at h in (k.0, k.1, omega (arith, k.2))
 
-            at_string : (o k : ℕ) → frame_of Strict high t l ≡ Text o → (w : Turn)
-                → on_turn w (walked.At (place_of t o l at)) (walked.Over j) (walk_from look m high t u p (j + 1) (take k (drop 2 l)) (drop o l) (at + o))
-                ≡ walked.At s
-                → (walk_from look m high t u p (j + 1) (take k (drop 2 l)) (drop o l) (at + o) ≡ walked.At s
+            at_string : (o k : ℕ) → frame_of Strict high t l ≡ Ok (Some o) → (w : Turn)
+                → on_turn w (Ok (walked.At (place_of t o l at))) (Ok (walked.Over j)) (walk_from look m high t u p (j + 1) (take k (drop 2 l)) (drop o l) (at + o))
+                ≡ Ok (walked.At s)
+                → (walk_from look m high t u p (j + 1) (take k (drop 2 l)) (drop o l) (at + o) ≡ Ok (walked.At s)
                 → EndsWith (at + o) (read_from look m high t u p (j + 1) (take k (drop 2 l)) (drop o l) (at + o)))
                 → EndsWith at (o + on_turn w 0 0 (read_from look m high t u p (j + 1) (take k (drop 2 l)) (drop o l) (at + o)))
             at_string o k f Here c again =
@@ -267,22 +255,22 @@ module _ (high : Bool) (t : List ℕ) where
             at_string o k f Gone c again = let z : ◌≡◌ {A = ℕ} 0 1 = cc in absurd (omega arith)
             at_string o k f On c again = let i = again c in (omega (arith, i.0), i.1, omega (arith, i.2))
 
-            go : (st : Step) → step_of Strict high t u p prev l at ≡ st
-                → on_step st walked.Bad (walked.Over j) (λ o k. Walk m j l at o k) ≡ walked.At s
-                → ((o k : ℕ) → walk_from look m high t u p (j + 1) (take k (drop 2 l)) (drop o l) (at + o) ≡ walked.At s
+            go : (st : Result (Option (ℕ × ℕ)) Refusal) → step_of Strict high t u p prev l at ≡ st
+                → on_step st Err (Ok (walked.Over j)) (λ o k. Walk m j l at o k) ≡ Ok (walked.At s)
+                → ((o k : ℕ) → walk_from look m high t u p (j + 1) (take k (drop 2 l)) (drop o l) (at + o) ≡ Ok (walked.At s)
                 → EndsWith (at + o) (read_from look m high t u p (j + 1) (take k (drop 2 l)) (drop o l) (at + o)))
                 → EndsWith at (read_from look (suc m) high t u p j prev l at)
-            go Done h c again = let z : ◌≡◌ {A = ℕ} 0 1 = cc in absurd (omega arith)
-            go (Bad x) h c again = let z : ◌≡◌ {A = ℕ} 0 1 = cc in absurd (omega arith)
-            go (Next o k) h c again =
+            go (Ok None) h c again = let z : ◌≡◌ {A = ℕ} 0 1 = cc in absurd (omega arith)
+            go (Err x) h c again = let z : ◌≡◌ {A = ℕ} 0 1 = cc in absurd (omega arith)
+            go (Ok (Some (o, k))) h c again =
                 rw (read_next m j prev l at o k h)
                 (at_string o k (next_fits Strict high t u p prev l at o k h).0 (look j (take k (drop 2 l))) c (again o k))
 
-        pub read_ends : (l : List ℕ) (at : ℕ) → walk_of look high t u p l at ≡ walked.At s → EndsWith at (read_of look high t u p l at)
+        pub read_ends : (l : List ℕ) (at : ℕ) → walk_of look high t u p l at ≡ Ok (walked.At s) → EndsWith at (read_of look high t u p l at)
         unfolding walk_of read_of
         read_ends l at q = go (eqb (length l) 0) q
           where
-            go : (w : Bool) → pick w (walked.Over 0) (walk_from look (length l) high t u p 0 [] l at) ≡ walked.At s
+            go : (w : Bool) → pick w (Ok (walked.Over 0)) (walk_from look (length l) high t u p 0 [] l at) ≡ Ok (walked.At s)
                 → EndsWith at (read_from look (length l) high t u p 0 [] l at)
             go true c = let z : ◌≡◌ {A = ℕ} 0 1 = cc in absurd (omega arith)
             go false c = from_ends (length l) 0 [] l at c
@@ -290,30 +278,30 @@ module _ (high : Bool) (t : List ℕ) where
     -- ---- where all strings were passed, their places are alike too
     from_places : (m j : ℕ) (prev l r : List ℕ) (at c : ℕ) → length l ≡ length r
         → take (read_from to_end m high t u p j prev l at) l ≡ take (read_from to_end m high t u p j prev l at) r
-        → walk_from to_end m high t u p j prev l at ≡ walked.Over c → places_from Strict m high t l at ≡ places_from Strict m high t r at
+        → walk_from to_end m high t u p j prev l at ≡ Ok (walked.Over c) → places_from Strict m high t l at ≡ places_from Strict m high t r at
     unfolding walk_from places_from on_text
     from_places zero j prev l r at c n q w = refl
     from_places (suc m) j prev l r at c n q w =
         rw (← frame_alike l r n (read_front to_end m j prev l r at q))
         (go (step_of Strict high t u p prev l at) refl w (λ o k. from_places m (j + 1) (take k (drop 2 l)) (drop o l) (drop o r) (at + o) c))
       where
-        Further : ℕ → ℕ → Walked
+        Further : ℕ → ℕ → Result Walked Refusal
         Further o k = walk_from to_end m high t u p (j + 1) (take k (drop 2 l)) (drop o l) (at + o)
 
-        Both : Frame → Type 0
+        Both : Result (Option ℕ) Rule → Type 0
         Both w =
             on_text w [] (λ o. place_of t o l at ∷ places_from Strict m high t (drop o l) (at + o))
             ≡ on_text w [] (λ o. place_of t o r at ∷ places_from Strict m high t (drop o r) (at + o))
 
-        go : (st : Step) → step_of Strict high t u p prev l at ≡ st → on_step st walked.Bad (walked.Over j) (λ o k. Further o k) ≡ walked.Over c
+        go : (st : Result (Option (ℕ × ℕ)) Refusal) → step_of Strict high t u p prev l at ≡ st → on_step st Err (Ok (walked.Over j)) (λ o k. Further o k) ≡ Ok (walked.Over c)
             → ((o k : ℕ) → length (drop o l) ≡ length (drop o r)
             → take (read_from to_end m high t u p (j + 1) (take k (drop 2 l)) (drop o l) (at + o)) (drop o l)
             ≡ take (read_from to_end m high t u p (j + 1) (take k (drop 2 l)) (drop o l) (at + o)) (drop o r)
-            → Further o k ≡ walked.Over c → places_from Strict m high t (drop o l) (at + o) ≡ places_from Strict m high t (drop o r) (at + o))
+            → Further o k ≡ Ok (walked.Over c) → places_from Strict m high t (drop o l) (at + o) ≡ places_from Strict m high t (drop o r) (at + o))
             → Both (frame_of Strict high t l)
-        go Done h e again = rw (done_frame Strict high t u p prev l at h)
-        go (Bad x) h e again = let z : ◌≡◌ {A = ℕ} 0 1 = cc in absurd (omega arith)
-        go (Next o k) h e again =
+        go (Ok None) h e again = rw (done_frame Strict high t u p prev l at h)
+        go (Err x) h e again = let z : ◌≡◌ {A = ℕ} 0 1 = cc in absurd (omega arith)
+        go (Ok (Some (o, k))) h e again =
             let f = (next_fits Strict high t u p prev l at o k h).0 in
             let b = body_alike l r n (read_front to_end m j prev l r at q) o f in
             let s = rest_same o (read_from to_end m high t u p (j + 1) (take k (drop 2 l)) (drop o l) (at + o)) l r
@@ -321,12 +309,12 @@ module _ (high : Bool) (t : List ℕ) where
             rw (f, b, again o k (drop_long o l r n) s e)
 
     pub places_alike : (l r : List ℕ) (at c : ℕ) → length l ≡ length r → take (read_of to_end high t u p l at) l ≡ take (read_of to_end high t u p l at) r
-        → walk_of to_end high t u p l at ≡ walked.Over c → places_of Strict high t l at ≡ places_of Strict high t r at
+        → walk_of to_end high t u p l at ≡ Ok (walked.Over c) → places_of Strict high t l at ≡ places_of Strict high t r at
     unfolding walk_of read_of places_of places_from
     places_alike l r at c n q w = rw (← n) (go (length l) q w)
       where
         go : (m : ℕ) → take (read_from to_end m high t u p 0 [] l at) l ≡ take (read_from to_end m high t u p 0 [] l at) r
-            → pick (eqb m 0) (walked.Over 0) (walk_from to_end m high t u p 0 [] l at) ≡ walked.Over c
+            → pick (eqb m 0) (Ok (walked.Over 0)) (walk_from to_end m high t u p 0 [] l at) ≡ Ok (walked.Over c)
             → places_from Strict m high t l at ≡ places_from Strict m high t r at
         go zero s v = refl
         go (suc m) s v =

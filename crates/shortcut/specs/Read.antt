@@ -3,13 +3,11 @@
 -- checked)"; so too up to the i-th string, or all of them, and for samples the trace's data. xs is the lent buffer, n the
 -- length given beside it, f the image: the first n bytes.
 -- Assumes nothing.
-use Rattle.std.specs.Prelude.{◌≡◌, Bool, not, ◌&&◌, List, [], ◌∷◌, ℕ, zero, suc, ◌+◌, ◌*◌, ℤ, length, take, drop, ltb, leb}
+use Rattle.std.specs.Prelude.{◌≡◌, Bool, not, ◌&&◌, List, [], ◌∷◌, ℕ, zero, suc, ◌+◌, ◌*◌, ℤ, length, take, drop, ltb, leb, Ok, Err}
 use Rattle.word.specs.Part.{part}
 use Rattle.refusal.specs.declared.Rule.TheVariants.{Length, NoTrace}
 use Rattle.refusal.specs.declared.Part.{Part}
 use Rattle.refusal.specs.declared.Part.TheVariants.{File, Trace}
-use Rattle.refusal.specs.declared.Verdict.{Verdict}
-use Rattle.refusal.specs.declared.Verdict.TheVariants.{Accepted, Refused}
 use Rattle.refusal.specs.Rows.{pick}
 use Rattle.refusal.specs.FirstRow.{row, first_of}
 use Rattle.text.specs.declared.Manner.TheVariants.{Strict}
@@ -25,6 +23,7 @@ use Rattle.image.specs.Keeps.{trace_at}
 use Rattle.until.specs.declared.Turn.{Turn}
 use Rattle.until.specs.Until.{on_turn, on_step}
 use Rattle.reader.specs.Questions.{is_trace, trace_number, block_at, integers_verdict, bits_verdict}
+use Rattle.refusal.specs.Verdicts.{Verdict}
 
 -- ---- of the strings: as many bytes of their area, the first (the arguments are until/Until's)
 
@@ -57,8 +56,8 @@ read_in look f k =
 
 -- spans are read where the check before them was passed
 abbrev pub behind : Verdict → List (ℕ × ℕ) → List (ℕ × ℕ)
-behind Accepted ss = ss
-behind (Refused r) ss = []
+behind (Ok _) ss = ss
+behind (Err r) ss = []
 
 -- the question's own: of the trace's block none more; of its strings as far as it goes; of its samples the data, behind
 -- rows 33 and 32

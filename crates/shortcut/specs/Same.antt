@@ -3,61 +3,33 @@
 -- ys are the lent buffers, n the length given beside each, f and g the images: their first n bytes. The bytes are named
 -- from xs (Read `bytes_read`).
 -- Assumes nothing.
-use Rattle.std.proofs.Math.Path.{◌≡◌, refl, sym, ap}
-use Rattle.std.proofs.Common.{◌∙◌, length-take, take-take}
-use Rattle.std.specs.Prelude.{Bool, true, false, not, ℤ, length, drop}
-use mathlib.Core.List.{List, [], ◌∷◌}
-use Prim.Native.Nat.{ℕ, ◌+◌, ◌-◌, ◌*◌, ◌≤◌, ◌<◌}
-use native.Mathlib.Omega.{arith}
-use Rattle.std.proofs.Math.ListN.{take}
-use Rattle.word.specs.Part.{part, part_front, part_part, length_part}
+use Rattle.std.specs.Prelude.{◌≡◌, Ok, Err, Some, Bool, true, not, ℤ, length, List, [], ◌∷◌, ℕ, ◌+◌, ◌*◌, ◌≤◌, take}
+use Rattle.std.proofs.Common.{refl, sym, ap, ◌∙◌, length-take, arith}
+use Rattle.word.specs.Part.{part, part_front}
 use Rattle.word.specs.Word.{word_at}
 use Rattle.word.specs.WordLaws.{word_part}
-use Rattle.refusal.specs.Verdicts.{asked}
+use Rattle.refusal.specs.Verdicts.{asked, accepted, Verdict}
 use Rattle.refusal.specs.FirstRow.{row, first_of, first_one, passed_met_none, asked_more}
 use Rattle.refusal.specs.declared.Part.TheVariants.{File, Trace}
 use Rattle.refusal.specs.declared.Refusal.{Refusal}
 use Rattle.refusal.specs.declared.Rule.TheVariants.{Length, NoTrace}
-use Rattle.refusal.specs.declared.Verdict.{Verdict}
-use Rattle.refusal.specs.declared.Verdict.TheVariants.{Accepted, Refused}
-use Rattle.strings.specs.declared.Place.{Place}
 use Rattle.head_limits.specs.declared.Purpose.TheVariants.{Read}
 use Rattle.head_words.specs.HeadWords.{high_first, room_of, count_of}
 use Rattle.head.specs.Head.{head_of}
 use Rattle.head.specs.HeadLaws.{Headed, headed, own_order, own_room, own_count, own_good, own_terminator}
 use Rattle.terminators.specs.Terminators.{terminator_at, string_end, line_end, good_terminator}
-use Rattle.block.specs.declared.TraceBlock.{TraceBlock}
-use Rattle.block.specs.declared.TraceAnswer.TheVariants as trace
-use Rattle.block.specs.Block.{pointer_of, block_size_of, data_at, end_at, pointer_row, block_of, block_in, trace_block_of}
+use Rattle.block.specs.Block.{pointer_of, data_at, end_at, pointer_row, block_of}
 use Rattle.block.specs.BlockLaws.{Blocked, head_at, own_block, blocked}
 use Rattle.file_length.specs.FileLength.{bad_length}
 use Rattle.image.specs.Keeps.{trace_at}
-use Rattle.ignored.specs.Images.{part_long}
 use Rattle.text.specs.declared.Manner.TheVariants.{Strict}
-use Rattle.strings.specs.Strings.{value_in}
 use Rattle.until.specs.declared.Turn.{Turn}
-use Rattle.until.specs.declared.Walked.{Walked}
-use Rattle.until.specs.declared.Walked.TheVariants as walked
-use Rattle.until.specs.Until.{by_key, by_index, to_end}
-use Rattle.reader.specs.declared.StringAnswer.{StringAnswer}
-use Rattle.reader.specs.declared.StringAnswer.TheVariants as string
-use Rattle.reader.specs.declared.CountAnswer.{CountAnswer}
-use Rattle.part_number.specs.declared.Whose.TheVariants.{One}
-use Rattle.reader.specs.Questions.{is_trace, trace_number, area_named, places_in, numbers_in, strings_verdict, value_there, on_string, kept}
-use Rattle.reader.specs.Questions.{block_at, integers_verdict, bits_verdict, data_in, samples_in, patterns_in, classes_in, samples_of, patterns_of, classes_of}
-use Rattle.places.specs.Numbers.{numbers_of}
-use Rattle.decimal.specs.Number.{number_in}
-use Rattle.decimal_parts.specs.declared.NumberAnswer.TheVariants as number
-use Rattle.double.specs.Double.{double_of}
-use Rattle.double.specs.declared.DoubleAnswer.TheVariants as double
-use Rattle.location.specs.Location.{location_of}
-use Rattle.location.specs.declared.LocationAnswer.TheVariants as location
-use Rattle.one_trace.specs.Alone.{alone_of, block_alone}
-use Rattle.quick.specs.Quick.{quickly, walk_between, walk_in, told_by, counted_by, quick_walk, quick_find, quick_nth, quick_count, quick_strings, quick_strings_left}
-use Rattle.quick.specs.Quick.{quick_keyword, quick_value, quick_span, quick_read, quick_number, quick_double, quick_location}
-use Rattle.quick.specs.Quick.{quick_integers, quick_integers_left, quick_bits, quick_patterns_left, quick_classes_left}
-use Rattle.quick.specs.QuickLaws.{never_string}
-use Rattle.shortcut.specs.Read.{read_of, read_in, behind, block_read, strings_read, data_read, integers_read, bits_read, bytes_read, Agree}
+use Rattle.until.specs.Until.{to_end}
+use Rattle.reader.specs.Questions.{is_trace, trace_number, area_named, numbers_in, strings_verdict, kept}
+use Rattle.reader.specs.Questions.{block_at}
+use Rattle.one_trace.specs.Alone.{alone_of}
+use Rattle.quick.specs.Quick.{quickly, walk_in, counted_by}
+use Rattle.shortcut.specs.Read.{read_of, behind, strings_read, bytes_read, Agree}
 
 -- the checks before each span (Read `bytes_read`)
 abbrev pub first_row : List ℕ → ℕ → Verdict
@@ -92,9 +64,9 @@ chain {A} bad xs n z x =
 
 -- a check and what is read behind it: both refuse alike, or both go on
 stage : {A : Type 0} (bad : Refusal → A) (f g : List ℕ) (v w : Verdict) (ss : List (ℕ × ℕ)) (x y : A) → v ≡ w → Agree f g (behind v ss)
-    → (v ≡ Accepted → Agree f g ss → x ≡ y) → asked bad v x ≡ asked bad w y
-stage bad f g Accepted w ss x y e a more = rw (← e) (more refl a)
-stage bad f g (Refused r) w ss x y e a more = rw (← e)
+    → (v ≡ accepted → Agree f g ss → x ≡ y) → asked bad v x ≡ asked bad w y
+stage bad f g (Ok _) w ss x y e a more = rw (← e) (more refl a)
+stage bad f g (Err r) w ss x y e a more = rw (← e)
 
 -- ---- what two images share that are alike up to the block's first 32 bytes
 pub record Alike (f g : List ℕ) (k : ℕ) : Type 0 where
@@ -210,7 +182,7 @@ module _ (xs ys : List ℕ) (n : ℕ) (z : ℤ) (long : length xs ≡ length ys)
   -- ---- all of them in a row: where all strings were passed, their places are alike
   module _ (row : List ℕ) (agree : Agree f g (bytes_read (strings_read to_end) xs n z)) where
     abbrev numbers : List ℕ → ℕ → List ℕ
-    numbers f i = numbers_in Strict f (area_named f (One i))
+    numbers f i = numbers_in Strict f (area_named f (Some (Trace i)))
 
     abbrev filled : List ℕ → ℕ → List ℕ
     filled f i = kept (strings_verdict (counted_by (walk_in to_end f i)) (length row)) (numbers f i) row

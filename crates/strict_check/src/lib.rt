@@ -9,11 +9,11 @@ ghost use Rattle.head_limits.specs.declared.Purpose.TheVariants.{Read};
 ghost use Rattle.image.specs.Image.{check_of};
 
 use head_limits::Purpose;
-use refusal::Verdict;
+use refusal::Refusal;
 use text::Manner;
 
 // It is made before the question: then no answer is kept while the file is checked.
-pub fn strictly(buffer: &[u8], n: usize) -> Verdict
+pub fn strictly(buffer: &[u8], n: usize) -> Result<(), Refusal>
     ensures { result ≡ check_of Strict Read buffer.now n }
 {
     image::check(buffer, n, Purpose::Read, Manner::Strict)

@@ -8,93 +8,58 @@ ghost use Rattle.std.specs.Prelude.{◌≡◌};
 ghost use Rattle.reader.specs.Questions.{count_answer, nth_answer};
 ghost use Rattle.reader.specs.Questions.{find_answer, keyword_answer};
 
-use reader::{CountAnswer, KeywordAnswer, Opened, StringAnswer};
-use strings::Found;
+use refusal::Refusal;
+use strings::Place;
 use text::Manner;
 
 // How many strings a part has.
-pub fn string_count(buffer: &[u8], n: usize, part: i32, how: Manner) -> CountAnswer
+pub fn string_count(buffer: &[u8], n: usize, part: i32, how: Manner) -> Result<usize, Refusal>
     ensures { result ≡ count_answer how buffer.now n part }
 {
-    let o = reader::open_area(buffer, n, part, how);
-    match o {
-        Opened::Bad(r) => CountAnswer::Refused(r),
-        Opened::From(a, e) => {
-            let f = &buffer[..n];
-            CountAnswer::Is(lookup::count(
-                f,
-                a,
-                e,
-                head_words::is_high(f),
-                terminators::string_end(f),
-                how,
-            ))
-        }
-    }
-}
-
-// What was found, as an answer.
-fn there(s: Found) -> StringAnswer
-    ensures { result ≡ Rattle.reader.specs.Questions.there s }
-{
-    match s {
-        Found::Nothing => StringAnswer::Absent,
-        Found::Is(p) => StringAnswer::There(p),
-    }
+    let (a, e) = reader::open_area(buffer, n, part, how)?;
+    let f = &buffer[..n];
+    let high = head_words::is_high(f);
+    let t = terminators::string_end(f);
+    Ok(lookup::count(f, a, e, high, t, how))
 }
 
 // The i-th string of a part, counted from 0; past the last there is none.
-pub fn string(buffer: &[u8], n: usize, part: i32, i: usize, how: Manner) -> StringAnswer
+pub fn string(
+    buffer: &[u8],
+    n: usize,
+    part: i32,
+    i: usize,
+    how: Manner,
+) -> Result<Option<Place>, Refusal>
     ensures { result ≡ nth_answer how buffer.now n part i }
 {
-    let o = reader::open_area(buffer, n, part, how);
-    match o {
-        Opened::Bad(r) => StringAnswer::Refused(r),
-        Opened::From(a, e) => {
-            let f = &buffer[..n];
-            there(lookup::nth(
-                f,
-                a,
-                e,
-                head_words::is_high(f),
-                terminators::string_end(f),
-                i,
-                how,
-            ))
-        }
-    }
+    let (a, e) = reader::open_area(buffer, n, part, how)?;
+    let f = &buffer[..n];
+    let high = head_words::is_high(f);
+    let t = terminators::string_end(f);
+    Ok(lookup::nth(f, a, e, high, t, i, how))
 }
 
 // The string with a keyword. Any bytes may be asked for.
-pub fn find(buffer: &[u8], n: usize, part: i32, key: &[u8], how: Manner) -> StringAnswer
+pub fn find(
+    buffer: &[u8],
+    n: usize,
+    part: i32,
+    key: &[u8],
+    how: Manner,
+) -> Result<Option<Place>, Refusal>
     ensures { result ≡ find_answer how buffer.now n part key.now }
 {
-    let o = reader::open_area(buffer, n, part, how);
-    match o {
-        Opened::Bad(r) => StringAnswer::Refused(r),
-        Opened::From(a, e) => {
-            let f = &buffer[..n];
-            there(lookup::find(
-                f,
-                a,
-                e,
-                head_words::is_high(f),
-                terminators::string_end(f),
-                key,
-                how,
-            ))
-        }
-    }
+    let (a, e) = reader::open_area(buffer, n, part, how)?;
+    let f = &buffer[..n];
+    let high = head_words::is_high(f);
+    let t = terminators::string_end(f);
+    Ok(lookup::find(f, a, e, high, t, key, how))
 }
 
 // "A keyword question is two calls: one answers yes, no or the refusal".
-pub fn keyword(buffer: &[u8], n: usize, part: i32, key: &[u8], how: Manner) -> KeywordAnswer
+pub fn keyword(buffer: &[u8], n: usize, part: i32, key: &[u8], how: Manner) -> Result<bool, Refusal>
     ensures { result ≡ keyword_answer how buffer.now n part key.now }
 {
-    let s = find(buffer, n, part, key, how);
-    match s {
-        StringAnswer::There(_) => KeywordAnswer::Yes,
-        StringAnswer::Absent => KeywordAnswer::No,
-        StringAnswer::Refused(r) => KeywordAnswer::Refused(r),
-    }
+    Ok(find(buffer, n, part, key, how)?.is_some())
 }

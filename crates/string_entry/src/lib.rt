@@ -7,34 +7,31 @@ ghost use Rattle.std.specs.Prelude.{◌≡◌, ◌+◌, ◌<◌, length};
 ghost use Rattle.strings.specs.Strings.{entry_of};
 
 use chars::Kind;
-use strings::{Entry, Frame, Place};
+use strings::Place;
 use text::Manner;
 
-// The string that l starts with, at place `at` of the file, for a question.
-pub fn entry_at(l: &[u8], high: bool, t: &[u8], at: usize, how: Manner) -> Entry
+// The string that l starts with, at place `at` of the file, for a question: where it stands and its size, or none.
+pub fn entry_at(l: &[u8], high: bool, t: &[u8], at: usize, how: Manner) -> Option<(Place, usize)>
     requires { at + length l.now < 18446744073709551616 }
     ensures { result ≡ entry_of how high t.now l.now at }
 {
-    let s = strings::framed(l, high, t, how);
-    match s {
-        Frame::End => Entry::Stop,
-        Frame::Broken(_) => Entry::Stop,
-        Frame::Text(o) => {
+    match strings::framed(l, high, t, how) {
+        Ok(Some(o)) => {
             let end = o - t.len();
             let b = &l[2..end];
             let n = chars::run(Kind::Solid, b);
             let m = chars::run(Kind::Blank, &b[n..]);
             let key = at + 2;
             let gap = key + n;
-            Entry::At(
-                Place {
-                    key,
-                    gap,
-                    value: gap + m,
-                    end: at + end,
-                },
-                o,
-            )
+            let place = Place {
+                key,
+                gap,
+                value: gap + m,
+                end: at + end,
+            };
+            Some((place, o))
         }
+        Ok(None) => None,
+        Err(_) => None,
     }
 }

@@ -1,23 +1,16 @@
 -- The walks over a NOTE's lines and an area's strings: a law for each turn.
 -- Assumes nothing.
 use Rattle.std.proofs.Math.Path.{◌≡◌, refl, ap}
-use Rattle.std.proofs.Common.{sym, ◌∙◌, le-leb}
-use Rattle.std.specs.Prelude.{Bool, false}
+use Rattle.std.proofs.Common.{sym, ◌∙◌, le-leb, Result, Ok, Err, Option, Some, None, arith}
+use Rattle.std.specs.Prelude.{Bool, false, List, [], ◌∷◌, ◌++◌, ℕ, zero, suc, ◌+◌, ◌-◌, ◌≤◌, ◌<◌}
 use Rattle.std.proofs.Math.Bool.{true}
-use mathlib.Core.List.{List, [], ◌∷◌, ◌++◌}
-use Prim.Native.Nat.{ℕ, zero, suc, ◌+◌, ◌-◌, ◌≤◌, ◌<◌}
-use native.Mathlib.Omega.{arith}
 use Rattle.std.proofs.Math.ListN.{length, drop, length-drop}
 use Rattle.std.proofs.Math.Seq.{drop-drop}
 use Rattle.std.proofs.lemmas.Bool.{lt-leb}
 use Rattle.text.specs.declared.Manner.TheVariants.{Strict}
 use Rattle.word.specs.Part.{part, length_part}
 use Rattle.refusal.specs.declared.Part.{Part}
-use Rattle.strings.specs.declared.Frame.{Frame}
-use Rattle.strings.specs.declared.Frame.TheVariants.{End, Text, Broken}
 use Rattle.strings.specs.declared.Place.{Place}
-use Rattle.strings.specs.declared.Found.TheVariants.{Nothing, Is}
-use Rattle.strings.specs.declared.Entry.TheVariants.{Stop, At}
 use Rattle.chars.specs.Runs.{same}
 use Rattle.note_line.specs.NoteLine.{starts, line_len, line_ends, starts_fits}
 use Rattle.note.specs.Note.{lines_of}
@@ -28,6 +21,7 @@ use Rattle.strings.proofs.Walks.{place_bounds}
 use Rattle.strings.specs.Spelled.{strs_in}
 use Rattle.lines.specs.Lines.{string_line}
 use Rattle.string_lines.specs.StringLines.{lines_text, values_of, strings_text}
+use Rattle.refusal.specs.declared.Rule.{Rule}
 
 -- ---- the lines of a NOTE: e is where the line from `from` on ends
 module _ (u v : List ℕ) (from e m : ℕ) (told : e ≡ from + line_len u (drop from v)) (enough : length (drop from v) ≤ m) where
@@ -92,54 +86,54 @@ abbrev pub line_text : Part → List ℕ → List ℕ → Place → List ℕ
 line_text p u f s = lines_text p (key_in f s) (values_of u (key_in f s) (value_in f s))
 
 module _ (p : Part) (u f : List ℕ) (high : Bool) (t : List ℕ) (e at m : ℕ) (low : at < e) (fits : e ≤ length f) (enough : e - at ≤ m) where
-  first_of : (s : Place) → nth_of (places_of Strict high t (part at e f) at) 0 ≡ Is s
-      → (o : ℕ) × (entry_of Strict high t (part at e f) at ≡ At s o) × (s.end + length t ≡ at + o)
+  first_of : (s : Place) → nth_of (places_of Strict high t (part at e f) at) 0 ≡ Some s
+      → (o : ℕ) × (entry_of Strict high t (part at e f) at ≡ Some (s, o)) × (s.end + length t ≡ at + o)
   unfolding places_of nth_of places_from entry_of on_text
   first_of s h = sized (length (part at e f)) (length_part at e f fits) h
     where
-      go : (w : Frame) → frame_of Strict high t (part at e f) ≡ w → (m : ℕ)
-          → nth_of (on_text w [] (λ o. place_of t o (part at e f) at ∷ places_from Strict m high t (drop o (part at e f)) (at + o))) 0 ≡ Is s
-          → (o : ℕ) × (on_text w Stop (λ o. At (place_of t o (part at e f) at) o) ≡ At s o) × (s.end + length t ≡ at + o)
-      go End q m k = let y : ◌≡◌ {A = ℕ} 0 1 = cc in absurd (omega arith)
-      go (Broken r) q m k = let y : ◌≡◌ {A = ℕ} 0 1 = cc in absurd (omega arith)
-      go (Text o) q m k =
+      go : (w : Result (Option ℕ) Rule) → frame_of Strict high t (part at e f) ≡ w → (m : ℕ)
+          → nth_of (on_text w [] (λ o. place_of t o (part at e f) at ∷ places_from Strict m high t (drop o (part at e f)) (at + o))) 0 ≡ Some s
+          → (o : ℕ) × (on_text {A = Option (Place × ℕ)} w None (λ o. Some (place_of t o (part at e f) at, o)) ≡ Some (s, o)) × (s.end + length t ≡ at + o)
+      go (Ok None) q m k = let y : ◌≡◌ {A = ℕ} 0 1 = cc in absurd (omega arith)
+      go (Err r) q m k = let y : ◌≡◌ {A = ℕ} 0 1 = cc in absurd (omega arith)
+      go (Ok (Some o)) q m k =
           let y : place_of t o (part at e f) at ≡ s = cc in
           let i = in_frame Strict high t (part at e f) o q in
           let z : at + (o - length t) ≡ s.end = ap (λ (r : Place). r.end) y in
-          (o, ap (λ (r : Place). At r o) y, omega (arith, i.low, z))
+          (o, ap (λ (r : Place). Some (r, o)) y, omega (arith, i.low, z))
 
-      sized : (n : ℕ) → n ≡ e - at → nth_of (places_from Strict n high t (part at e f) at) 0 ≡ Is s
-          → (o : ℕ) × (entry_of Strict high t (part at e f) at ≡ At s o) × (s.end + length t ≡ at + o)
+      sized : (n : ℕ) → n ≡ e - at → nth_of (places_from Strict n high t (part at e f) at) 0 ≡ Some s
+          → (o : ℕ) × (entry_of Strict high t (part at e f) at ≡ Some (s, o)) × (s.end + length t ≡ at + o)
       sized zero q k = absurd (omega arith)
       sized (suc n) q k = go (frame_of Strict high t (part at e f)) refl n k
 
-  pub string_in : (s : Place) → nth_of (places_of Strict high t (part at e f) at) 0 ≡ Is s
+  pub string_in : (s : Place) → nth_of (places_of Strict high t (part at e f) at) 0 ≡ Some s
       → PlaceIn e s × (at < s.end + length t) × (s.end + length t ≤ e)
   string_in s h =
       let w = first_of s h in
       let b = place_bounds Strict high t f e at m low fits enough s w.0 w.1 in
       (b.2, omega (arith, b.0, w.2), omega (arith, b.1, w.2))
 
-  pub string_next : (s : Place) → nth_of (places_of Strict high t (part at e f) at) 0 ≡ Is s
+  pub string_next : (s : Place) → nth_of (places_of Strict high t (part at e f) at) 0 ≡ Some s
       → text_from p u f high t e at m ≡ line_text p u f s ++ text_from p u f high t e (s.end + length t) (m - 1)
   unfolding strings_text
   string_next s h =
       let w = first_of s h in
       ap (λ (ps : List Place). strings_text p u (strs_in f ps)) (place_next Strict high t f e at m low fits enough s w.0 w.1) ∙ rw w.2
 
-  pub string_none : nth_of (places_of Strict high t (part at e f) at) 0 ≡ Nothing → text_from p u f high t e at m ≡ []
+  pub string_none : nth_of (places_of Strict high t (part at e f) at) 0 ≡ None → text_from p u f high t e at m ≡ []
   unfolding strings_text places_of nth_of places_from entry_of on_text
   string_none h = ap (λ (ps : List Place). strings_text p u (strs_in f ps))
       (sym (place_stop Strict high t f e at m low fits enough (sized (length (part at e f)) (length_part at e f fits) h)))
     where
-      go : (w : Frame) → (m : ℕ)
-          → nth_of (on_text w [] (λ o. place_of t o (part at e f) at ∷ places_from Strict m high t (drop o (part at e f)) (at + o))) 0 ≡ Nothing
-          → on_text w Stop (λ o. At (place_of t o (part at e f) at) o) ≡ Stop
-      go End m k = refl
-      go (Broken r) m k = refl
-      go (Text o) m k = let y : ◌≡◌ {A = ℕ} 0 1 = cc in absurd (omega arith)
+      go : (w : Result (Option ℕ) Rule) → (m : ℕ)
+          → nth_of (on_text w [] (λ o. place_of t o (part at e f) at ∷ places_from Strict m high t (drop o (part at e f)) (at + o))) 0 ≡ None
+          → on_text {A = Option (Place × ℕ)} w None (λ o. Some (place_of t o (part at e f) at, o)) ≡ None
+      go (Ok None) m k = refl
+      go (Err r) m k = refl
+      go (Ok (Some o)) m k = let y : ◌≡◌ {A = ℕ} 0 1 = cc in absurd (omega arith)
 
-      sized : (n : ℕ) → n ≡ e - at → nth_of (places_from Strict n high t (part at e f) at) 0 ≡ Nothing → entry_of Strict high t (part at e f) at ≡ Stop
+      sized : (n : ℕ) → n ≡ e - at → nth_of (places_from Strict n high t (part at e f) at) 0 ≡ None → entry_of Strict high t (part at e f) at ≡ None
       sized zero q k = absurd (omega arith)
       sized (suc n) q k = go (frame_of Strict high t (part at e f)) n k
 

@@ -1,6 +1,6 @@
 -- What a walk has written, and what is left: of a NOTE's lines and of an area's strings.
 -- Assumes nothing.
-use Rattle.std.specs.Prelude.{◌≡◌, Bool, List, ◌++◌, ℕ, ◌+◌, ◌-◌, ◌≤◌, ◌<◌, length, drop}
+use Rattle.std.specs.Prelude.{◌≡◌, Bool, List, ◌++◌, ℕ, ◌+◌, ◌-◌, ◌≤◌, ◌<◌, length, drop, Some, None}
 use Rattle.std.proofs.Math.Path.{refl}
 use Rattle.std.proofs.Common.{sym, ap, ◌∙◌, le_refl, arith, length-drop}
 use Rattle.std.proofs.Math.Nat.{le_of_eq}
@@ -8,7 +8,6 @@ use Rattle.text.specs.declared.Manner.TheVariants.{Strict}
 use Rattle.word.specs.Part.{part, length_part, part_rest}
 use Rattle.refusal.specs.declared.Part.{Part}
 use Rattle.strings.specs.declared.Place.{Place}
-use Rattle.strings.specs.declared.Found.TheVariants.{Nothing, Is}
 use Rattle.note_line.specs.NoteLine.{line_len, line_len_le}
 use Rattle.note.specs.Note.{lines_of}
 use Rattle.strings.specs.Strings.{PlaceIn, places_of, nth_of}
@@ -90,11 +89,11 @@ module _ (out₀ : List ℕ) (at : ℕ) (p : Part) (f : List ℕ) (a e : ℕ) (h
     stringing_over h = left_over out₀ at _ to _ out l.2.2 (strings_over p u f high t e s l.2.0 h)
 
     module _ (low : s < e) (fits : e ≤ length f) where
-      pub stringing_none : nth_of (places_of Strict high t (part s e f) s) 0 ≡ Nothing
+      pub stringing_none : nth_of (places_of Strict high t (part s e f) s) 0 ≡ None
           → Wrote out₀ at (strings_text p u (strs_in f (places_of Strict high t (part a e f) a))) to out
       stringing_none h = left_over out₀ at _ to _ out l.2.2 (string_none p u f high t e s l.2.0 low fits l.2.1 h)
 
-      module _ (q : Place) (h : nth_of (places_of Strict high t (part s e f) s) 0 ≡ Is q) where
+      module _ (q : Place) (h : nth_of (places_of Strict high t (part s e f) s) 0 ≡ Some q) where
         pub stringing_in : PlaceIn e q × (s < q.end + length t) × (q.end + length t ≤ e)
         stringing_in = string_in p u f high t e s l.2.0 low fits l.2.1 q h
 

@@ -14,7 +14,6 @@ ghost use Rattle.strings.specs.Spelled.{strs_in};
 ghost use Rattle.string_lines.specs.StringLines.{lines_text, values_of, strings_text};
 
 use refusal::Part;
-use strings::Found;
 use text::Manner;
 
 // A NOTE: each line by itself.
@@ -72,20 +71,11 @@ pub fn put_strings(
     let mut s = a;
     let mut to = at;
     while s < e {
-        let first = lookup::nth(f, s, e, high, t, 0, Manner::Strict);
-        match first {
-            Found::Nothing => {
-                return to;
-            }
-            Found::Is(p) => {
-                let key = p.key;
-                let gap = p.gap;
-                let value = p.value;
-                let end = p.end;
-                to = put_string(out, to, part, u, &f[key..gap], &f[value..end]);
-                s = end + t.len();
-            }
-        }
+        let Some(p) = lookup::nth(f, s, e, high, t, 0, Manner::Strict) else {
+            return to;
+        };
+        to = put_string(out, to, part, u, &f[p.key..p.gap], &f[p.value..p.end]);
+        s = p.end + t.len();
     }
     to
 }

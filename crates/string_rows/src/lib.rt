@@ -11,18 +11,25 @@ ghost use Rattle.places.specs.Numbers.{numbers_of};
 ghost use Rattle.reader.specs.Questions.{places_in, kept};
 ghost use Rattle.string_rows.specs.Rows.{row_verdict};
 
-use refusal::{Rule, Verdict};
+use refusal::{Refusal, Rule};
 use text::Manner;
 
 // Row 32: part -1, place 0.
-fn row_length() -> Verdict
+fn row_length() -> Result<(), Refusal>
     ensures { result ≡ refused Rule.RowLength 0 }
 {
-    Verdict::Refused(refusal::of_file(Rule::RowLength, 0))
+    Err(refusal::of_file(Rule::RowLength, 0))
 }
 
 // The strings of the area from a to e of an image, c of them, into a row of four numbers each.
-pub fn fill(f: &[u8], a: usize, e: usize, c: usize, how: Manner, row: &mut [usize]) -> Verdict
+pub fn fill(
+    f: &[u8],
+    a: usize,
+    e: usize,
+    c: usize,
+    how: Manner,
+    row: &mut [usize],
+) -> Result<(), Refusal>
     requires { (a ≤ e) × (e ≤ length f.now) × (32 ≤ length f.now) × (good_terminator f.now 8 ≡ true)
         × (c ≡ length (places_in how f.now a e)) }
     ensures answer { result ≡ row_verdict c (length row.old) }
@@ -47,5 +54,5 @@ pub fn fill(f: &[u8], a: usize, e: usize, c: usize, how: Manner, row: &mut [usiz
         how,
         row,
     );
-    Verdict::Accepted
+    Ok(())
 }

@@ -11,10 +11,9 @@ ghost use Rattle.word.specs.Part.{part};
 ghost use Rattle.until.specs.Until.{look_of, walk_of};
 
 use refusal::{Part, Refusal, Rule};
-use strings::Step;
 use until::{Ask, Turn, Walked};
 
-// The walk along the area from a to e of f. The keyword before is the file's own bytes from k to g. Any bytes may be
+// The walk along the area from a to e of f, or the refusal of a string that it came to. The keyword before is the file's own bytes from k to g. Any bytes may be
 // asked for.
 pub fn walk(
     f: &[u8],
@@ -26,47 +25,39 @@ pub fn walk(
     whose: Part,
     ask: Ask,
     key: &[u8],
-) -> Walked
+) -> Result<Walked, Refusal>
     requires { (a ≤ e) × (e ≤ length f.now) × (0 < length u.now) }
     ensures { result ≡ walk_of (look_of ask key.now) high t.now u.now whose
         (part a e f.now) a }
 {
     if e <= a {
-        return Walked::Over(0);
+        return Ok(Walked::Over(0));
     }
     let mut at = a;
     let mut k = a;
     let mut g = a;
     let mut j: usize = 0;
     while at < e {
-        let s = one_string::step(&f[at..e], high, t, u, whose, &f[k..g], at);
-        match s {
-            Step::Bad(r) => {
-                return Walked::Bad(r);
+        let step = one_string::step(&f[at..e], high, t, u, whose, &f[k..g], at)?;
+        let Some((o, n)) = step else {
+            return Ok(Walked::Over(j));
+        };
+        k = at + 2;
+        g = k + n;
+        match until::look(ask, key, j, &f[k..g]) {
+            Turn::Here => {
+                return Ok(Walked::At(until::place(f, e, t, at, g, o)));
             }
-            Step::Done => {
-                return Walked::Over(j);
+            Turn::Gone => {
+                return Ok(Walked::Over(j));
             }
-            Step::Next(o, n) => {
-                k = at + 2;
-                g = k + n;
-                let w = until::look(ask, key, j, &f[k..g]);
-                match w {
-                    Turn::Here => {
-                        return Walked::At(until::place(f, e, t, at, g, o));
-                    }
-                    Turn::Gone => {
-                        return Walked::Over(j);
-                    }
-                    Turn::On => {
-                        at += o;
-                        j += 1;
-                    }
-                }
+            Turn::On => {
+                at += o;
+                j += 1;
             }
         }
     }
-    Walked::Bad(Refusal {
+    Err(Refusal {
         rule: Rule::StringOffset,
         part: whose,
         place: at,

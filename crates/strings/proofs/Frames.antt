@@ -1,6 +1,6 @@
 -- Theorems on what specs/Frames defines. They stand here, as a wrong definition there is to be refused and not to be unread.
 -- Assumes nothing.
-use Rattle.std.specs.Prelude.{◌≡◌, refl, Bool, List, [], ◌++◌, ℕ, ◌+◌, ◌-◌, ◌<◌, ltb, eqb, drop}
+use Rattle.std.specs.Prelude.{◌≡◌, refl, Bool, List, [], ◌++◌, ℕ, ◌+◌, ◌-◌, ◌<◌, ltb, eqb, drop, Ok, None}
 use Rattle.std.proofs.Common.{sym, ap, ◌∙◌, append_assoc, length-append, drop_at, drop-drop}
 use Rattle.std.proofs.Math.Bool.{true, false}
 use native.Mathlib.Omega.{arith, by_contra}
@@ -11,7 +11,6 @@ use borrow.Author.Tests.{eqb-false, ltb-false}
 use Rattle.word.specs.Part.{part, part_among}
 use Rattle.word.specs.Word.{word_at, bytes_of}
 use Rattle.word.specs.WordLaws.{length_bytes_of, word_among}
-use Rattle.strings.specs.declared.Frame.TheVariants.{End}
 use Rattle.text.specs.declared.Manner.{Manner}
 use Rattle.chars.specs.Runs.{same_refl}
 use Rattle.text.specs.Manner.{open_end}
@@ -20,7 +19,7 @@ use Rattle.strings.specs.Frames.{Framed, frame_text, no_offset}
 
 module _ (how : Manner) (high : Bool) (t l : List ℕ) where
   -- no byte is left, and the list may end there
-  pub frame_none : cut how l ≡ false → length l < 2 → End ≡ frame_of how high t l
+  pub frame_none : cut how l ≡ false → length l < 2 → Ok None ≡ frame_of how high t l
   unfolding frame_of
   frame_none h k = rw (no_offset high l none_left, h)
     where

@@ -3,3 +3,4 @@ pub mod Frames
 pub mod Paper
 pub mod Passed
 pub mod Walks
+pub mod Steps

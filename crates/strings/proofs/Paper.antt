@@ -1,6 +1,6 @@
 -- Theorems on what specs/Paper defines. They stand here, as a wrong definition there is to be refused and not to be unread.
 -- Assumes nothing.
-use Rattle.std.specs.Prelude.{◌≡◌, Bool, true, false, not, ◌⊎◌, take, ltb, eqb}
+use Rattle.std.specs.Prelude.{◌≡◌, Bool, true, false, not, ◌⊎◌, take, ltb, eqb, Result, Ok, Err, Option, Some, None}
 use Rattle.std.proofs.Math.Path.{refl, sym, ap}
 use Rattle.std.proofs.Common.{ap₂, ◌∙◌, inl, inr, ⊎_elim, le_of_eq, le_refl, arith, length-append, take-append-drop}
 use Rattle.std.proofs.Common.{length-drop, length-take-le, take-take, ne_eqb, ltb-false}
@@ -16,17 +16,10 @@ use Rattle.word.specs.Word.{word_at, bytes_of}
 use Rattle.word.specs.WordLaws.{length_bytes_of, word_among, word_small, bytes_of_value}
 use Rattle.refusal.specs.Rows.{pick, ruled_through}
 use Rattle.refusal.specs.declared.Part.{Part}
-use Rattle.refusal.specs.Verdicts.{refused_not}
+use Rattle.refusal.specs.Verdicts.{refused_not, accepted}
 use Rattle.refusal.specs.Table.{refusal}
 use Rattle.refusal.specs.declared.Rule.TheVariants.{StringOffset}
-use Rattle.refusal.specs.declared.Verdict.{Verdict}
-use Rattle.refusal.specs.declared.Verdict.TheVariants.{Accepted, Refused}
-use Rattle.strings.specs.declared.Frame.TheVariants.{End, Text}
-use Rattle.strings.specs.declared.Judged.TheVariants.{Keyword, Wrong}
-use Rattle.strings.specs.declared.Step.{Step}
-use Rattle.strings.specs.declared.Step.TheVariants.{Next, Done, Bad}
 use Rattle.strings.specs.declared.Place.{Place}
-use Rattle.strings.specs.declared.Found.TheVariants.{Is}
 use Rattle.text.specs.declared.Manner.{Manner}
 use Rattle.chars.specs.Chars.{blank, solid, solid_not_blank}
 use Rattle.chars.specs.Runs.{run, all, same, Stops, all_weaker, run_all, run_stops, run_append}
@@ -44,6 +37,8 @@ use Rattle.strings.proofs.Walks.{next_bounds}
 use Rattle.strings.specs.Spelled.{Str, GoodString, Rising, text_of, size_of, texts, Ends, Ends.mark, Ends.none}
 use Rattle.strings.specs.Spelled.{Spells, Spells.empty, Spells.full, nth_str, value_of_key, has_key, str_in, strs_in}
 use Rattle.strings.specs.Paper.{Listed, end_told, str_of}
+use Rattle.refusal.specs.declared.Refusal.{Refusal}
+use Rattle.refusal.specs.Verdicts.{Verdict}
 
 -- ---- the text of a good string is taken apart into it
 
@@ -75,10 +70,10 @@ module _ {how : Manner} {t u : List ℕ} {s : Str} (good : GoodString how t u s)
   text_some : 0 < length (text_of s)
   text_some = let k = length-append s.key (s.gap ++ s.value) in omega (arith, good.some)
 
-  judged : (prev : List ℕ) → LineEnd u → follows how prev s.key ≡ true → judged_of how u prev (text_of s) ≡ Keyword (length s.key)
+  judged : (prev : List ℕ) → LineEnd u → follows how prev s.key ≡ true → judged_of how u prev (text_of s) ≡ Ok (length s.key)
   unfolding judged_of
   judged prev ends rise =
-      ruled_through (text_rows how u prev (text_of s)) Wrong (Keyword (key_len (text_of s))) (
+      ruled_through (text_rows how u prev (text_of s)) Err (Ok (key_len (text_of s))) (
         rw text_key (ne_eqb (length s.key) 0 (omega (arith, good.some))),
         (
           rw (key_of_lem, good.keys),
@@ -88,19 +83,19 @@ module _ {how : Manner} {t u : List ℕ} {s : Str} (good : GoodString how t u s)
           ),
         ),
       )
-      ∙ ap Keyword text_key
+      ∙ ap Ok text_key
 
   pub frame_of_lem : (high : Bool) (r : List ℕ) → Framed how high t (text_of s) r (size_of t s) (bytes_of 2 high (size_of t s) ++ (text_of s ++ (t ++ r)))
   frame_of_lem high r = framed how high t (text_of s) r (size_of t s) refl good.small text_some
 
   pub steps : (high : Bool) (r prev : List ℕ) (p : Part) (at : ℕ) → LineEnd u → follows how prev s.key ≡ true
-      → step_of how high t u p prev (bytes_of 2 high (size_of t s) ++ (text_of s ++ (t ++ r))) at ≡ Next (size_of t s) (length s.key)
+      → step_of how high t u p prev (bytes_of 2 high (size_of t s) ++ (text_of s ++ (t ++ r))) at ≡ Ok (Some (size_of t s, length s.key))
   unfolding step_of on_frame
   steps high r prev p at ends rise = let f = frame_of_lem high r in rw (f.text, f.mid, judged prev ends rise)
 
 -- ---- the end
 
-pub end_frame : (how : Manner) (high : Bool) (t end : List ℕ) → Ends how high end → frame_of how high t end ≡ End
+pub end_frame : (how : Manner) (high : Bool) (t end : List ℕ) → Ends how high end → frame_of how high t end ≡ Ok None
 unfolding frame_of
 end_frame how high t end (mark rest) =
     let two : length (bytes_of 2 high 0) ≡ 2 = length_bytes_of 2 high 0 in
@@ -111,23 +106,23 @@ end_frame how high t end (none e) = rw (no_offset high [] refl, e)
 
 -- ---- what is spelled is accepted
 
-step_next : (how : Manner) (m : ℕ) (high : Bool) (t u : List ℕ) (p : Part) (prev l : List ℕ) (at o n : ℕ) → step_of how high t u p prev l at ≡ Next o n
+step_next : (how : Manner) (m : ℕ) (high : Bool) (t u : List ℕ) (p : Part) (prev l : List ℕ) (at o n : ℕ) → step_of how high t u p prev l at ≡ Ok (Some (o, n))
     → strings_from how (suc m) high t u p prev l at ≡ strings_from how m high t u p (take n (drop 2 l)) (drop o l) (at + o)
 unfolding strings_from
 step_next how m high t u p prev l at o n h = rw h
 
-step_done : (how : Manner) (m : ℕ) (high : Bool) (t u : List ℕ) (p : Part) (prev l : List ℕ) (at : ℕ) → frame_of how high t l ≡ End
-    → strings_from how (suc m) high t u p prev l at ≡ Accepted
+step_done : (how : Manner) (m : ℕ) (high : Bool) (t u : List ℕ) (p : Part) (prev l : List ℕ) (at : ℕ) → frame_of how high t l ≡ Ok None
+    → strings_from how (suc m) high t u p prev l at ≡ accepted
 unfolding strings_from step_of on_frame
 step_done how m high t u p prev l at h = rw h
 
 end_over : (how : Manner) (high : Bool) (end : List ℕ) (p : Part) (at : ℕ) → Ends how high end → length end ≤ 0
-    → pick (open_end how) Accepted (Refused (refusal StringOffset p at)) ≡ Accepted
+    → pick (open_end how) accepted (Err (refusal StringOffset p at)) ≡ accepted
 end_over how high end p at (mark rest) h = absurd (let k = length-append (bytes_of 2 high 0) rest in let n = length_bytes_of 2 high 0 in omega arith)
 end_over how high end p at (none e) h = rw e
 
 accepts : (how : Manner) (high : Bool) (t u : List ℕ) (p : Part) (ss : List Str) (end prev : List ℕ) (m at : ℕ) → LineEnd u → Ends how high end
-    → Rising how t u prev ss → length (texts high t ss end) ≤ m → strings_from how m high t u p prev (texts high t ss end) at ≡ Accepted
+    → Rising how t u prev ss → length (texts high t ss end) ≤ m → strings_from how m high t u p prev (texts high t ss end) at ≡ accepted
 unfolding texts strings_from
 accepts how high t u p [] end prev zero at ends x g h = end_over how high end p at x h
 accepts how high t u p [] end prev (suc m) at ends x g h = step_done how m high t u p prev end at (end_frame how high t end x)
@@ -142,15 +137,15 @@ accepts how high t u p (s ∷ ss) end prev (suc m) at ends x g h =
     ∙ rw (f.next, key) (accepts how high t u p ss end s.key m (at + size_of t s) ends x g.2 (omega (arith, f.fit)))
 
 pub spelled_accepted : (how : Manner) {high : Bool} {t u l : List ℕ} {ss : List Str} (p : Part) (at : ℕ) → LineEnd u → Spells how high t u ss l
-    → strings_of how high t u p l at ≡ Accepted
+    → strings_of how high t u p l at ≡ accepted
 unfolding strings_of
 spelled_accepted how {high} {t} {u} p at ends given = of_list _ _ given
   where
-    go : (w : Bool) {v : Verdict} → v ≡ Accepted → pick w Accepted v ≡ Accepted
+    go : (w : Bool) {v : Verdict} → v ≡ accepted → pick w accepted v ≡ accepted
     go true h = refl
     go false h = h
 
-    of_list : (ss : List Str) (l : List ℕ) → Spells how high t u ss l → strings_of how high t u p l at ≡ Accepted
+    of_list : (ss : List Str) (l : List ℕ) → Spells how high t u ss l → strings_of how high t u p l at ≡ accepted
     of_list ss l empty = refl
     of_list ss l (full {end} x g) =
         go (eqb (length (texts high t ss end)) 0)
@@ -182,7 +177,7 @@ marked how high l by z long =
     sym (take-append-drop 2 l) ∙ ap (λ (x : List ℕ). x ++ drop 2 l) (sym (ap (λ (n : ℕ). bytes_of n high 0) (sym two) ∙ v)) in
     rw e (mark (drop 2 l))
 
-ended : (how : Manner) (high : Bool) (t l : List ℕ) → Bytes l → frame_of how high t l ≡ End → Ends how high l
+ended : (how : Manner) (high : Bool) (t l : List ℕ) → Bytes l → frame_of how high t l ≡ Ok None → Ends how high l
 ended how high t l by e =
     let h = end_told how high t l e in
     go (open_end how) refl l refl h.0 h.1
@@ -202,7 +197,7 @@ apart_of (b ∷ bs) o e =
     let y : ◌≡◌ {A = ℕ} 0 1 = cc in
     absurd (omega arith)
 
-good_of : (how : Manner) (t u prev b : List ℕ) (n : ℕ) → LineEnd u → 2 + length b + length t < 65536 → judged_of how u prev b ≡ Keyword n
+good_of : (how : Manner) (t u prev b : List ℕ) (n : ℕ) → LineEnd u → 2 + length b + length t < 65536 → judged_of how u prev b ≡ Ok n
     → GoodString how t u (str_of b) × (follows how prev (key_of b) ≡ true)
 unfolding key_len gap_len
 good_of how t u prev b n ends small e =
@@ -228,12 +223,12 @@ unfolding offset
 word_offset high l = refl
 
 -- a step to the end stands at the end
-done_ends : (how : Manner) (high : Bool) (t u : List ℕ) (p : Part) (prev l : List ℕ) (at : ℕ) → Bytes l → step_of how high t u p prev l at ≡ Done
+done_ends : (how : Manner) (high : Bool) (t u : List ℕ) (p : Part) (prev l : List ℕ) (at : ℕ) → Bytes l → step_of how high t u p prev l at ≡ Ok None
     → Ends how high l
 done_ends how high t u p prev l at by e = ended how high t l by (done_frame how high t u p prev l at e)
 
 extend : (how : Manner) (high : Bool) (t u : List ℕ) (p : Part) (prev l : List ℕ) (at o n : ℕ) → LineEnd u → Bytes l
-    → step_of how high t u p prev l at ≡ Next o n → Listed how high t u (take n (drop 2 l)) (drop o l) → Listed how high t u prev l
+    → step_of how high t u p prev l at ≡ Ok (Some (o, n)) → Listed how high t u (take n (drop 2 l)) (drop o l) → Listed how high t u prev l
 unfolding texts body
 extend how high t u p prev l at o n ends by e i =
     let b = next_fits how high t u p prev l at o n e in
@@ -260,41 +255,41 @@ nothing_left (x ∷ l) h = absurd (omega arith)
 
 -- where no byte is left and the walk accepts, the list may end there
 over_ends : (how : Manner) (high : Bool) (p : Part) (l : List ℕ) (at : ℕ) → length l ≤ 0
-    → pick (open_end how) Accepted (Refused (refusal StringOffset p at)) ≡ Accepted → Ends how high l
+    → pick (open_end how) accepted (Err (refusal StringOffset p at)) ≡ accepted → Ends how high l
 over_ends how high p l at h e = go (open_end how) refl e
   where
-    go : (w : Bool) → open_end how ≡ w → pick w Accepted (Refused (refusal StringOffset p at)) ≡ Accepted → Ends how high l
+    go : (w : Bool) → open_end how ≡ w → pick w accepted (Err (refusal StringOffset p at)) ≡ accepted → Ends how high l
     go true q k = rw (nothing_left l h) (none q)
     go false q k = absurd (refused_not _ k)
 
 spells : (how : Manner) (high : Bool) (t u : List ℕ) (p : Part) (m : ℕ) (l prev : List ℕ) (at : ℕ) → LineEnd u → Bytes l → length l ≤ m
-    → strings_from how m high t u p prev l at ≡ Accepted → Listed how high t u prev l
+    → strings_from how m high t u p prev l at ≡ accepted → Listed how high t u prev l
 unfolding strings_from texts
 spells how high t u p zero l prev at ends by h e = ([], l, over_ends how high p l at h e, tt, refl)
 spells how high t u p (suc m) l prev at ends by h e =
     go (step_of how high t u p prev l at) refl e (λ r q j d s k. spells how high t u p m r q j ends d s k)
   where
-    go : (s : Step) → step_of how high t u p prev l at ≡ s
-        → on_step s (λ o n. strings_from how m high t u p (take n (drop 2 l)) (drop o l) (at + o)) ≡ Accepted
-        → ((r q : List ℕ) (j : ℕ) → Bytes r → length r ≤ m → strings_from how m high t u p q r j ≡ Accepted → Listed how high t u q r)
+    go : (s : Result (Option (ℕ × ℕ)) Refusal) → step_of how high t u p prev l at ≡ s
+        → on_step s (λ o n. strings_from how m high t u p (take n (drop 2 l)) (drop o l) (at + o)) ≡ accepted
+        → ((r q : List ℕ) (j : ℕ) → Bytes r → length r ≤ m → strings_from how m high t u p q r j ≡ accepted → Listed how high t u q r)
         → Listed how high t u prev l
-    go (Next o n) q k again =
+    go (Ok (Some (o, n))) q k again =
         let b = next_bounds how high t u p prev l at o n q in
         let d = length-drop o l in
         extend how high t u p prev l at o n ends by q (again (drop o l) (take n (drop 2 l)) (at + o) (bytes_drop o l by) (omega (arith, b.0)) k)
-    go Done q k again = ([], l, done_ends how high t u p prev l at by q, tt, refl)
-    go (Bad r) q k again = let z : ◌≡◌ {A = ℕ} 0 1 = cc in absurd (omega arith)
+    go (Ok None) q k again = ([], l, done_ends how high t u p prev l at by q, tt, refl)
+    go (Err r) q k again = let z : ◌≡◌ {A = ℕ} 0 1 = cc in absurd (omega arith)
 
 as_spelled : (how : Manner) (high : Bool) (t u l : List ℕ) (ss : List Str) (end : List ℕ) → Ends how high end → Rising how t u [] ss
     → l ≡ texts high t ss end → Spells how high t u ss l
 as_spelled how high t u l ss end x g w = rw w (full x g)
 
 pub accepted_spelled : (how : Manner) (high : Bool) (t u : List ℕ) (p : Part) (l : List ℕ) (at : ℕ) → LineEnd u → Bytes l
-    → strings_of how high t u p l at ≡ Accepted → (ss : List Str) × Spells how high t u ss l
+    → strings_of how high t u p l at ≡ accepted → (ss : List Str) × Spells how high t u ss l
 unfolding strings_of
 accepted_spelled how high t u p [] at ends by e = ([], empty)
 accepted_spelled how high t u p (x ∷ l) at ends by e =
-    let k : strings_from how (length (x ∷ l)) high t u p [] (x ∷ l) at ≡ Accepted = rw (ne_eqb (suc (length l)) 0 (omega arith)) at e in
+    let k : strings_from how (length (x ∷ l)) high t u p [] (x ∷ l) at ≡ accepted = rw (ne_eqb (suc (length l)) 0 (omega arith)) at e in
     let s = spells how high t u p (length (x ∷ l)) (x ∷ l) [] at ends by (le_refl (length (x ∷ l))) k in
     (s.0, as_spelled how high t u (x ∷ l) s.0 s.1 s.2 s.3 s.4)
 
@@ -342,7 +337,7 @@ module _ (how : Manner) (f t u : List ℕ) (high : Bool) (e : ℕ) (fits : e ≤
       let r : List ℕ = texts high t ss end in
       let o : ℕ = size_of t s in
       let fr = frame_of_lem g.0 high r in
-      let text : frame_of how high t (part at e f) ≡ Text o = rw w fr.text in
+      let text : frame_of how high t (part at e f) ≡ Ok (Some o) = rw w fr.text in
       let mid : body t o (part at e f) ≡ text_of s = rw w fr.mid in
       let next : part (at + o) e f ≡ r = sym (part_drop o at e f) ∙ ap (λ (l : List ℕ). drop o l) w ∙ fr.next in
       let x : e - at ≡ o + length r = sym (length_part at e f fits) ∙ ap length w ∙ fr.fit in
@@ -423,7 +418,7 @@ find_value_in how f [] key = refl
 find_value_in how f (p ∷ ps) key = go (same (named how (key_in f p)) key) (find_value_in how f ps key)
   where
     go : (w : Bool) → value_found f (find_of how f ps key) ≡ value_of_key how (strs_in f ps) key
-        → value_found f (pick w (Is p) (find_of how f ps key)) ≡ pick w (value_in f p) (value_of_key how (strs_in f ps) key)
+        → value_found f (pick w (Some p) (find_of how f ps key)) ≡ pick w (value_in f p) (value_of_key how (strs_in f ps) key)
     go true i = refl
     go false i = i
 
@@ -433,7 +428,7 @@ find_has_in how f [] key = refl
 find_has_in how f (p ∷ ps) key = go (same (named how (key_in f p)) key) (find_has_in how f ps key)
   where
     go : (w : Bool) → found (find_of how f ps key) ≡ has_key how (strs_in f ps) key
-        → found (pick w (Is p) (find_of how f ps key)) ≡ pick w true (has_key how (strs_in f ps) key)
+        → found (pick w (Some p) (find_of how f ps key)) ≡ pick w true (has_key how (strs_in f ps) key)
     go true i = refl
     go false i = i
 

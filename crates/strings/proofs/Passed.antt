@@ -1,12 +1,10 @@
 -- Theorems on what specs/Passed defines. They stand here, as a wrong definition there is to be refused and not to be unread.
 -- Assumes nothing.
-use Rattle.std.specs.Prelude.{◌≡◌, Bool, List, ℕ, ◌+◌, ◌-◌, ◌≤◌, take}
+use Rattle.std.specs.Prelude.{◌≡◌, Bool, List, ℕ, ◌+◌, ◌-◌, ◌≤◌, take, Ok, Some}
 use Rattle.std.proofs.Common.{sym, ap, ◌∙◌, arith}
 use Rattle.std.proofs.Math.ListN.{length, drop}
 use Rattle.word.specs.Part.{part, length_part, part_part, part_drop}
 use Rattle.refusal.specs.declared.Part.{Part}
-use Rattle.strings.specs.declared.Frame.TheVariants.{Text}
-use Rattle.strings.specs.declared.Step.TheVariants.{Next}
 use Rattle.text.specs.declared.Manner.{Manner}
 use Rattle.strings.specs.Strings.{body, key_len, frame_of, step_of, place_of}
 use Rattle.strings.specs.Walks.{in_frame, next_fits, judged_clear}
@@ -14,8 +12,8 @@ use Rattle.strings.proofs.Walks.{next_bounds, place_fits}
 use Rattle.strings.specs.Passed.{Lies, seen_place}
 
 module _ (how : Manner) (high : Bool) (t u : List ℕ) (p : Part) (prev f : List ℕ) (e at o n : ℕ) (fits : e ≤ length f)
-    (h : step_of how high t u p prev (part at e f) at ≡ Next o n) where
-  frame : frame_of how high t (part at e f) ≡ Text o
+    (h : step_of how high t u p prev (part at e f) at ≡ Ok (Some (o, n))) where
+  frame : frame_of how high t (part at e f) ≡ Ok (Some o)
   frame = (next_fits how high t u p prev (part at e f) at o n h).0
 
   long : key_len (body t o (part at e f)) ≡ n

@@ -1,6 +1,6 @@
 -- The frame of a string: the laws of rows 14 and 15, one for each answer, and what a frame says of its bytes.
 -- Assumes nothing.
-use Rattle.std.specs.Prelude.{◌≡◌, refl, Bool, List, [], ◌∷◌, ◌++◌, ℕ, ◌+◌, ◌-◌, ◌≤◌, ◌<◌, ltb, eqb, drop}
+use Rattle.std.specs.Prelude.{◌≡◌, refl, Bool, List, [], ◌∷◌, ◌++◌, ℕ, ◌+◌, ◌-◌, ◌≤◌, ◌<◌, ltb, eqb, drop, Ok, Err, Some, None}
 use Rattle.std.proofs.Common.{sym, ap, ◌∙◌, append_assoc, length-append, drop_at, drop-drop}
 use Rattle.std.proofs.Math.Bool.{true, false}
 use native.Mathlib.Omega.{arith, by_contra}
@@ -12,7 +12,6 @@ use Rattle.word.specs.Part.{part, part_among}
 use Rattle.word.specs.Word.{word_at, value_of, low_first, bytes_of}
 use Rattle.word.specs.WordLaws.{length_bytes_of, word_among}
 use Rattle.refusal.specs.declared.Rule.TheVariants.{StringOffset, StringEnd}
-use Rattle.strings.specs.declared.Frame.TheVariants.{End, Text, Broken}
 use Rattle.text.specs.declared.Manner.{Manner}
 use Rattle.chars.specs.Runs.{same, same_refl}
 use Rattle.text.specs.Manner.{open_end}
@@ -35,34 +34,34 @@ cut_two how l h = go (open_end how)
 
 -- ---- which answer it is, from the tests as the code makes them: o is the offset that was read
 module _ (how : Manner) (high : Bool) (t l : List ℕ) where
-  pub frame_short : cut how l ≡ true → Broken StringOffset ≡ frame_of how high t l
+  pub frame_short : cut how l ≡ true → Err StringOffset ≡ frame_of how high t l
   unfolding frame_of
   frame_short h = rw h
 
   module _ (o : ℕ) (e : o ≡ word_at 2 high l 0) (two : 2 ≤ length l) where
-    pub frame_end : o ≡ 0 → End ≡ frame_of how high t l
+    pub frame_end : o ≡ 0 → Ok None ≡ frame_of how high t l
     unfolding frame_of offset
     frame_end z = rw (cut_two how l two, ← e, eq-eqb o 0 z)
 
-    pub frame_small : 0 < o → o < 3 + length t → Broken StringOffset ≡ frame_of how high t l
+    pub frame_small : 0 < o → o < 3 + length t → Err StringOffset ≡ frame_of how high t l
     unfolding frame_of offset
     frame_small z s = rw (cut_two how l two, ← e, ne_eqb o 0 (omega arith), lt-ltb _ _ s)
 
-    pub frame_past : 3 + length t ≤ o → length l < o → Broken StringOffset ≡ frame_of how high t l
+    pub frame_past : 3 + length t ≤ o → length l < o → Err StringOffset ≡ frame_of how high t l
     unfolding frame_of offset
     frame_past s p = rw (cut_two how l two, ← e, ne_eqb o 0 (omega arith), le-ltb o (3 + length t) s, lt-ltb _ _ p)
 
-    pub frame_open : 3 + length t ≤ o → o ≤ length l → same (part (o - length t) o l) t ≡ false → Broken StringEnd ≡ frame_of how high t l
+    pub frame_open : 3 + length t ≤ o → o ≤ length l → same (part (o - length t) o l) t ≡ false → Err StringEnd ≡ frame_of how high t l
     unfolding frame_of offset
     frame_open s p n = rw (cut_two how l two, ← e, ne_eqb o 0 (omega arith), le-ltb o (3 + length t) s, le-ltb (length l) o p, n)
 
-    pub frame_text : 3 + length t ≤ o → o ≤ length l → same (part (o - length t) o l) t ≡ true → Text o ≡ frame_of how high t l
+    pub frame_text : 3 + length t ≤ o → o ≤ length l → same (part (o - length t) o l) t ≡ true → Ok (Some o) ≡ frame_of how high t l
     unfolding frame_of offset
     frame_text s p n = rw (cut_two how l two, ← e, ne_eqb o 0 (omega arith), le-ltb o (3 + length t) s, le-ltb (length l) o p, n)
 
 -- ---- what a frame says: its offset o, its text x, the terminator t and what follows, r
 pub record Framed (how : Manner) (high : Bool) (t x r : List ℕ) (o : ℕ) (l : List ℕ) : Type 0 where
-  pub text : frame_of how high t l ≡ Text o
+  pub text : frame_of how high t l ≡ Ok (Some o)
   pub fit : length l ≡ o + length r
   pub size : o ≡ 2 + length x + length t
   pub next : drop o l ≡ r

@@ -2,9 +2,9 @@
 -- the questions answer from it. That the walk over a NOTE's lines and the words of `GoodString` say the same needs a
 -- line terminator that starts with no value character (`LineEnd`), which row 6 gives every file.
 -- Assumes nothing.
-use Rattle.std.specs.Prelude.{◌≡◌, Bool, true, false, not, ◌⊎◌, take, ltb, eqb}
+use Rattle.std.specs.Prelude.{◌≡◌, Bool, true, false, not, ◌⊎◌, take, ltb, eqb, Ok, Err, Some, None}
 use Rattle.std.proofs.Math.Path.{refl, sym, ap}
-use Rattle.std.proofs.Common.{ap₂, ◌∙◌, inl, inr, ⊎_elim, le_of_eq, le_refl, arith, length-append, take-append-drop, length-drop, length-take-le, take-take, ne_eqb, ltb-false, eqb-true}
+use Rattle.std.proofs.Common.{ap₂, ◌∙◌, inl, inr, ⊎_elim, le_of_eq, le_refl, arith, length-append, take-append-drop, length-drop, length-take-le, take-take, ne_eqb, ltb-false, eqb-true, Result, Option}
 use mathlib.Core.List.{List, [], ◌∷◌, ◌++◌, append_assoc, append-nil}
 use Prim.Native.Nat.{ℕ, zero, suc, ◌+◌, ◌-◌, ◌≤◌, ◌<◌}
 use Rattle.std.proofs.Math.ListN.{length, drop}
@@ -21,14 +21,7 @@ use Rattle.refusal.specs.Verdicts.{refused_not}
 use Rattle.refusal.specs.Table.{refusal}
 use Rattle.refusal.specs.declared.Rule.{Rule}
 use Rattle.refusal.specs.declared.Rule.TheVariants.{StringOffset}
-use Rattle.refusal.specs.declared.Verdict.{Verdict}
-use Rattle.refusal.specs.declared.Verdict.TheVariants.{Accepted, Refused}
-use Rattle.strings.specs.declared.Frame.TheVariants.{End, Text, Broken}
-use Rattle.strings.specs.declared.Judged.TheVariants.{Keyword, Wrong}
-use Rattle.strings.specs.declared.Step.{Step}
-use Rattle.strings.specs.declared.Step.TheVariants.{Next, Done, Bad}
 use Rattle.strings.specs.declared.Place.{Place}
-use Rattle.strings.specs.declared.Found.TheVariants.{Is}
 use Rattle.text.specs.declared.Manner.{Manner}
 use Rattle.text.specs.declared.Manner.TheVariants.{Strict}
 use Rattle.chars.specs.Chars.{blank, solid, solid_not_blank}
@@ -54,20 +47,20 @@ abbrev pub str_of : List ℕ → Str
 str_of b = record { key = key_of b; gap = gap_of b; value = value_of b }
 
 -- what stands at the end of a list
-broken_end : (r : Rule) → Broken r ≡ End → ⊥
+broken_end : (r : Rule) → ◌≡◌ {A = Result (Option ℕ) Rule} (Err r) (Ok None) → ⊥
 broken_end r e = let z : ◌≡◌ {A = ℕ} 0 1 = cc in omega arith
 
-no_more : (high : Bool) (l : List ℕ) → end_or_text high l ≡ End → offset high l ≡ 0
+no_more : (high : Bool) (l : List ℕ) → end_or_text high l ≡ Ok None → offset high l ≡ 0
 no_more high l e = go (eqb (offset high l) 0) refl e
   where
-    go : (w : Bool) → eqb (offset high l) 0 ≡ w → pick w End (Text (offset high l)) ≡ End → offset high l ≡ 0
+    go : (w : Bool) → eqb (offset high l) 0 ≡ w → pick {A = Result (Option ℕ) Rule} w (Ok None) (Ok (Some (offset high l))) ≡ Ok None → offset high l ≡ 0
     go true q h = eqb-true _ _ q
     go false q h = let z : ◌≡◌ {A = ℕ} 0 1 = cc in absurd (omega arith)
 
-pub end_told : (how : Manner) (high : Bool) (t l : List ℕ) → frame_of how high t l ≡ End → (cut how l ≡ false) × (offset high l ≡ 0)
+pub end_told : (how : Manner) (high : Bool) (t l : List ℕ) → frame_of how high t l ≡ Ok None → (cut how l ≡ false) × (offset high l ≡ 0)
 unfolding frame_of
 end_told how high t l e =
-    let c = ruled_clear Broken End broken_end (frame_rows how high t l) (end_or_text high l) e in
+    let c = ruled_clear Err (Ok None) broken_end (frame_rows how high t l) (end_or_text high l) e in
     (c.0.0, no_more high l c.1)
 
 abbrev pub Listed : Manner → Bool → List ℕ → List ℕ → List ℕ → List ℕ → Type 0
@@ -116,6 +109,6 @@ find_first how f (p ∷ ps) key zero h e free = rw (e, same_refl key)
 find_first how f (p ∷ ps) key (suc i) h e free =
     go (same (named how (key_in f p)) key) refl (find_first how f ps key i (omega arith) e (λ j l. free (suc j) (omega arith)))
   where
-    go : (w : Bool) → same (named how (key_in f p)) key ≡ w → find_of how f ps key ≡ nth_of ps i → pick w (Is p) (find_of how f ps key) ≡ nth_of ps i
+    go : (w : Bool) → same (named how (key_in f p)) key ≡ w → find_of how f ps key ≡ nth_of ps i → pick w (Some p) (find_of how f ps key) ≡ nth_of ps i
     go true q r = absurd (free 0 (omega arith) (same_eq _ key q))
     go false q r = r

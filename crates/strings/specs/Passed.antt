@@ -6,8 +6,6 @@ use Rattle.std.proofs.Common.{sym, ap, ◌∙◌, arith}
 use Rattle.std.proofs.Math.ListN.{length, drop}
 use Rattle.word.specs.Part.{part, length_part, part_part, part_drop}
 use Rattle.refusal.specs.declared.Part.{Part}
-use Rattle.strings.specs.declared.Frame.TheVariants.{Text}
-use Rattle.strings.specs.declared.Step.TheVariants.{Next}
 use Rattle.strings.specs.declared.Place.{Place}
 use Rattle.text.specs.declared.Manner.{Manner}
 use Rattle.strings.specs.Strings.{body, key_len, gap_len, frame_of, step_of, place_of}

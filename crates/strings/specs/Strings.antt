@@ -2,32 +2,22 @@
 -- bytes that are left of the area; a place is carried along only for refusals and answers. `how` is the manner of
 -- reading (text/Manner), `high` the byte order, t the string terminator, u the line terminator.
 -- Assumes nothing.
-use Rattle.std.specs.Prelude.{Bool, true, false, not, List, [], ◌∷◌, ℕ, zero, suc, ◌+◌, ◌-◌, ◌≤◌, length, take, drop, ltb, eqb}
+use Rattle.std.specs.Prelude.{Bool, true, false, not, List, [], ◌∷◌, ℕ, zero, suc, ◌+◌, ◌-◌, ◌≤◌, length, take, drop, ltb, eqb, Result, Ok, Err, Option, Some, None}
 use Rattle.word.specs.Part.{part}
 use Rattle.word.specs.Word.{word_at}
 use Rattle.refusal.specs.declared.Rule.{Rule}
 use Rattle.refusal.specs.declared.Rule.TheVariants.{StringOffset, StringEnd, Character, KeywordOrder}
 use Rattle.refusal.specs.declared.Part.{Part}
-use Rattle.refusal.specs.declared.Verdict.{Verdict}
-use Rattle.refusal.specs.declared.Verdict.TheVariants.{Accepted, Refused}
 use Rattle.refusal.specs.Table.{refusal}
 use Rattle.refusal.specs.Rows.{Rows, pick, ruled}
-use Rattle.strings.specs.declared.Frame.{Frame}
-use Rattle.strings.specs.declared.Frame.TheVariants.{End, Text, Broken}
-use Rattle.strings.specs.declared.Judged.{Judged}
-use Rattle.strings.specs.declared.Judged.TheVariants.{Keyword, Wrong}
-use Rattle.strings.specs.declared.Step.{Step}
-use Rattle.strings.specs.declared.Step.TheVariants.{Next, Done, Bad}
 use Rattle.strings.specs.declared.Place.{Place}
-use Rattle.strings.specs.declared.Entry.{Entry}
-use Rattle.strings.specs.declared.Entry.TheVariants.{Stop, At}
-use Rattle.strings.specs.declared.Found.{Found}
-use Rattle.strings.specs.declared.Found.TheVariants.{Nothing, Is}
 use Rattle.text.specs.declared.Manner.{Manner}
 use Rattle.chars.specs.Chars.{blank, solid}
 use Rattle.chars.specs.Runs.{run, all, same}
 use Rattle.note.specs.Note.{value_ok}
 use Rattle.text.specs.Manner.{open_end, letter, named, follows}
+use Rattle.refusal.specs.declared.Refusal.{Refusal}
+use Rattle.refusal.specs.Verdicts.{Verdict, accepted}
 
 -- ---- one string: a 2-byte offset, the keyword, separators and the value, the terminator
 
@@ -78,11 +68,11 @@ frame_rows how high t l =
     ∷ [])
 
 -- the end of the list, or a string
-abbrev pub end_or_text : Bool → List ℕ → Frame
-end_or_text high l = pick (eqb (offset high l) 0) End (Text (offset high l))
+abbrev pub end_or_text : Bool → List ℕ → Result (Option ℕ) Rule
+end_or_text high l = pick (eqb (offset high l) 0) (Ok None) (Ok (Some (offset high l)))
 
-unfoldable pub frame_of : Manner → Bool → List ℕ → List ℕ → Frame
-frame_of how high t l = ruled (frame_rows how high t l) Broken (end_or_text high l)
+unfoldable pub frame_of : Manner → Bool → List ℕ → List ℕ → Result (Option ℕ) Rule
+frame_of how high t l = ruled (frame_rows how high t l) Err (end_or_text high l)
 
 -- 16 "forbidden character or empty keyword", 17 "order"; prev is the keyword before, the empty one before the first
 abbrev pub text_rows : Manner → List ℕ → List ℕ → List ℕ → Rows Rule
@@ -93,39 +83,39 @@ text_rows how u prev b =
     ∷ (not (follows how prev (key_of b)), KeywordOrder)
     ∷ []
 
-unfoldable pub judged_of : Manner → List ℕ → List ℕ → List ℕ → Judged
-judged_of how u prev b = ruled (text_rows how u prev b) Wrong (Keyword (key_len b))
+unfoldable pub judged_of : Manner → List ℕ → List ℕ → List ℕ → Result ℕ Rule
+judged_of how u prev b = ruled (text_rows how u prev b) Err (Ok (key_len b))
 
 -- "Strings are taken one by one, 14 to 17 each"; the place of all four is the offset's
-abbrev pub on_judged : Judged → Part → ℕ → ℕ → Step
-on_judged (Keyword n) p at o = Next o n
-on_judged (Wrong r) p at o = Bad (refusal r p at)
+abbrev pub on_judged : Result ℕ Rule → Part → ℕ → ℕ → Result (Option (ℕ × ℕ)) Refusal
+on_judged (Ok n) p at o = Ok (Some (o, n))
+on_judged (Err r) p at o = Err (refusal r p at)
 
-unfoldable pub on_frame : Manner → Frame → List ℕ → List ℕ → List ℕ → List ℕ → Part → ℕ → Step
-on_frame how End t u prev l p at = Done
-on_frame how (Broken r) t u prev l p at = Bad (refusal r p at)
-on_frame how (Text o) t u prev l p at = on_judged (judged_of how u prev (body t o l)) p at o
+unfoldable pub on_frame : Manner → Result (Option ℕ) Rule → List ℕ → List ℕ → List ℕ → List ℕ → Part → ℕ → Result (Option (ℕ × ℕ)) Refusal
+on_frame how (Ok None) t u prev l p at = Ok None
+on_frame how (Err r) t u prev l p at = Err (refusal r p at)
+on_frame how (Ok (Some o)) t u prev l p at = on_judged (judged_of how u prev (body t o l)) p at o
 
-unfoldable pub step_of : Manner → Bool → List ℕ → List ℕ → Part → List ℕ → List ℕ → ℕ → Step
+unfoldable pub step_of : Manner → Bool → List ℕ → List ℕ → Part → List ℕ → List ℕ → ℕ → Result (Option (ℕ × ℕ)) Refusal
 step_of how high t u p prev l at = on_frame how (frame_of how high t l) t u prev l p at
 
 -- ---- a whole area
 
-abbrev pub on_step : Step → (ℕ → ℕ → Verdict) → Verdict
-on_step (Next o n) next = next o n
-on_step Done next = Accepted
-on_step (Bad r) next = Refused r
+abbrev pub on_step : Result (Option (ℕ × ℕ)) Refusal → (ℕ → ℕ → Verdict) → Verdict
+on_step (Ok (Some (o, n))) next = next o n
+on_step (Ok None) next = accepted
+on_step (Err r) next = Err r
 
 -- the strings from l on. The number bounds how many there are; the length of l is enough, for each has a byte. Where no
 -- byte is left the missing end mark is 14, unless the list may end there
 unfoldable pub strings_from : Manner → ℕ → Bool → List ℕ → List ℕ → Part → List ℕ → List ℕ → ℕ → Verdict
-strings_from how zero high t u p prev l at = pick (open_end how) Accepted (Refused (refusal StringOffset p at))
+strings_from how zero high t u p prev l at = pick (open_end how) accepted (Err (refusal StringOffset p at))
 strings_from how (suc m) high t u p prev l at =
     on_step (step_of how high t u p prev l at) (λ o n. strings_from how m high t u p (take n (drop 2 l)) (drop o l) (at + o))
 
 -- "An empty area is an empty list"; at is the area's start in the file
 unfoldable pub strings_of : Manner → Bool → List ℕ → List ℕ → Part → List ℕ → ℕ → Verdict
-strings_of how high t u p l at = pick (eqb (length l) 0) Accepted (strings_from how (length l) high t u p [] l at)
+strings_of how high t u p l at = pick (eqb (length l) 0) accepted (strings_from how (length l) high t u p [] l at)
 
 -- ---- questions: the places of an area's strings, one behind the other
 
@@ -135,14 +125,14 @@ place_of t o l at =
     let b = body t o l in
     record { key = at + 2; gap = at + 2 + key_len b; value = at + 2 + key_len b + gap_len (after_key b); end = at + (o - length t) }
 
-unfoldable pub on_text : {A : Type 0} → Frame → A → (ℕ → A) → A
-on_text End stop more = stop
-on_text (Broken r) stop more = stop
-on_text (Text o) stop more = more o
+unfoldable pub on_text : {A : Type 0} → Result (Option ℕ) Rule → A → (ℕ → A) → A
+on_text (Ok None) stop more = stop
+on_text (Err r) stop more = stop
+on_text (Ok (Some o)) stop more = more o
 
 -- a question's step
-unfoldable pub entry_of : Manner → Bool → List ℕ → List ℕ → ℕ → Entry
-entry_of how high t l at = on_text (frame_of how high t l) Stop (λ o. At (place_of t o l at) o)
+unfoldable pub entry_of : Manner → Bool → List ℕ → List ℕ → ℕ → Option (Place × ℕ)
+entry_of how high t l at = on_text (frame_of how high t l) None (λ o. Some (place_of t o l at, o))
 
 unfoldable pub places_from : Manner → ℕ → Bool → List ℕ → List ℕ → ℕ → List Place
 places_from how zero high t l at = []
@@ -163,24 +153,24 @@ abbrev pub PlaceIn : ℕ → Place → Type 0
 PlaceIn e s = (s.key ≤ s.gap) × (s.gap ≤ s.value) × (s.value ≤ s.end) × (s.end ≤ e)
 
 -- the i-th, and the first with a keyword
-unfoldable pub nth_of : List Place → ℕ → Found
-nth_of [] i = Nothing
-nth_of (s ∷ ss) zero = Is s
+unfoldable pub nth_of : List Place → ℕ → Option Place
+nth_of [] i = None
+nth_of (s ∷ ss) zero = Some s
 nth_of (s ∷ ss) (suc i) = nth_of ss i
 
-unfoldable pub find_of : Manner → List ℕ → List Place → List ℕ → Found
-find_of how f [] key = Nothing
-find_of how f (s ∷ ss) key = pick (same (named how (key_in f s)) key) (Is s) (find_of how f ss key)
+unfoldable pub find_of : Manner → List ℕ → List Place → List ℕ → Option Place
+find_of how f [] key = None
+find_of how f (s ∷ ss) key = pick (same (named how (key_in f s)) key) (Some s) (find_of how f ss key)
 
-abbrev pub found : Found → Bool
-found Nothing = false
-found (Is s) = true
+abbrev pub found : Option Place → Bool
+found None = false
+found (Some s) = true
 
 -- what an answer is of f: nothing is the empty part at the start
-unfoldable pub key_found : List ℕ → Found → List ℕ
-key_found f Nothing = []
-key_found f (Is s) = key_in f s
+unfoldable pub key_found : List ℕ → Option Place → List ℕ
+key_found f None = []
+key_found f (Some s) = key_in f s
 
-unfoldable pub value_found : List ℕ → Found → List ℕ
-value_found f Nothing = []
-value_found f (Is s) = value_in f s
+unfoldable pub value_found : List ℕ → Option Place → List ℕ
+value_found f None = []
+value_found f (Some s) = value_in f s

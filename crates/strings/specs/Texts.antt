@@ -1,14 +1,13 @@
 -- What stands between an offset and its terminator: the keyword, the separators and the value, and the laws of rows 16
 -- and 17.
 -- Assumes nothing.
-use Rattle.std.specs.Prelude.{◌≡◌, Bool, not, ◌&&◌, List, [], ◌∷◌, ℕ, suc, ◌-◌, ◌<◌, length, take, drop, ltb, eqb}
+use Rattle.std.specs.Prelude.{◌≡◌, Bool, not, ◌&&◌, List, [], ◌∷◌, ℕ, suc, ◌-◌, ◌<◌, length, take, drop, ltb, eqb, Ok, Err}
 use Rattle.std.proofs.Math.Path.{refl}
 use Rattle.std.proofs.Common.{sym, ap, ◌∙◌, arith, take-append-drop, length-take-le}
 use Rattle.std.proofs.Math.Bool.{true, false}
 use borrow.Author.Tests.{eq-eqb, ne_eqb, lt-ltb}
 use Rattle.refusal.specs.Rows.{pick, ruled}
 use Rattle.refusal.specs.declared.Rule.TheVariants.{Character, KeywordOrder}
-use Rattle.strings.specs.declared.Judged.TheVariants.{Keyword, Wrong}
 use Rattle.text.specs.declared.Manner.{Manner}
 use Rattle.chars.specs.Chars.{blank, solid}
 use Rattle.chars.specs.Runs.{run, all, Stops, run_le, run_all, run_append, all_weaker}
@@ -62,41 +61,41 @@ parted (x ∷ xs) h = go (blank x) refl h
 
 -- ---- which answer it is, from the tests as the code makes them
 module _ (how : Manner) (u prev b : List ℕ) where
-  wrong_key : all (letter how) (key_of b) ≡ false → Wrong Character ≡ judged_of how u prev b
+  wrong_key : all (letter how) (key_of b) ≡ false → Err Character ≡ judged_of how u prev b
   unfolding judged_of
   wrong_key h = go (eqb (key_len b) 0)
     where
-      go : (w : Bool) → Wrong Character ≡ pick w (Wrong Character)
+      go : (w : Bool) → Err Character ≡ pick w (Err Character)
           (ruled
           ((not (all (letter how) (key_of b)), Character)
           ∷ (not (value_ok u (named how (key_of b)) (value_of b)), Character)
           ∷ (not (follows how prev (key_of b)), KeywordOrder)
           ∷ [])
-          Wrong (Keyword (key_len b)))
+          Err (Ok (key_len b)))
       go true = refl
       go false = rw h
 
-  no_key : key_len b ≡ 0 → Wrong Character ≡ judged_of how u prev b
+  no_key : key_len b ≡ 0 → Err Character ≡ judged_of how u prev b
   unfolding judged_of
   no_key h = rw (eq-eqb (key_len b) 0 h)
 
   module _ (n : ℕ) (e : n ≡ run (letter how) b) where
-    pub judged_none : n ≡ 0 → Wrong Character ≡ judged_of how u prev b
+    pub judged_none : n ≡ 0 → Err Character ≡ judged_of how u prev b
     judged_none z = go b refl
       where
         none_run : run (letter how) b ≡ 0
         none_run = sym e ∙ z
 
-        here : (x : ℕ) (xs : List ℕ) → b ≡ x ∷ xs → (w : Bool) → solid x ≡ w → Wrong Character ≡ judged_of how u prev b
+        here : (x : ℕ) (xs : List ℕ) → b ≡ x ∷ xs → (w : Bool) → solid x ≡ w → Err Character ≡ judged_of how u prev b
         here x xs q true s = wrong_key (key_bad how b (rw (none_run, q) s))
         here x xs q false s = no_key (key_good how b (rw (none_run, q) s) ∙ none_run)
 
-        go : (l : List ℕ) → b ≡ l → Wrong Character ≡ judged_of how u prev b
+        go : (l : List ℕ) → b ≡ l → Err Character ≡ judged_of how u prev b
         go [] q = no_key (key_good how b (rw (none_run, q) tt) ∙ none_run)
         go (x ∷ xs) q = here x xs q (solid x) refl
 
     module _ (g : ℕ) (f : g ≡ run blank (drop n b)) where
-      pub judged_char : (eqb g 0 && ltb 0 (length (drop n b))) ≡ true → Wrong Character ≡ judged_of how u prev b
+      pub judged_char : (eqb g 0 && ltb 0 (length (drop n b))) ≡ true → Err Character ≡ judged_of how u prev b
       judged_char h = wrong_key (key_bad how b (rw e at (meets (drop n b) (rw f at h))))
 
       pub is_key : (eqb g 0 && ltb 0 (length (drop n b))) ≡ false → key_len b ≡ n
@@ -106,16 +105,16 @@ module _ (how : Manner) (u prev b : List ℕ) where
       keys k = rw (k, e) (run_all (letter how) b)
 
       pub judged_value : 0 < n → (eqb g 0 && ltb 0 (length (drop n b))) ≡ false → value_ok u (named how (take n b)) (drop g (drop n b)) ≡ false
-          → Wrong Character ≡ judged_of how u prev b
+          → Err Character ≡ judged_of how u prev b
       unfolding judged_of gap_len
       judged_value s h v = let k = is_key h in let a = rw k at (keys k) in rw (k, ne_eqb n 0 (omega arith), a, ← f, v)
 
       pub judged_order : 0 < n → (eqb g 0 && ltb 0 (length (drop n b))) ≡ false → value_ok u (named how (take n b)) (drop g (drop n b)) ≡ true
-          → follows how prev (take n b) ≡ false → Wrong KeywordOrder ≡ judged_of how u prev b
+          → follows how prev (take n b) ≡ false → Err KeywordOrder ≡ judged_of how u prev b
       unfolding judged_of gap_len
       judged_order s h v o = let k = is_key h in let a = rw k at (keys k) in rw (k, ne_eqb n 0 (omega arith), a, ← f, v, o)
 
       pub judged_good : 0 < n → (eqb g 0 && ltb 0 (length (drop n b))) ≡ false → value_ok u (named how (take n b)) (drop g (drop n b)) ≡ true
-          → follows how prev (take n b) ≡ true → Keyword n ≡ judged_of how u prev b
+          → follows how prev (take n b) ≡ true → Ok n ≡ judged_of how u prev b
       unfolding judged_of gap_len
       judged_good s h v o = let k = is_key h in let a = rw k at (keys k) in rw (k, ne_eqb n 0 (omega arith), a, ← f, v, o)

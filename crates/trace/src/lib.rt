@@ -4,20 +4,14 @@
 // The rules in words: docs/FORMAT.md, "Refusal numbers, in order of checking".
 #![tactic(auto)]
 
-ghost use Rattle.std.specs.Prelude.{◌≡◌, ◌+◌, ◌≤◌, length};
+ghost use Rattle.std.specs.Prelude.{◌≡◌, ◌+◌, ◌≤◌, length, Ok, Err};
+ghost use Rattle.std.specs.Option.{is_some};
 ghost use Rattle.refusal.specs.Verdicts.{asked};
-ghost use Rattle.word.specs.Part.{part};
+ghost use Rattle.seek.specs.Sought.{SpanIn, span_bytes};
 ghost use Rattle.trace.specs.Trace.{channel_row, chosen_by};
 
 use refusal::{Part, Refusal, Rule};
 use text::Manner;
-
-// A trace that was checked: where it ends, and whether the file's traces have a channel number; or the refusal.
-#[derive(Clone, Copy)]
-pub enum Traced {
-    Through(usize, bool),
-    Not(Refusal),
-}
 
 // Whether the file's traces have a channel number: as trace 0 has it.
 fn chosen(with: bool, k: u16, has: bool) -> bool
@@ -29,30 +23,31 @@ fn chosen(with: bool, k: u16, has: bool) -> bool
     with
 }
 
-// Row 34 of the trace k at p, which ends at `end`: whether it has a channel number, and the value from `from` to `to`.
+// Row 34 of the trace k at p, which ends at `end`: `value` is where the value of its channel number stands, if it has
+// one. Answers where the trace ends, and whether the file's traces have a channel number.
 pub fn numbered(
     f: &[u8],
     with: bool,
     k: u16,
     p: usize,
-    has: bool,
-    from: usize,
-    to: usize,
+    value: Option<(usize, usize)>,
     end: usize,
     how: Manner,
-) -> Traced
-    requires { (p + 32 ≤ length f.now) × (from ≤ to) × (to ≤ length f.now) }
-    ensures { result ≡ asked Traced.Not (channel_row how (chosen_by with k has) k p has (part from to f.now))
-        (Traced.Through end (chosen_by with k has)) }
+) -> Result<(usize, bool), Refusal>
+    requires { (p + 32 ≤ length f.now) × SpanIn f.now value }
+    ensures { result ≡ asked Err (channel_row how (chosen_by with k (is_some value)) k p (is_some value)
+        (span_bytes f.now value)) (Ok (end, chosen_by with k (is_some value))) }
 {
+    let has = value.is_some();
     let all = chosen(with, k, has);
+    let (from, to) = value.unwrap_or((0, 0));
     let bad = text::asks_channels(how) & channel::is_bad(all, has, &f[from..to]);
     if bad {
-        return Traced::Not(Refusal {
+        return Err(Refusal {
             rule: Rule::ChannelNumber,
             part: Part::Trace(k),
             place: p + 32,
         });
     }
-    Traced::Through(end, all)
+    Ok((end, all))
 }

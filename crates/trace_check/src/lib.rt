@@ -10,27 +10,21 @@ ghost use Rattle.block.specs.Block.{block_answer};
 ghost use Rattle.block.specs.BlockLaws.{head_at};
 ghost use Rattle.trace.specs.Trace.{chosen_at, traced};
 
-use block::TraceAnswer;
-use refusal::Part;
-use seek::Checked;
+use block::TraceBlock;
+use refusal::{Part, Refusal};
 use text::Manner;
-use trace::Traced;
 
 // Rows 9 to 13 of the trace k, whose block begins at p, and the block. A function, so that the memory that the answer
 // comes back in is given back before the strings.
-fn block_of(f: &[u8], high: bool, k: u16, p: usize) -> TraceAnswer
+fn block_of(f: &[u8], high: bool, k: u16, p: usize) -> Result<TraceBlock, Refusal>
     requires { (p < 4294967296) × (p + 32 ≤ length f.now) }
     ensures { result ≡ block_answer high (head_at f.now p) (length f.now) k p }
 {
     let from = p + 32;
-    let rows = block::block_rows(&f[p..from], high, f.len(), k, p);
-    match rows {
-        TraceAnswer::Refused(r) => TraceAnswer::Refused(r),
-        TraceAnswer::Is(x) => TraceAnswer::Is(x),
-    }
+    block::block_rows(&f[p..from], high, f.len(), k, p)
 }
 
-// Rows 14 to 17 of its strings, which stand from a to e, and its channel number. A function for the same reason.
+// Rows 14 to 17 of its strings, which stand from a to e, and where the value of its channel number stands. A function for the same reason.
 fn strings_of(
     f: &[u8],
     a: usize,
@@ -40,19 +34,16 @@ fn strings_of(
     u: &[u8],
     k: u16,
     how: Manner,
-) -> Checked
+) -> Result<Option<(usize, usize)>, Refusal>
     requires { (a ≤ e) × (e ≤ length f.now) × (0 < length u.now) }
     ensures { result ≡ checked_of how high t.now u.now (Part.Trace k) f.now a e
         channel_number }
 {
-    let strings = strings_check::check(f, a, e, high, t, u, Part::Trace(k), how);
-    match strings {
-        Checked::Refused(r) => Checked::Refused(r),
-        Checked::Has(has, from, to) => Checked::Has(has, from, to),
-    }
+    strings_check::check(f, a, e, high, t, u, Part::Trace(k), how)
 }
 
-// Rows 9 to 17 and 34 of the trace k, whose block begins at p; and where it ends.
+// Rows 9 to 17 and 34 of the trace k, whose block begins at p: where it ends, and whether the file's traces have a channel
+// number; or the refusal.
 pub fn check(
     f: &[u8],
     high: bool,
@@ -62,24 +53,13 @@ pub fn check(
     k: u16,
     p: usize,
     how: Manner,
-) -> Traced
+) -> Result<(usize, bool), Refusal>
     requires { (p < 4294967296) × (p + 32 ≤ length f.now) × (0 < length u.now) }
     ensures { result ≡ traced how high t.now u.now f.now
         (chosen_at how high t.now f.now with k p) k p }
 {
-    let from = p + 32;
-    let rows = block_of(f, high, k, p);
-    match rows {
-        TraceAnswer::Refused(r) => Traced::Not(r),
-        TraceAnswer::Is(x) => {
-            let end = p + x.b;
-            let strings = strings_of(f, from, end, high, t, u, k, how);
-            match strings {
-                Checked::Refused(r) => Traced::Not(r),
-                Checked::Has(has, value, to) => {
-                    trace::numbered(f, with, k, p, has, value, to, end + x.d, how)
-                }
-            }
-        }
-    }
+    let x = block_of(f, high, k, p)?;
+    let end = p + x.b;
+    let value = strings_of(f, p + 32, end, high, t, u, k, how)?;
+    trace::numbered(f, with, k, p, value, end + x.d, how)
 }

@@ -2,14 +2,13 @@
 -- of one trace are trace/Trace). f is the image, `how` the manner of reading.
 -- Assumes nothing.
 use Rattle.std.specs.Prelude.{Bool, List, ◌∷◌, ℕ, zero, suc, ◌+◌, length}
-use Rattle.refusal.specs.declared.Verdict.{Verdict}
-use Rattle.refusal.specs.declared.Verdict.TheVariants.{Accepted}
-use Rattle.refusal.specs.Verdicts.{and_then}
+use Rattle.refusal.specs.Verdicts.{and_then, accepted}
 use Rattle.refusal.specs.FirstRow.{first_of}
 use Rattle.text.specs.declared.Manner.{Manner}
 use Rattle.strings.specs.Strings.{found}
 use Rattle.block.specs.Block.{pointer_of, end_at, pointer_row}
 use Rattle.trace.specs.Trace.{channel_at, block_checks}
+use Rattle.refusal.specs.Verdicts.{Verdict}
 
 -- ---- channel numbers (document 02 §7): "if one trace block has it, all must"
 
@@ -29,6 +28,6 @@ trace_of how high t u f k prev = first_of (trace_checks how high t u f k prev)
 
 -- the traces from k on, so many of them, behind what ends at prev
 unfoldable pub traces_from : Manner → Bool → List ℕ → List ℕ → List ℕ → ℕ → ℕ → ℕ → Verdict
-traces_from how high t u f zero k prev = Accepted
+traces_from how high t u f zero k prev = accepted
 traces_from how high t u f (suc left) k prev =
     and_then (trace_of how high t u f k prev) (traces_from how high t u f left (k + 1) (end_at high f (pointer_of high f k)))

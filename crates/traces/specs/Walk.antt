@@ -2,7 +2,7 @@
 -- at the end of what stands before it, so the first pointer is judged once, where image/Image has it twice. The laws say
 -- that these are the traces of Traces.
 -- Assumes nothing.
-use Rattle.std.specs.Prelude.{◌≡◌, refl, Bool, true, false, List, length, leb, eqb}
+use Rattle.std.specs.Prelude.{◌≡◌, refl, Bool, true, false, List, length, leb, eqb, Result, Ok, Err}
 use Rattle.std.proofs.Math.Path.{sym}
 use Rattle.std.proofs.Common.{ap, ◌∙◌, leb-true, leb-false, ne_eqb}
 use Prim.Native.Nat.{ℕ, zero, suc, ◌+◌, ◌-◌, ◌≤◌, ◌<◌}
@@ -10,38 +10,34 @@ use Rattle.std.proofs.Math.Nat.{lt_of_not-le}
 use Rattle.std.proofs.Math.Decide.{dec_le}
 use native.Mathlib.Omega.{arith}
 use Rattle.refusal.specs.Rows.{pick, pick_second}
-use Rattle.refusal.specs.Verdicts.{asked, and_then}
+use Rattle.refusal.specs.Verdicts.{asked, and_then, accepted}
 use Rattle.refusal.specs.FirstRow.{first_of, first_next, first_two}
 use Rattle.refusal.specs.declared.Part.TheVariants.{File}
 use Rattle.refusal.specs.declared.Refusal.{Refusal}
-use Rattle.refusal.specs.declared.Verdict.{Verdict}
-use Rattle.refusal.specs.declared.Verdict.TheVariants.{Accepted, Refused}
 use Rattle.text.specs.declared.Manner.{Manner}
 use Rattle.block.specs.Block.{pointer_of, end_at, pointer_row}
 use Rattle.block.specs.BlockLaws.{pointed}
-use Rattle.traces.specs.declared.Walked.{Walked}
-use Rattle.traces.specs.declared.Walked.TheVariants.{Past, Bad}
-use Rattle.trace.specs.declared.Traced.TheVariants.{Through, Not}
 use Rattle.trace.specs.Trace.{area_verdict, block_checks, chosen_at, traced}
 use Rattle.trace.specs.TraceLaws.{not_through, was_through}
 use Rattle.traces.specs.Traces.{with_channel, trace_of, traces_from}
+use Rattle.refusal.specs.Verdicts.{Verdict}
 
 -- behind what ends at prev: row 8 of the trace k, and where it begins; behind the last of n traces, the image's end
-abbrev pub next_of : Bool → List ℕ → ℕ → ℕ → ℕ → Walked
+abbrev pub next_of : Bool → List ℕ → ℕ → ℕ → ℕ → Result ℕ Refusal
 next_of high f n k prev =
-    pick (leb n k) (Past (length f)) (asked Bad (pointer_row (length f) k prev (pointer_of high f k)) (Past (pointer_of high f k)))
+    pick (leb n k) (Ok (length f)) (asked Err (pointer_row (length f) k prev (pointer_of high f k)) (Ok (pointer_of high f k)))
 
 -- the traces from k on, so many of them, where row 8 of the first was asked
 unfoldable pub pointed_from : Manner → Bool → List ℕ → List ℕ → List ℕ → ℕ → ℕ → Verdict
-pointed_from how high t u f zero k = Accepted
+pointed_from how high t u f zero k = accepted
 pointed_from how high t u f (suc left) k =
     and_then (first_of (block_checks how high t u f (with_channel how high t f) k (pointer_of high f k)))
     (traces_from how high t u f left (k + 1) (end_at high f (pointer_of high f k)))
 
 -- a pointer has 32 bits
-abbrev pub InWord : Walked → Type 0
-InWord (Past p) = p < 4294967296
-InWord (Bad r) = Unit {0}
+abbrev pub InWord : Result ℕ Refusal → Type 0
+InWord (Ok p) = p < 4294967296
+InWord (Err r) = Unit {0}
 
 -- p is where the trace k begins, if there is one, and its first 32 bytes are there
 abbrev pub Stands : Bool → List ℕ → ℕ → ℕ → ℕ → Type 0
@@ -49,22 +45,22 @@ Stands high f n k p = k < n → (p ≡ pointer_of high f k) × (p + 32 ≤ lengt
 
 -- ---- what a step has shown
 
-stopped : (v : Verdict) (p : ℕ) (r : Refusal) → asked Bad v (Past p) ≡ Bad r → v ≡ Refused r
-stopped Accepted p r e = let z : ◌≡◌ {A = ℕ} 0 1 = cc in absurd (omega arith)
-stopped (Refused q) p r e = let s : q ≡ r = cc in ap Refused s
+stopped : (v : Verdict) (p : ℕ) (r : Refusal) → asked Err v (Ok p) ≡ Err r → v ≡ Err r
+stopped (Ok _) p r e = let z : ◌≡◌ {A = ℕ} 0 1 = cc in absurd (omega arith)
+stopped (Err q) p r e = let s : q ≡ r = cc in ap Err s
 
-went_on : (v : Verdict) (p q : ℕ) → asked Bad v (Past p) ≡ Past q → (v ≡ Accepted) × (p ≡ q)
-went_on Accepted p q e = (refl, cc)
-went_on (Refused r) p q e = let z : ◌≡◌ {A = ℕ} 0 1 = cc in absurd (omega arith)
+went_on : (v : Verdict) (p q : ℕ) → asked Err v (Ok p) ≡ Ok q → (v ≡ accepted) × (p ≡ q)
+went_on (Ok _) p q e = (refl, cc)
+went_on (Err r) p q e = let z : ◌≡◌ {A = ℕ} 0 1 = cc in absurd (omega arith)
 
 -- ---- a trace: its pointer, then its block
 module _ (how : Manner) (high : Bool) (t u f : List ℕ) (k prev : ℕ) where
-  trace_bad : (r : Refusal) → pointer_row (length f) k prev (pointer_of high f k) ≡ Refused r → trace_of how high t u f k prev ≡ Refused r
+  trace_bad : (r : Refusal) → pointer_row (length f) k prev (pointer_of high f k) ≡ Err r → trace_of how high t u f k prev ≡ Err r
   unfolding trace_of and_then
   trace_bad r h = first_next _ _ ∙ rw h
 
   -- a trace whose pointer was judged is its other checks
-  trace_pointed : pointer_row (length f) k prev (pointer_of high f k) ≡ Accepted
+  trace_pointed : pointer_row (length f) k prev (pointer_of high f k) ≡ accepted
       → first_of (block_checks how high t u f (with_channel how high t f) k (pointer_of high f k)) ≡ trace_of how high t u f k prev
   unfolding trace_of and_then
   trace_pointed h = sym (first_next _ _ ∙ rw h)
@@ -72,30 +68,30 @@ module _ (how : Manner) (high : Bool) (t u f : List ℕ) (k prev : ℕ) where
 -- ---- where the walk goes on
 module _ (high : Bool) (f : List ℕ) (n k prev : ℕ) where
   -- row 8 was asked and refused; or it was passed, or there is no trace k
-  pub next_refused : (r : Refusal) → next_of high f n k prev ≡ Bad r → (k < n) × (pointer_row (length f) k prev (pointer_of high f k) ≡ Refused r)
+  pub next_refused : (r : Refusal) → next_of high f n k prev ≡ Err r → (k < n) × (pointer_row (length f) k prev (pointer_of high f k) ≡ Err r)
   next_refused r e = go (leb n k) _ refl e
     where
-      go : (b : Bool) (v : Verdict) → leb n k ≡ b → pick b (Past (length f)) (asked Bad v (Past (pointer_of high f k))) ≡ Bad r
-          → (k < n) × (v ≡ Refused r)
+      go : (b : Bool) (v : Verdict) → leb n k ≡ b → pick b (Ok (length f)) (asked Err v (Ok (pointer_of high f k))) ≡ Err r
+          → (k < n) × (v ≡ Err r)
       go true v q h = let z : ◌≡◌ {A = ℕ} 0 1 = cc in absurd (omega arith)
       go false v q h = (leb-false n k q, stopped v _ r h)
 
-  pub next_passed : (p : ℕ) → next_of high f n k prev ≡ Past p
-      → (k < n → (pointer_row (length f) k prev (pointer_of high f k) ≡ Accepted) × (pointer_of high f k ≡ p)) × (n ≤ k → length f ≡ p)
+  pub next_passed : (p : ℕ) → next_of high f n k prev ≡ Ok p
+      → (k < n → (pointer_row (length f) k prev (pointer_of high f k) ≡ accepted) × (pointer_of high f k ≡ p)) × (n ≤ k → length f ≡ p)
   next_passed p e = go (leb n k) _ refl e
     where
-      go : (b : Bool) (v : Verdict) → leb n k ≡ b → pick b (Past (length f)) (asked Bad v (Past (pointer_of high f k))) ≡ Past p
-          → (k < n → (v ≡ Accepted) × (pointer_of high f k ≡ p)) × (n ≤ k → length f ≡ p)
+      go : (b : Bool) (v : Verdict) → leb n k ≡ b → pick b (Ok (length f)) (asked Err v (Ok (pointer_of high f k))) ≡ Ok p
+          → (k < n → (v ≡ accepted) × (pointer_of high f k ≡ p)) × (n ≤ k → length f ≡ p)
       go true v q h = let l = leb-true n k q in ((λ s. absurd (omega arith)), λ _. cc)
       go false v q h = let l = leb-false n k q in ((λ _. went_on v _ p h), λ s. absurd (omega arith))
 
   -- so p is where the trace k begins, and no place goes back or beyond the end
-  pub next_stands : (p : ℕ) (x : Walked) → x ≡ next_of high f n k prev → (k < n → InWord x) → x ≡ Past p → Stands high f n k p
+  pub next_stands : (p : ℕ) (x : Result ℕ Refusal) → x ≡ next_of high f n k prev → (k < n → InWord x) → x ≡ Ok p → Stands high f n k p
   next_stands p x e w q l =
       let s = (next_passed p (sym e ∙ q)).0 l in
       (sym s.1, rw s.1 at (pointed _ k prev _ s.0).fits, rw q at (w l))
 
-  pub next_within : (p : ℕ) → next_of high f n k prev ≡ Past p → prev ≤ length f → (prev ≤ p) × (p ≤ length f)
+  pub next_within : (p : ℕ) → next_of high f n k prev ≡ Ok p → prev ≤ length f → (prev ≤ p) × (p ≤ length f)
   next_within p e h =
       elim (dec_le n k) [
         | yes l ↦ (let z = (next_passed p e).1 l in (omega arith, omega arith))
@@ -107,14 +103,14 @@ module _ (high : Bool) (f : List ℕ) (n k prev : ℕ) where
 
   module _ (how : Manner) (t u : List ℕ) where
     -- the traces from k on, behind prev: its refusal, or what they are where row 8 of the first was asked
-    pub next_bad : (r : Refusal) → next_of high f n k prev ≡ Bad r → Refused r ≡ traces_from how high t u f (n - k) k prev
+    pub next_bad : (r : Refusal) → next_of high f n k prev ≡ Err r → Err r ≡ traces_from how high t u f (n - k) k prev
     unfolding traces_from and_then
     next_bad r e =
         let s = next_refused r e in
         let z : n - k ≡ suc (n - (k + 1)) = omega (arith, s.0) in
         sym (rw (z, trace_bad how high t u f k prev r s.1))
 
-    pub next_past : (p : ℕ) → next_of high f n k prev ≡ Past p → pointed_from how high t u f (n - k) k ≡ traces_from how high t u f (n - k) k prev
+    pub next_past : (p : ℕ) → next_of high f n k prev ≡ Ok p → pointed_from how high t u f (n - k) k ≡ traces_from how high t u f (n - k) k prev
     unfolding traces_from pointed_from
     next_past p e =
         elim (dec_le n k) [
@@ -140,17 +136,17 @@ module _ (how : Manner) (high : Bool) (t u f : List ℕ) (n k p : ℕ) (low : k 
   unfolding pointed_from
   turn = let e : n - k ≡ suc (n - (k + 1)) = omega arith in rw (e, here, chose)
 
-  pub turn_bad : (r : Refusal) → traced how high t u f w k p ≡ Not r → Refused r ≡ pointed_from how high t u f (n - k) k
+  pub turn_bad : (r : Refusal) → traced how high t u f w k p ≡ Err r → Err r ≡ pointed_from how high t u f (n - k) k
   unfolding and_then
   turn_bad r h = sym (turn ∙ rw (not_through (first_of (block_checks how high t u f w k p)) (end_at high f p) w r h))
 
-  pub turn_past : (e : ℕ) (all : Bool) → traced how high t u f w k p ≡ Through e all
+  pub turn_past : (e : ℕ) (all : Bool) → traced how high t u f w k p ≡ Ok (e, all)
       → (traces_from how high t u f (n - (k + 1)) (k + 1) e ≡ pointed_from how high t u f (n - k) k) × (all ≡ with_channel how high t f)
   unfolding and_then
   turn_past e all h =
       let g = was_through (first_of (block_checks how high t u f w k p)) (end_at high f p) w e all h in
       (sym (turn ∙ rw (g.0, g.1)), sym g.2 ∙ chose)
 
-pub walk_over : (how : Manner) (high : Bool) (t u f : List ℕ) (n k : ℕ) → n ≤ k → Accepted ≡ pointed_from how high t u f (n - k) k
+pub walk_over : (how : Manner) (high : Bool) (t u f : List ℕ) (n k : ℕ) → n ≤ k → accepted ≡ pointed_from how high t u f (n - k) k
 unfolding pointed_from
 walk_over how high t u f n k h = let e : n - k ≡ 0 = omega arith in rw e

@@ -7,31 +7,20 @@
 ghost use Rattle.std.specs.Prelude.{◌≡◌, ◌+◌, ◌*◌, ◌≤◌, ◌<◌, length};
 ghost use Rattle.traces.specs.Walk.{next_of, pointed_from, InWord, Stands};
 
-use refusal::{Refusal, Verdict};
+use refusal::Refusal;
 use text::Manner;
-use trace::Traced;
-
-// A step of the walk over the file: where it goes on, or the refusal.
-#[derive(Clone, Copy)]
-pub enum Walked {
-    Past(usize),
-    Bad(Refusal),
-}
 
 // Row 8 of the trace k, behind what ends at prev: where its block begins. Behind the last trace it is the image's end.
-pub fn next(f: &[u8], high: bool, n: u16, k: u16, prev: usize) -> Walked
+pub fn next(f: &[u8], high: bool, n: u16, k: u16, prev: usize) -> Result<usize, Refusal>
     requires { 32 + 4 * n ≤ length f.now }
     ensures { (result ≡ next_of high f.now n k prev) × (k < n → InWord result) }
 {
     if n <= k {
-        return Walked::Past(f.len());
+        return Ok(f.len());
     }
     let p = block::pointer(f, high, k);
-    let row = block::pointer_row(f.len(), k, prev, p);
-    match row {
-        Verdict::Refused(r) => Walked::Bad(r),
-        Verdict::Accepted => Walked::Past(p),
-    }
+    block::pointer_row(f.len(), k, prev, p)?;
+    Ok(p)
 }
 
 // Each trace, 8 to 17 and 34, where row 8 of the first was asked and `first` is where it begins.
@@ -43,7 +32,7 @@ pub fn traces(
     n: u16,
     first: usize,
     how: Manner,
-) -> Verdict
+) -> Result<(), Refusal>
     requires { (32 + 4 * n ≤ length f.now) × (0 < length u.now) × Stands high f.now n 0 first }
     ensures { result ≡ pointed_from how high t.now u.now f.now n 0 }
 {
@@ -51,25 +40,10 @@ pub fn traces(
     let mut p = first;
     let mut with = false;
     while k < n {
-        let w = trace_check::check(f, high, t, u, with, k, p, how);
-        match w {
-            Traced::Not(r) => {
-                return Verdict::Refused(r);
-            }
-            Traced::Through(end, all) => {
-                k += 1;
-                with = all;
-                let x = next(f, high, n, k, end);
-                match x {
-                    Walked::Bad(r) => {
-                        return Verdict::Refused(r);
-                    }
-                    Walked::Past(q) => {
-                        p = q;
-                    }
-                }
-            }
-        }
+        let (end, all) = trace_check::check(f, high, t, u, with, k, p, how)?;
+        k += 1;
+        with = all;
+        p = next(f, high, n, k, end)?;
     }
-    Verdict::Accepted
+    Ok(())
 }

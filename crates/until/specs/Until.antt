@@ -5,7 +5,7 @@
 -- prev is the keyword before, the empty one before the first; t is the string terminator, u the line terminator, `high`
 -- the byte order.
 -- Assumes nothing.
-use Rattle.std.specs.Prelude.{Bool, List, [], ℕ, zero, suc, ◌+◌, length, take, drop, eqb}
+use Rattle.std.specs.Prelude.{Bool, List, [], ℕ, zero, suc, ◌+◌, length, take, drop, eqb, Result, Ok, Err, Option, Some, None}
 use Rattle.refusal.specs.declared.Refusal.{Refusal}
 use Rattle.refusal.specs.declared.Rule.TheVariants.{StringOffset}
 use Rattle.refusal.specs.declared.Part.{Part}
@@ -14,8 +14,6 @@ use Rattle.refusal.specs.Rows.{pick}
 use Rattle.chars.specs.Runs.{same}
 use Rattle.text.specs.declared.Manner.TheVariants.{Strict}
 use Rattle.key_order.specs.Order.{before}
-use Rattle.strings.specs.declared.Step.{Step}
-use Rattle.strings.specs.declared.Step.TheVariants.{Next, Done, Bad}
 use Rattle.strings.specs.Strings.{step_of, place_of}
 use Rattle.until.specs.declared.Ask.{Ask}
 use Rattle.until.specs.declared.Ask.TheVariants as ask
@@ -55,21 +53,21 @@ on_turn Gone here gone more = gone
 on_turn On here gone more = more
 
 -- a step: past a string, at the end of the list, or refused
-abbrev pub on_step : {A : Type 0} → Step → (Refusal → A) → A → (ℕ → ℕ → A) → A
-on_step (Next o n) bad done next = next o n
-on_step Done bad done next = done
-on_step (Bad r) bad done next = bad r
+abbrev pub on_step : {A : Type 0} → Result (Option (ℕ × ℕ)) Refusal → (Refusal → A) → A → (ℕ → ℕ → A) → A
+on_step (Ok (Some (o, n))) bad done next = next o n
+on_step (Ok None) bad done next = done
+on_step (Err r) bad done next = bad r
 
 -- ---- the walk. The number bounds how many strings there are; the length of l is enough, for each has a byte. Where no
 -- byte is left the missing end mark is 14
-unfoldable pub walk_from : (ℕ → List ℕ → Turn) → ℕ → Bool → List ℕ → List ℕ → Part → ℕ → List ℕ → List ℕ → ℕ → Walked
-walk_from look zero high t u p j prev l at = walked.Bad (refusal StringOffset p at)
+unfoldable pub walk_from : (ℕ → List ℕ → Turn) → ℕ → Bool → List ℕ → List ℕ → Part → ℕ → List ℕ → List ℕ → ℕ → Result Walked Refusal
+walk_from look zero high t u p j prev l at = Err (refusal StringOffset p at)
 walk_from look (suc m) high t u p j prev l at =
-    on_step (step_of Strict high t u p prev l at) walked.Bad (walked.Over j)
+    on_step (step_of Strict high t u p prev l at) Err (Ok (walked.Over j))
     (λ o n.
-    on_turn (look j (take n (drop 2 l))) (walked.At (place_of t o l at)) (walked.Over j)
+    on_turn (look j (take n (drop 2 l))) (Ok (walked.At (place_of t o l at))) (Ok (walked.Over j))
     (walk_from look m high t u p (j + 1) (take n (drop 2 l)) (drop o l) (at + o)))
 
 -- "An empty area is an empty list"
-unfoldable pub walk_of : (ℕ → List ℕ → Turn) → Bool → List ℕ → List ℕ → Part → List ℕ → ℕ → Walked
-walk_of look high t u p l at = pick (eqb (length l) 0) (walked.Over 0) (walk_from look (length l) high t u p 0 [] l at)
+unfoldable pub walk_of : (ℕ → List ℕ → Turn) → Bool → List ℕ → List ℕ → Part → List ℕ → ℕ → Result Walked Refusal
+walk_of look high t u p l at = pick (eqb (length l) 0) (Ok (walked.Over 0)) (walk_from look (length l) high t u p 0 [] l at)

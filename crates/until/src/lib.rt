@@ -29,13 +29,11 @@ pub enum Turn {
     On,
 }
 
-// What a walk answers: where the asked string stands; how many were passed, where there is none; or the refusal of a
-// string that was come to.
+// Where a walk ended: at the asked string; or past so many, where there is none.
 #[derive(Clone, Copy)]
 pub enum Walked {
     At(Place),
     Over(usize),
-    Bad(Refusal),
 }
 
 // What a string with the keyword k, the j-th counted from 0, is to the question.

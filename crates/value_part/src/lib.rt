@@ -8,25 +8,26 @@ ghost use Rattle.word.specs.Part.{PartOf};
 ghost use Rattle.reader.specs.Questions.{value_there, span_there};
 ghost use Rattle.reader.specs.Leaves.{Within};
 
-use reader::StringAnswer;
+use refusal::Refusal;
+use strings::Place;
 
 // The value of a string that was found, as the caller's own bytes; else the empty part at the start.
-pub fn value_at<'a>(buffer: &'a [u8], s: StringAnswer) -> &'a [u8]
+pub fn value_at<'a>(buffer: &'a [u8], s: Result<Option<Place>, Refusal>) -> &'a [u8]
     requires { Within (length buffer.now) s }
     ensures result_value { result.now ≡ value_there buffer.now s }
     ensures own { PartOf buffer.entry (span_there s) result }
 {
     match s {
-        StringAnswer::There(p) => {
+        Ok(Some(p)) => {
             let from = p.value;
             let to = p.end;
             &buffer[from..to]
         }
-        StringAnswer::Absent => {
+        Ok(None) => {
             let start = 0; // for a no
             &buffer[start..start]
         }
-        StringAnswer::Refused(_) => {
+        Err(_) => {
             let start = 0; // for a refusal
             &buffer[start..start]
         }

@@ -4,7 +4,7 @@
 // The rules in words: docs/FORMAT.md, "Numbers in values".
 #![tactic(auto)]
 
-ghost use Rattle.std.specs.Prelude.{◌≡◌, length};
+ghost use Rattle.std.specs.Prelude.{◌≡◌, length, Err};
 ghost use Rattle.word.specs.Part.{PartOf};
 ghost use Rattle.reader.specs.Questions.{value_there, value_answer, span_answer, number_answer, double_answer};
 ghost use Rattle.reader.specs.Questions.{location_answer, on_string};
@@ -13,10 +13,10 @@ ghost use Rattle.double.specs.Double.{double_of};
 ghost use Rattle.location.specs.Location.{location_of};
 ghost use Rattle.reader.specs.Leaves.{Within};
 
-use decimal_parts::NumberAnswer;
-use double::DoubleAnswer;
-use location::LocationAnswer;
-use reader::StringAnswer;
+use decimal_parts::Decimal;
+use location::Coordinates;
+use refusal::Refusal;
+use strings::Place;
 use text::Manner;
 
 // "the other answers the value as the caller's own bytes, not a copy, and for a no or a refusal the empty part".
@@ -30,50 +30,56 @@ pub fn value<'a>(buffer: &'a [u8], n: usize, part: i32, key: &[u8], how: Manner)
 // ---- numbers in values; an absent keyword has the empty value, which is no number and no location
 
 // Of a string that was looked for: its own refusal, or the number that its value is.
-pub fn number_of(buffer: &[u8], s: StringAnswer) -> NumberAnswer
+pub fn number_of(buffer: &[u8], s: Result<Option<Place>, Refusal>) -> Result<Decimal, Refusal>
     requires { Within (length buffer.now) s }
-    ensures { result ≡ on_string NumberAnswer.Refused s (number_in (value_there buffer.now s)) }
+    ensures { result ≡ on_string Err s (number_in (value_there buffer.now s)) }
 {
-    if let StringAnswer::Refused(r) = s {
-        return NumberAnswer::Refused(r);
-    }
+    s?;
     decimal::number(value_part::value_at(buffer, s))
 }
 
-pub fn double_of(buffer: &[u8], s: StringAnswer) -> DoubleAnswer
+pub fn double_of(buffer: &[u8], s: Result<Option<Place>, Refusal>) -> Result<f64, Refusal>
     requires { Within (length buffer.now) s }
-    ensures { result ≡ on_string DoubleAnswer.Refused s (double_of (value_there buffer.now s)) }
+    ensures { result ≡ on_string Err s (double_of (value_there buffer.now s)) }
 {
-    if let StringAnswer::Refused(r) = s {
-        return DoubleAnswer::Refused(r);
-    }
+    s?;
     double::double(value_part::value_at(buffer, s))
 }
 
-pub fn location_of(buffer: &[u8], s: StringAnswer) -> LocationAnswer
+pub fn location_of(buffer: &[u8], s: Result<Option<Place>, Refusal>) -> Result<Coordinates, Refusal>
     requires { Within (length buffer.now) s }
-    ensures { result ≡ on_string LocationAnswer.Refused s (location_of (value_there buffer.now s)) }
+    ensures { result ≡ on_string Err s (location_of (value_there buffer.now s)) }
 {
-    if let StringAnswer::Refused(r) = s {
-        return LocationAnswer::Refused(r);
-    }
+    s?;
     location_text::location(value_part::value_at(buffer, s))
 }
 
 // Of a part's keyword.
-pub fn number(buffer: &[u8], n: usize, part: i32, key: &[u8], how: Manner) -> NumberAnswer
+pub fn number(
+    buffer: &[u8],
+    n: usize,
+    part: i32,
+    key: &[u8],
+    how: Manner,
+) -> Result<Decimal, Refusal>
     ensures { result ≡ number_answer how buffer.now n part key.now }
 {
     number_of(buffer, string_answers::find(buffer, n, part, key, how))
 }
 
-pub fn double(buffer: &[u8], n: usize, part: i32, key: &[u8], how: Manner) -> DoubleAnswer
+pub fn double(buffer: &[u8], n: usize, part: i32, key: &[u8], how: Manner) -> Result<f64, Refusal>
     ensures { result ≡ double_answer how buffer.now n part key.now }
 {
     double_of(buffer, string_answers::find(buffer, n, part, key, how))
 }
 
-pub fn location(buffer: &[u8], n: usize, part: i32, key: &[u8], how: Manner) -> LocationAnswer
+pub fn location(
+    buffer: &[u8],
+    n: usize,
+    part: i32,
+    key: &[u8],
+    how: Manner,
+) -> Result<Coordinates, Refusal>
     ensures { result ≡ location_answer how buffer.now n part key.now }
 {
     location_of(buffer, string_answers::find(buffer, n, part, key, how))

@@ -1,6 +1,6 @@
 -- What each row of an addition leaves, and what the rows before the first store have shown.
 -- Assumes nothing.
-use Rattle.std.specs.Prelude.{◌≡◌, Bool, true, false, ◌||◌, List, ℕ, ◌+◌, ◌<◌, length, take, ltb}
+use Rattle.std.specs.Prelude.{◌≡◌, Bool, true, false, ◌||◌, List, ℕ, ◌+◌, ◌<◌, length, take, ltb, Result, Ok, Err}
 use Rattle.std.proofs.Math.Path.{refl}
 use Rattle.std.proofs.Common.{sym, ◌∙◌, arith, lt-ltb}
 use Rattle.word.specs.Round.{round4}
@@ -9,44 +9,38 @@ use Rattle.refusal.specs.Rows.{pick}
 use Rattle.refusal.specs.Verdicts.{asked}
 use Rattle.refusal.specs.declared.Refusal.{Refusal}
 use Rattle.refusal.specs.declared.Rule.TheVariants.{NoRoom}
-use Rattle.refusal.specs.declared.Verdict.{Verdict}
-use Rattle.refusal.specs.declared.Verdict.TheVariants as verdict
 use Rattle.sample.specs.Needed.{room}
-use Rattle.sheet.specs.declared.Measured.TheVariants as measured
-use Rattle.sheet.specs.Area.{area_size}
 use Rattle.area.specs.Spelling.{measured_size}
 use Rattle.head_words.specs.HeadWords.{room_of}
 use Rattle.head.specs.Head.{maximum}
-use Rattle.terminators.specs.Terminators.{string_end, line_end}
-use Rattle.refusal.specs.declared.Written.{Written}
-use Rattle.refusal.specs.declared.Written.TheVariants.{To, Refused}
 use Rattle.refusal.specs.Writing.{refuse}
-use Rattle.start.specs.Start.{within, on_measured}
+use Rattle.start.specs.Start.{within}
 use Rattle.layout.specs.Layout.{Trace, count}
 use Rattle.layout.specs.LayoutLaws.{Kinded, kinded, room_enough}
 use Rattle.layout.specs.Stores.{Held}
-use Rattle.append.specs.Grown.{new_length, grown}
+use Rattle.append.specs.Grown.{new_length}
 use Rattle.append.specs.GrownLaws.{Begins}
 use Rattle.opening.specs.Opening.{area_answer}
 use Rattle.opening.specs.OpeningLaws.{room_small, accepted}
 use Rattle.opening.proofs.OpeningLaws.{opened}
 use Rattle.entry.specs.Entry.{samples_verdict, code_verdict}
 use Rattle.writer.specs.Answers.{add_into, add_answer, add_needs, add_left}
-use Rattle.writer.specs.Shown.{added, add_left_lem, add_refused}
+use Rattle.writer.specs.Shown.{added, add_refused}
+use Rattle.refusal.specs.Verdicts.{Verdict}
 
 -- ---- every row, with what 28 and 29 say of the samples as one verdict
 
 module _ (space : ℕ) (xs : List ℕ) (n : ℕ) (sheet : List ℕ) (code s : ℕ) (fit : Verdict) where
-  pub rows_shut : {r : Refusal} → area_answer xs n sheet ≡ measured.Refused r → Refused r ≡ add_into space xs n sheet code s fit
+  pub rows_shut : {r : Refusal} → area_answer xs n sheet ≡ Err r → Err r ≡ add_into space xs n sheet code s fit
   unfolding add_into
   rows_shut h = rw h
 
-  pub rows_ended : {size : ℕ} {w : Written} → area_answer xs n sheet ≡ measured.Size size
-      → w ≡ asked Refused fit (within space (round4 n + (32 + size + room code s))) → w ≡ add_into space xs n sheet code s fit
+  pub rows_ended : {size : ℕ} {w : Result ℕ Refusal} → area_answer xs n sheet ≡ Ok size
+      → w ≡ asked Err fit (within space (round4 n + (32 + size + room code s))) → w ≡ add_into space xs n sheet code s fit
   unfolding add_into
   rows_ended {size} o e = rw (o, (measured_size _ _ _ _ (opened xs n sheet size o).measured).1) e
 
-pub needs_told : (xs : List ℕ) (n : ℕ) (sheet : List ℕ) (code s : ℕ) {fit : Verdict} {w : Written} → fit ≡ code_verdict code s
+pub needs_told : (xs : List ℕ) (n : ℕ) (sheet : List ℕ) (code s : ℕ) {fit : Verdict} {w : Result ℕ Refusal} → fit ≡ code_verdict code s
     → w ≡ add_into maximum xs n sheet code s fit → w ≡ add_needs xs n sheet code s
 unfolding add_needs
 needs_told xs n sheet code s e h = h ∙ rw e
@@ -60,23 +54,23 @@ too_many len n size code s k h =
     let e : ℕ = round4 n + (32 + size + room code s) in
     rw (lt-ltb maximum e (omega (arith, k.each))) (or_true (ltb len e))
   where
-    or_true : (a : Bool) → refuse NoRoom 0 ≡ pick (a || true) (refuse NoRoom 0) (To (round4 n + (32 + size + room code s)))
+    or_true : (a : Bool) → refuse NoRoom 0 ≡ pick (a || true) (refuse NoRoom 0) (Ok (round4 n + (32 + size + room code s)))
     or_true true = refl
     or_true false = refl
 
 -- ---- the answer and what is left
 
-module _ (xs : List ℕ) (n : ℕ) (x : Trace) {fit : Verdict} {w : Written} (e : fit ≡ samples_verdict x.code x.samples)
+module _ (xs : List ℕ) (n : ℕ) (x : Trace) {fit : Verdict} {w : Result ℕ Refusal} (e : fit ≡ samples_verdict x.code x.samples)
     (h : w ≡ add_into (length xs) xs n x.sheet x.code (count x.samples) fit) where
   pub answer : w ≡ add_answer xs n x
   unfolding add_answer
   answer = rw (← e) h
 
-  pub kept_left : {r : Refusal} → w ≡ Refused r → (Refused r ≡ add_answer xs n x) × (xs ≡ add_left xs n x)
+  pub kept_left : {r : Refusal} → w ≡ Err r → (Err r ≡ add_answer xs n x) × (xs ≡ add_left xs n x)
   kept_left {r} g = (sym g ∙ answer, sym (add_refused xs n x r (sym answer ∙ g)))
 
   -- what has been shown before the first store
-  pub begins : {end : ℕ} → Bytes xs → w ≡ To end → Begins xs n x.sheet end x.code (count x.samples) × Held x.code x.samples
+  pub begins : {end : ℕ} → Bytes xs → w ≡ Ok end → Begins xs n x.sheet end x.code (count x.samples) × Held x.code x.samples
   unfolding new_length
   begins {end} by g =
       let d = added xs n x end (sym answer ∙ g) in

@@ -1,8 +1,7 @@
 -- `append::begin` meets its contract. The gap, the block and the strings are all that stands before the samples.
 -- Assumes nothing.
-use mathlib.Core.Path.{sym}
-use lib.Seq.{length-take-le}
-use native.Mathlib.Omega.{arith}
+use Rattle.std.proofs.Common.{sym, arith}
+use Rattle.std.proofs.Common.{length-take-le}
 use Rattle.append.specs.GrownLaws.{small, told, head_room, front_put}
 use Rattle.append.proofs.begin.Goals as goal
 

@@ -1,16 +1,10 @@
 -- `append::grow_bits` meets its contract. What is begun, the samples and the registered trace are the grown buffer.
 -- Assumes nothing.
-use mathlib.Core.Path.{◌∙◌}
+use Rattle.std.proofs.Common.{◌∙◌}
 use Rattle.layout.specs.Layout.{patterns, count}
 use Rattle.append.specs.GrownLaws.{samples_room}
 use Rattle.append.proofs.GrownLaws.{still_slotted, grown_put}
-use borrow.Author.Rules.{rules}
 use Rattle.append.proofs.grow_bits.Goals as goal
-
-pub begin-b-requires : goal.begin-b-requires
-unfolding count
-begin-b-requires c =
-    search rules
 
 pub put_bits-requires : goal.put_bits-requires
 unfolding count
@@ -22,11 +16,6 @@ unfolding count
 register-requires c =
     still_slotted (patterns c.args.row.now) c.requires.0 c.begin-b.ensures.left c.begin-b.ensures.place
     c.put_bits.ensures
-
-pub shape_of-buffer : goal.shape_of-buffer
-unfolding count
-shape_of-buffer c =
-    search rules
 
 pub returns : goal.returns
 unfolding count

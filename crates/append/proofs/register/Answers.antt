@@ -1,5 +1,5 @@
 -- `append::register` meets its contract. Two stores: the slot and N. Assumes nothing.
-use native.Mathlib.Omega.{arith}
+use Rattle.std.proofs.Common.{arith}
 use Rattle.append.specs.GrownLaws.{block_count, register_put}
 use Rattle.append.proofs.register.Goals as goal
 

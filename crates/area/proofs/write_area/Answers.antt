@@ -1,9 +1,8 @@
 -- `area::write_area` meets its contract. Strings, end mark and zeros are the area. Assumes nothing.
-use mathlib.Core.Path.{refl}
+use Rattle.std.proofs.Common.{refl, arith}
 use Rattle.word.specs.Put.{length_put}
 use Rattle.sheet_texts.specs.Texts.{texts_room}
 use Rattle.area.specs.Writing.{area_written}
-use native.Mathlib.Omega.{arith}
 use Rattle.area.proofs.write_area.Goals as goal
 
 pub overflow_add-a : goal.overflow_add-a

@@ -1,5 +1,5 @@
 -- `block::trace_block` meets its contract. Assumes nothing.
-use mathlib.Core.Path.{◌∙◌}
+use Rattle.std.proofs.Common.{◌∙◌}
 use Rattle.block.specs.BlockLaws.{own_block}
 use Rattle.block.proofs.trace_block.Goals as goal
 

@@ -1,5 +1,5 @@
 -- `call_blocks::file_block` meets its contract. The answer of the function below it, as it crosses. Assumes nothing.
-use mathlib.Core.Path.{ap, ◌∙◌}
+use Rattle.std.proofs.Common.{ap, ◌∙◌}
 use Rattle.face.specs.Face.{as_file}
 use Rattle.call_blocks.proofs.file_block.Goals as goal
 

@@ -1,5 +1,5 @@
 -- `call_lenient::check` meets its contract: the answers of the two functions below it, as they cross. Assumes nothing.
-use mathlib.Core.Path.{ap₂, ◌∙◌}
+use Rattle.std.proofs.Common.{ap₂, ◌∙◌}
 use Rattle.face_lenient.specs.FaceLenient.{lenient_verdict}
 use Rattle.call_lenient.proofs.check.Goals as goal
 

@@ -1,6 +1,6 @@
 -- `call_lenient_rows::strings` meets its contract: the answers of the two functions below it, as they cross. Assumes
 -- nothing.
-use mathlib.Core.Path.{ap₂, ◌∙◌}
+use Rattle.std.proofs.Common.{ap₂, ◌∙◌}
 use mir.Syntax.{w32}
 use mir.Facts.{to_z-of_z}
 use Rattle.face_lenient.specs.FaceLenient.{lenient_verdict}

@@ -1,5 +1,5 @@
 -- `call_lenient_strings::keyword` meets its contract: the answers of the two functions below it, as they cross. Assumes nothing.
-use mathlib.Core.Path.{ap₂, ◌∙◌}
+use Rattle.std.proofs.Common.{ap₂, ◌∙◌}
 use mir.Syntax.{w32}
 use mir.Facts.{to_z-of_z}
 use Rattle.face_lenient.specs.FaceLenient.{lenient_keyword}

@@ -1,5 +1,5 @@
 -- `call_numbers::read_number` meets its contract. The answer of the function below it, as it crosses. Assumes nothing.
-use mathlib.Core.Path.{ap, ◌∙◌}
+use Rattle.std.proofs.Common.{ap, ◌∙◌}
 use Rattle.face_values.specs.FaceValues.{as_number}
 use Rattle.call_numbers.proofs.read_number.Goals as goal
 

@@ -1,6 +1,6 @@
 -- `call_numbers::write_number` meets its contract. The answer of the function below it, as it crosses; the power comes back
 -- as the number that was handed on. Assumes nothing.
-use mathlib.Core.Path.{ap, ◌∙◌}
+use Rattle.std.proofs.Common.{ap, ◌∙◌}
 use mir.Syntax.{w32}
 use mir.Facts.{to_z-of_z}
 use Rattle.face.specs.Face.{as_length}

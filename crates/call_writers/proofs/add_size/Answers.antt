@@ -1,5 +1,5 @@
 -- `call_writers::add_size` meets its contract. The answer of the function below it, as it crosses. Assumes nothing.
-use mathlib.Core.Path.{ap, ◌∙◌}
+use Rattle.std.proofs.Common.{ap, ◌∙◌}
 use Rattle.face.specs.Face.{as_length}
 use Rattle.call_writers.proofs.add_size.Goals as goal
 

@@ -1,9 +1,7 @@
 -- `channel_line::find` meets its contract. The invariant: what the lines that are left have is what all have. Assumes
 -- nothing.
-use mathlib.Core.Path.{sym, ◌∙◌}
-use Prim.Native.Nat.{◌-◌}
+use Rattle.std.proofs.Common.{sym, ◌∙◌, arith}
 use Rattle.channel_line.specs.Finding.{walk_start, walk_turn, walk_found, walk_over, line_ends}
-use native.Mathlib.Omega.{arith}
 use Rattle.channel_line.proofs.find.Goals as goal
 
 pub loop-at-init : goal.loop-at-init

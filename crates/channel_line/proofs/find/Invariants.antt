@@ -1,5 +1,4 @@
-use Prim.Native.Nat.{◌-◌}
-use lib.ListN.{length}
+use Rattle.std.proofs.Common.{◌-◌, length}
 use Rattle.channel.specs.Channel.{channel_number}
 use Rattle.channel_line.specs.Finding.{Walked}
 use Rattle.channel_line.proofs.find.Given as goal

@@ -1,5 +1,5 @@
 -- `decimal::number` meets its contract: a law for each answer, with what was found on the way. Assumes nothing.
-use mathlib.Core.Path.{◌∙◌}
+use Rattle.std.proofs.Common.{◌∙◌}
 use Rattle.decimal.specs.Number.{no_digit, no_decimal, to_tail}
 use Rattle.decimal.proofs.number.Goals as goal
 

@@ -1,6 +1,5 @@
 -- `decimal::tail` meets its contract: a law for each answer, with what was found on the way. Assumes nothing.
-use mathlib.Core.Path.{◌∙◌}
-use native.Mathlib.Omega.{arith}
+use Rattle.std.proofs.Common.{◌∙◌, rules}
 use Rattle.decimal.specs.Number.{no_e, no_exponent, more_behind, tail_judged}
 use Rattle.decimal.proofs.tail.Goals as goal
 
@@ -15,16 +14,16 @@ returns-then-e-n c =
     c.if-x-e.false
     c.if-e-n.true
 
-pub returns-then-more : goal.returns-then-more
-returns-then-more c =
-    c.no_number-then-more.ensures
+pub returns-then-not-is_empty : goal.returns-then-not-is_empty
+returns-then-not-is_empty c =
+    c.no_number-then-not-is_empty.ensures
     ∙ more_behind _ _ _ _ c.has-e.ensures c.past-z.ensures.result_value c.past-y.ensures.result_value c.run-n.ensures.0
     c.if-x-e.false
-    c.behind-rest.ensures.result_value c.if-e-n.false (omega (arith, c.if-more.true))
+    c.behind-rest.ensures.result_value c.if-e-n.false (search rules)
 
 pub returns : goal.returns
 returns c =
     c.judged.ensures
     ∙ tail_judged _ _ _ _ c.has-e.ensures c.past-z.ensures.result_value c.past-y.ensures.result_value c.run-n.ensures.0
     c.if-x-e.false
-    c.behind-rest.ensures.result_value c.if-e-n.false c.if-more.false c.has.ensures c.front.ensures.result_value
+    c.behind-rest.ensures.result_value c.if-e-n.false (search rules) c.has.ensures c.front.ensures.result_value

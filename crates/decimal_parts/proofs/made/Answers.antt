@@ -1,8 +1,6 @@
 -- `decimal_parts::made` meets its contract: at most 18 digits fit 64 bits, and at most 2 stay below a hundred. Assumes
 -- nothing.
-use Prim.Native.Nat.{◌<◌}
-use native.Mathlib.Omega.{arith}
-use mir.Syntax.{w32}
+use Rattle.std.proofs.Common.{◌<◌, arith, w32}
 use Rattle.word.specs.Signed.{kept}
 use Rattle.decimal_parts.specs.Answer.{decimal_of}
 use Rattle.digits.specs.Value.{room_none, room_behind, two_digits}

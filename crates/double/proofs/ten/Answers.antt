@@ -1,14 +1,9 @@
 -- `double::ten` meets its contract: each arm is its power of ten, computed once; what is left for the last arm is 15.
 -- Assumes nothing.
-use mathlib.Core.Path.{◌≡◌, refl}
-use Prim.Native.Nat.{ℕ, suc, ◌≤◌}
-use native.Mathlib.Omega.{arith}
-use lib.Ieee.{of_bits, of_int}
+use Rattle.std.specs.Prelude.{◌≡◌, refl}
+use Rattle.std.proofs.Common.{arith}
+use Rattle.std.specs.Float.Ieee.{of_bits, of_int}
 use Rattle.double.proofs.ten.Goals as goal
-
--- what is not an arm's own is past it
-past : {j k : ℕ} → j ≤ k → (k ≡ j → ⊥) → suc j ≤ k
-past h n = omega arith
 
 pub returns-in-0 : goal.returns-in-0
 unfolding of_bits of_int
@@ -88,13 +83,5 @@ returns-in-14 c =
 pub returns-in_default : goal.returns-in_default
 unfolding of_bits of_int
 returns-in_default c =
-    let k = c.args.k in
-    let low : 0 ≤ k = omega arith in
-    let to-14 = c.in_default.in_default-own.rest in
-    let to-9 = to-14.0.0.0.0.0 in
-    let to-4 = to-9.0.0.0.0.0 in
-    let past-4 = past (past (past (past (past low to-4.0.0.0.0.1) to-4.0.0.0.1) to-4.0.0.1) to-4.0.1) to-4.1 in
-    let past-9 = past (past (past (past (past past-4 to-9.0.0.0.0.1) to-9.0.0.0.1) to-9.0.0.1) to-9.0.1) to-9.1 in
-    let past-14 = past (past (past (past (past past-9 to-14.0.0.0.0.1) to-14.0.0.0.1) to-14.0.0.1) to-14.0.1) to-14.1 in
-    let e : k ≡ 15 = omega arith in
+    let e : c.args.k ≡ 15 = omega arith in
     rw e refl

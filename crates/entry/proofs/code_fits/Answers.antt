@@ -1,30 +1,26 @@
 -- `entry::code_fits` meets its contract. Row 28 by itself. Assumes nothing.
-use mathlib.Core.Path.{◌∙◌}
+use Rattle.std.proofs.Common.{◌≡◌, ◌||◌, ◌∙◌, sym}
+use Rattle.decode.specs.Sample.{integers_asked, bits_asked}
 use Rattle.entry.specs.Entry.{code_verdict}
-use borrow.Author.Rules.{rules}
 use Rattle.entry.proofs.code_fits.Goals as goal
+use Rattle.entry.proofs.code_fits.Goals.{Joined-is_of_integers, then-is_of_integers, else-is_of_integers}
 
-pub is_of_integers-requires : goal.is_of_integers-requires
-unfolding code_verdict
-is_of_integers-requires c =
-    search rules
+-- the code is of one kind or the other
+either : (c : Joined-is_of_integers)
+    → (integers_asked c.args.code c.args.count || bits_asked c.args.code) ≡ c.if-is_of_integers.of_either
+either c =
+    elim c.if-is_of_integers.branch [
+      | then-is_of_integers w ↦ rw (sym c.is_of_integers.ensures ∙ w.if-is_of_integers.true)
+          (sym (w.of_either-is ∙ w.if-is_of_integers.true))
+      | else-is_of_integers w ↦ rw (sym c.is_of_integers.ensures ∙ w.if-is_of_integers.false) (sym w.is_of_bits-of_either.ensures ∙ sym w.of_either-is)
+    ]
 
-pub is_of_bits-requires : goal.is_of_bits-requires
+pub returns-then-not-of_either : goal.returns-then-not-of_either
 unfolding code_verdict
-is_of_bits-requires c =
-    search rules
-
-pub returns-then-is_of_integers-is_of_bits : goal.returns-then-is_of_integers-is_of_bits
-unfolding code_verdict
-returns-then-is_of_integers-is_of_bits c =
-    rw (← c.is_of_integers.ensures, ← c.is_of_bits.ensures, c.if-is_of_integers-is_of_bits.true)
-
-pub refusing-requires : goal.refusing-requires
-unfolding code_verdict
-refusing-requires c =
-    search rules
+returns-then-not-of_either c =
+    rw (c.of_file.ensures, either (goal.at.returns-then-not-of_either c).Joined-is_of_integers, c.if-not-of_either.true)
 
 pub returns : goal.returns
 unfolding code_verdict
 returns c =
-    c.refusing.ensures ∙ rw (← c.is_of_integers.ensures, ← c.is_of_bits.ensures, c.if-is_of_integers-is_of_bits.false)
+    rw (either (goal.at.returns c).Joined-is_of_integers, c.if-not-of_either.false)

@@ -2,39 +2,18 @@
 use mir.Syntax.{w32}
 use mir.Facts.{to_z-of_z}
 use Rattle.face.specs.Face.{as_verdict, as_file}
-use borrow.Author.Rules.{rules}
 use Rattle.face.proofs.file_told.Goals as goal
 
-pub enum_known-a : goal.enum_known-a
+pub returns-in-Ok : goal.returns-in-Ok
 unfolding as_verdict as_file
-enum_known-a c =
-    search rules
+returns-in-Ok c =
+    rw (c.in-Ok.is, ← c.one_if.ensures)
 
-pub one_if-requires : goal.one_if-requires
+pub returns-in-Err : goal.returns-in-Err
 unfolding as_verdict as_file
-one_if-requires c =
-    search rules
-
-pub enum_known-a-in-Refused-1 : goal.enum_known-a-in-Refused-1
-unfolding as_verdict as_file
-enum_known-a-in-Refused-1 c =
-    search rules
-
-pub told-t-requires : goal.told-t-requires
-unfolding as_verdict as_file
-told-t-requires c =
-    search rules
-
-pub returns-in-Is : goal.returns-in-Is
-unfolding as_verdict as_file
-returns-in-Is c =
-    rw (c.in-Is.is, ← c.one_if.ensures)
-
-pub returns-in-Refused : goal.returns-in-Refused
-unfolding as_verdict as_file
-returns-in-Refused c =
+returns-in-Err c =
     rw (
-      c.in-Refused.is,
+      c.in-Err.is,
       to_z-of_z {w = w32} (record { sfits = c.struct_told-1.given.1.0.1 }),
       c.told-t.ensures,
     )

@@ -2,34 +2,18 @@
 use mir.Syntax.{w32}
 use mir.Facts.{to_z-of_z}
 use Rattle.face.specs.Face.{as_verdict, as_length}
-use borrow.Author.Rules.{rules}
 use Rattle.face.proofs.length_told.Goals as goal
 
-pub enum_known-a : goal.enum_known-a
+pub returns-in-Ok : goal.returns-in-Ok
 unfolding as_verdict as_length
-enum_known-a c =
-    search rules
+returns-in-Ok c =
+    rw c.in-Ok.is
 
-pub enum_known-a-in-Refused-1 : goal.enum_known-a-in-Refused-1
+pub returns-in-Err : goal.returns-in-Err
 unfolding as_verdict as_length
-enum_known-a-in-Refused-1 c =
-    search rules
-
-pub told-t-requires : goal.told-t-requires
-unfolding as_verdict as_length
-told-t-requires c =
-    search rules
-
-pub returns-in-To : goal.returns-in-To
-unfolding as_verdict as_length
-returns-in-To c =
-    rw c.in-To.is
-
-pub returns-in-Refused : goal.returns-in-Refused
-unfolding as_verdict as_length
-returns-in-Refused c =
+returns-in-Err c =
     rw (
-      c.in-Refused.is,
+      c.in-Err.is,
       to_z-of_z {w = w32} (record { sfits = c.struct_told-1.given.1.0.1 }),
       c.told-t.ensures,
     )

@@ -3,44 +3,23 @@ use mir.Syntax.{w32}
 use mir.Facts.{to_z-of_z}
 use Rattle.face.specs.Face.{as_verdict}
 use Rattle.face_values.specs.FaceValues.{as_keyword}
-use borrow.Author.Rules.{rules}
 use Rattle.face_strings.proofs.keyword_told.Goals as goal
 
-pub enum_told-1 : goal.enum_told-1
+pub returns-in-Ok-true : goal.returns-in-Ok-true
 unfolding as_verdict as_keyword
-enum_told-1 c =
-    search rules
+returns-in-Ok-true c =
+    rw (c.in-Ok-true.is, c.in-Ok-true.field-0-test)
 
-pub enum_told-in-No : goal.enum_told-in-No
+pub returns-in-Ok-false : goal.returns-in-Ok-false
 unfolding as_verdict as_keyword
-enum_told-in-No c =
-    search rules
+returns-in-Ok-false c =
+    rw (c.in-Ok-false.is, c.in-Ok-false.field-0-test)
 
-pub enum_known-a : goal.enum_known-a
+pub returns-in-Err : goal.returns-in-Err
 unfolding as_verdict as_keyword
-enum_known-a c =
-    search rules
-
-pub told-t-requires : goal.told-t-requires
-unfolding as_verdict as_keyword
-told-t-requires c =
-    search rules
-
-pub returns-in-Yes : goal.returns-in-Yes
-unfolding as_verdict as_keyword
-returns-in-Yes c =
-    rw c.in-Yes.is
-
-pub returns-in-No : goal.returns-in-No
-unfolding as_verdict as_keyword
-returns-in-No c =
-    rw c.in-No.is
-
-pub returns-in-Refused : goal.returns-in-Refused
-unfolding as_verdict as_keyword
-returns-in-Refused c =
+returns-in-Err c =
     rw (
-      c.in-Refused.is,
+      c.in-Err.is,
       to_z-of_z {w = w32} (record { sfits = c.struct_told-1.given.1.0.1 }),
       c.told-t.ensures,
     )

@@ -1,7 +1,7 @@
 -- `file_lines::put_file` meets its contract. The first line, the strings, the traces. Assumes nothing.
+use Rattle.std.proofs.Common.{arith}
 use Rattle.file_lines.specs.Told.{ends_good, line_some, count_told, first_slot, file_area, file_first, file_second}
 use Rattle.file_lines.specs.Told.{file_third, file_all}
-use native.Mathlib.Omega.{arith}
 use Rattle.file_lines.proofs.put_file.Goals as goal
 
 pub file_block-b-requires : goal.file_block-b-requires

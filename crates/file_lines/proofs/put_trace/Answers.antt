@@ -1,7 +1,7 @@
 -- `file_lines::put_trace` meets its contract. Its line, then its strings. Assumes nothing.
+use Rattle.std.proofs.Common.{arith}
 use Rattle.file_lines.specs.Told.{ends_good, line_some, trace_slot, trace_area, trace_first, trace_second}
 use Rattle.file_lines.specs.Told.{trace_both}
-use native.Mathlib.Omega.{arith}
 use Rattle.file_lines.proofs.put_trace.Goals as goal
 
 pub is_high-high-requires : goal.is_high-high-requires

@@ -1,8 +1,7 @@
 -- `file_lines::put_traces` meets its contract. The invariant: the traces that are left, stored, make the whole. Assumes
 -- nothing.
-use Prim.Native.Nat.{◌-◌}
+use Rattle.std.proofs.Common.{arith}
 use Rattle.file_lines.specs.Walks.{tracing_start, tracing_over, tracing_room, tracing_turn}
-use native.Mathlib.Omega.{arith}
 use Rattle.file_lines.proofs.put_traces.Goals as goal
 
 pub loop-k-init : goal.loop-k-init

@@ -1,11 +1,5 @@
-use Prim.Native.Nat.{◌-◌}
 use Rattle.file_lines.specs.Walks.{Tracing}
 use Rattle.file_lines.proofs.put_traces.Given as goal
 
 abbrev pub invariant-loop-k : goal.invariant-loop-k
-invariant-loop-k l =
-    Tracing l.initial.out l.at l.f l.n l.k l.to l.out
-
-abbrev pub decreases-loop-k : goal.decreases-loop-k
-decreases-loop-k l =
-    l.n - l.k
+invariant-loop-k l = Tracing l.initial.out l.at l.f l.n l.k l.to l.out

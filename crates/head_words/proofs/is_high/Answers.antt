@@ -1,5 +1,5 @@
 -- `head_words::is_high` meets its contract. Assumes nothing.
-use mathlib.Core.Path.{refl}
+use Rattle.std.specs.Prelude.{refl}
 use Rattle.head_words.specs.HeadWords.{high_first}
 use Rattle.head_words.proofs.is_high.Goals as goal
 

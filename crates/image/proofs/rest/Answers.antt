@@ -1,36 +1,34 @@
 -- `image::rest` meets its contract. Each part is asked only where the ones before it were accepted. Assumes nothing.
-use mathlib.Core.Path.{sym, ◌∙◌}
+use Rattle.std.proofs.Common.{sym, refl, ◌∙◌, arith}
+use Rattle.std.proofs.lemmas.Result.{err_from_is_err_and}
 use Rattle.traces.specs.Walk.{next_stands, next_within}
 use Rattle.image.proofs.RestLaws.{rest_pointer, rest_strings, rest_traces}
-use native.Mathlib.Omega.{arith}
 use Rattle.image.proofs.rest.Goals as goal
 
-pub own_strings-strings-requires : goal.own_strings-strings-requires
-own_strings-strings-requires c =
+pub own_strings-requires : goal.own_strings-requires
+own_strings-requires c =
     let args = c.args in
-    let e = sym c.next-x.ensures.0 ∙ c.in-Past.is in
-    let w = next_within args.high args.f.now args.n 0 _ _ e c.requires.0 in
+    let w = next_within args.high args.f.now args.n 0 _ _ (sym c.in_ok-p.ensures.0) c.requires.0 in
     (w.0, w.1, c.requires.2)
 
 pub traces-requires : goal.traces-requires
 traces-requires c =
-    let e = c.next-x.ensures in
-    (omega arith, c.requires.2, next_stands _ c.args.f.now _ _ _ _ _ e.0 e.1 c.in-Past.is)
+    let e = c.in_ok-p.ensures in
+    (omega arith, c.requires.2, next_stands _ c.args.f.now _ _ _ _ _ e.0 e.1 refl)
 
-pub returns-in-Bad : goal.returns-in-Bad
-returns-in-Bad c =
+pub returns-in_err-p : goal.returns-in_err-p
+returns-in_err-p c =
     let args = c.args in
-    rest_pointer _ _ args.t.now args.u.now args.f.now _ _ _ (sym c.next-x.ensures.0 ∙ c.in-Bad.is)
+    let p = err_from_is_err_and c.from_residual.result c.from_residual.ensures.1 in
+    rw (p.1, p.2) (rest_pointer _ _ args.t.now args.u.now args.f.now _ _ _ (sym c.in_err-p.ensures.0))
 
-pub returns-in-Refused : goal.returns-in-Refused
-returns-in-Refused c =
+pub returns-in_err-own_strings : goal.returns-in_err-own_strings
+returns-in_err-own_strings c =
     let args = c.args in
-    let e = sym c.next-x.ensures.0 ∙ c.in-Past.is in
-    rest_strings _ _ args.t.now args.u.now args.f.now _ _ _ _ e (sym c.own_strings-strings.ensures ∙ c.in-Refused.is)
+    let p = err_from_is_err_and c.from_residual-in_err-own_strings.result c.from_residual-in_err-own_strings.ensures.1 in
+    rw (p.1, p.2) (rest_strings _ _ args.t.now args.u.now args.f.now _ _ _ _ (sym c.in_ok-p.ensures.0) (sym c.in_err-own_strings.ensures))
 
-pub returns-in-Accepted : goal.returns-in-Accepted
-returns-in-Accepted c =
+pub returns : goal.returns
+returns c =
     let args = c.args in
-    let e = sym c.next-x.ensures.0 ∙ c.in-Past.is in
-    let s = sym c.own_strings-strings.ensures ∙ c.in-Accepted.is in
-    c.traces.ensures ∙ rest_traces _ _ args.t.now args.u.now args.f.now _ _ _ e s
+    c.traces.ensures ∙ rest_traces _ _ args.t.now args.u.now args.f.now _ _ _ (sym c.in_ok-p.ensures.0) (sym c.in_ok-own_strings.ensures)

@@ -1,5 +1,5 @@
 -- `layout::put_head` meets its contract. The block and its strings, one behind the other. Assumes nothing.
-use native.Mathlib.Omega.{arith}
+use Rattle.std.proofs.Common.{arith}
 use Rattle.word.specs.Put.{length_put}
 use Rattle.area.specs.Spelling.{measured_size}
 use Rattle.area.specs.Writing.{writable}

@@ -1,25 +1,9 @@
 -- `layout::put_integers` meets its contract. What is neither code 1 nor 2 is code 3. Assumes nothing.
-use native.Mathlib.Omega.{arith}
+use Rattle.std.proofs.Common.{arith}
 use Rattle.word.specs.Put.{lent_back}
 use Rattle.layout.specs.Layout.{samples_data}
 use Rattle.layout.specs.Stores.{third}
-use borrow.Author.Rules.{rules}
 use Rattle.layout.proofs.put_integers.Goals as goal
-
-pub slice_bounds-part-count : goal.slice_bounds-part-count
-unfolding samples_data
-slice_bounds-part-count c =
-    search rules
-
-pub slice_bounds-part-start : goal.slice_bounds-part-start
-unfolding samples_data
-slice_bounds-part-start c =
-    search rules
-
-pub slice_bounds-part-end : goal.slice_bounds-part-end
-unfolding samples_data
-slice_bounds-part-end c =
-    search rules
 
 pub write1-requires : goal.write1-requires
 unfolding samples_data
@@ -39,30 +23,15 @@ write3-requires c =
     let h = rw e at c.requires.0 in
     (omega (arith, h), k.1, k.2)
 
-pub shape_of-buf-in-1 : goal.shape_of-buf-in-1
-unfolding samples_data
-shape_of-buf-in-1 c =
-    search rules
-
 pub returns-in-1 : goal.returns-in-1
 unfolding samples_data
 returns-in-1 c =
     rw c.in-1.is (lent_back _ _ _ _ c.write1.ensures)
 
-pub shape_of-buf-in-2 : goal.shape_of-buf-in-2
-unfolding samples_data
-shape_of-buf-in-2 c =
-    search rules
-
 pub returns-in-2 : goal.returns-in-2
 unfolding samples_data
 returns-in-2 c =
     rw c.in-2.is (lent_back _ _ _ _ c.write2.ensures)
-
-pub shape_of-buf-in_default : goal.shape_of-buf-in_default
-unfolding samples_data
-shape_of-buf-in_default c =
-    search rules
 
 pub returns-in_default : goal.returns-in_default
 unfolding samples_data

@@ -1,8 +1,8 @@
 -- `lines::put_ended` meets its contract. The digits, then the end. Assumes nothing.
+use Rattle.std.proofs.Common.{arith}
 use Rattle.lines.specs.Lines.{ended}
 use Rattle.lines.specs.Sizes.{length_ended}
 use Rattle.word.specs.Wrote.{joined}
-use native.Mathlib.Omega.{arith}
 use Rattle.lines.proofs.put_ended.Goals as goal
 
 pub put_digits-a-requires : goal.put_digits-a-requires

@@ -1,8 +1,8 @@
 -- `lines::put_head` meets its contract. The order, N and M. Assumes nothing.
+use Rattle.std.proofs.Common.{arith}
 use Rattle.lines.specs.Lines.{head_line}
 use Rattle.lines.specs.Sizes.{length_head}
 use Rattle.word.specs.Wrote.{joined}
-use native.Mathlib.Omega.{arith}
 use Rattle.lines.proofs.put_head.Goals as goal
 
 pub put_order-a-requires : goal.put_order-a-requires

@@ -1,8 +1,8 @@
 -- `lines::put_label` meets its contract. Part and keyword, each with a tab behind it. Assumes nothing.
+use Rattle.std.proofs.Common.{arith}
 use Rattle.lines.specs.Lines.{label}
 use Rattle.lines.specs.Sizes.{length_label}
 use Rattle.word.specs.Wrote.{joined}
-use native.Mathlib.Omega.{arith}
 use Rattle.lines.proofs.put_label.Goals as goal
 
 pub put_bytes-a-requires : goal.put_bytes-a-requires

@@ -1,8 +1,8 @@
 -- `lines::put_line` meets its contract. The label, the value, the end. Assumes nothing.
+use Rattle.std.proofs.Common.{arith}
 use Rattle.lines.specs.Lines.{string_line}
 use Rattle.lines.specs.Sizes.{length_line}
 use Rattle.word.specs.Wrote.{joined}
-use native.Mathlib.Omega.{arith}
 use Rattle.lines.proofs.put_line.Goals as goal
 
 pub put_label-a-requires : goal.put_label-a-requires

@@ -1,6 +1,6 @@
 -- `lines::put_number` meets its contract. A 16-bit number is below 100,000. Assumes nothing.
+use Rattle.std.proofs.Common.{arith}
 use Rattle.lines.specs.Sizes.{trace_number_lem}
-use native.Mathlib.Omega.{arith}
 use Rattle.lines.proofs.put_number.Goals as goal
 
 pub put_digits-requires : goal.put_digits-requires

@@ -1,6 +1,6 @@
 -- `lines::put_part` meets its contract. One of the two. Assumes nothing.
+use Rattle.std.proofs.Common.{arith}
 use Rattle.lines.specs.Lines.{whose}
-use native.Mathlib.Omega.{arith}
 use Rattle.lines.proofs.put_part.Goals as goal
 
 pub put_byte-requires : goal.put_byte-requires

@@ -1,6 +1,6 @@
 -- `lines::put_place` meets its contract. A 64-bit number is below ten to the 20th. Assumes nothing.
+use Rattle.std.proofs.Common.{arith}
 use Rattle.lines.specs.Sizes.{place_number}
-use native.Mathlib.Omega.{arith}
 use Rattle.lines.proofs.put_place.Goals as goal
 
 pub put_ended-requires : goal.put_ended-requires

@@ -1,7 +1,7 @@
 -- `lines::put_refusal` meets its contract. Number, part and place. Assumes nothing.
+use Rattle.std.proofs.Common.{arith}
 use Rattle.lines.specs.Lines.{refusal_line}
 use Rattle.word.specs.Wrote.{joined}
-use native.Mathlib.Omega.{arith}
 use Rattle.lines.proofs.put_refusal.Goals as goal
 
 pub put_bytes-a-requires : goal.put_bytes-a-requires

@@ -1,6 +1,6 @@
 -- `lines::put_rule` meets its contract. Every number of the table is below 100. Assumes nothing.
+use Rattle.std.proofs.Common.{arith}
 use Rattle.lines.specs.Sizes.{rule_number}
-use native.Mathlib.Omega.{arith}
 use Rattle.lines.proofs.put_rule.Goals as goal
 
 pub put_ended-requires : goal.put_ended-requires

@@ -1,8 +1,8 @@
 -- `lines::put_trace_line` meets its contract. Trace, code and samples. Assumes nothing.
+use Rattle.std.proofs.Common.{arith}
 use Rattle.lines.specs.Lines.{trace_line}
 use Rattle.lines.specs.Sizes.{length_trace}
 use Rattle.word.specs.Wrote.{joined}
-use native.Mathlib.Omega.{arith}
 use Rattle.lines.proofs.put_trace_line.Goals as goal
 
 pub put_bytes-a-requires : goal.put_bytes-a-requires

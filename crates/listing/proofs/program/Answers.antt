@@ -1,8 +1,7 @@
 -- `listing::program` meets its contract: 19 first, else the listing. Assumes nothing.
-use mathlib.Core.Path.{sym, ap, ◌∙◌}
+use Rattle.std.proofs.Common.{sym, ap, ◌∙◌, arith}
 use Rattle.lines.specs.Lines.{refusal_line}
 use Rattle.listing.specs.Told.{enough, print_full, print_told, prints_large, prints_listing}
-use native.Mathlib.Omega.{arith}
 use Rattle.listing.proofs.program.Goals as goal
 
 pub returns-then-small : goal.returns-then-small

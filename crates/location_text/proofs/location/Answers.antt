@@ -1,7 +1,6 @@
 -- `location_text::location` meets its contract: a law for each count of values, with the places that were found. Assumes
 -- nothing.
-use mathlib.Core.Path.{◌∙◌}
-use native.Mathlib.Omega.{arith}
+use Rattle.std.proofs.Common.{◌∙◌, arith}
 use Rattle.location.specs.Location.{no_value, one_value, two_values, three_values, more_values}
 use Rattle.location_text.proofs.location.Goals as goal
 

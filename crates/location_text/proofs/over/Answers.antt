@@ -1,7 +1,5 @@
 -- `location_text::over` meets its contract: a run is no longer than what is left. Assumes nothing.
-use mathlib.Core.Path.{◌≡◌, ap, ◌∙◌}
-use native.Mathlib.Omega.{arith}
-use lib.ListN.{drop, length-drop}
+use Rattle.std.proofs.Common.{◌≡◌, ap, ◌∙◌, arith, drop, length-drop}
 use Rattle.chars.specs.Runs.{run, run_le}
 use Rattle.chars.specs.Chars.{is_of}
 use Rattle.location_text.proofs.over.Goals as goal

@@ -1,26 +1,22 @@
 -- `lookup::count` meets its contract. The invariant: the strings passed and those that are left are all. Assumes
 -- nothing.
-use mathlib.Core.Path.{sym, ap, ◌∙◌}
-use Prim.Native.Nat.{◌≤◌, ◌+◌, ◌-◌, ◌<◌}
-use native.Mathlib.Nat.{le_of_eq}
-use lib.ListN.{length}
+use Rattle.std.proofs.Common.{sym, ap, ◌∙◌, ◌≤◌, ◌+◌, ◌-◌, ◌<◌, length, rules, arith}
+use Rattle.std.proofs.Math.Nat.{le_of_eq}
 use Rattle.word.specs.Part.{part, length_part}
 use Rattle.strings.specs.Strings.{places_of, PlaceIn}
 use Rattle.strings.specs.Walks.{place_next, place_stop}
 use Rattle.strings.proofs.Walks.{place_bounds}
 use Rattle.strings.proofs.Walks.{place_over}
-use borrow.Author.Rules.{rules}
-use native.Mathlib.Omega.{arith}
 use Rattle.lookup.proofs.count.Goals as goal
-use Rattle.lookup.proofs.count.Goals.{In-At}
+use Rattle.lookup.proofs.count.Goals.{In-Some}
 
 -- the string that the walk is at has bytes, and it stands in the area, its parts in order
-bounds : (c : In-At)
+bounds : (c : In-Some)
     → let e = c.args.e in
-    (0 < c.in-At.o) × (c.loop-at.at + c.in-At.o ≤ e) × PlaceIn e c.in-At.field-0
+    (0 < c.in-Some.o) × (c.loop-at.at + c.in-Some.o ≤ e) × PlaceIn e c.in-Some.field-0-0
 bounds c =
     place_bounds _ _ _ c.args.f.now c.args.e c.loop-at.at c.loop-at.invariant.3.0 c.loop-at-test.true
-    c.requires.1 c.loop-at.invariant.3.1 _ _ (sym c.entry_at-s.ensures ∙ c.in-At.is)
+    c.requires.1 c.loop-at.invariant.3.1 _ _ (sym c.in-Some.ensures)
 
 pub loop-at-init : goal.loop-at-init
 unfolding places_of
@@ -37,67 +33,42 @@ loop-at-init c =
       ),
     )
 
-pub slice_bounds-entry_at-count : goal.slice_bounds-entry_at-count
+pub entry_at-requires : goal.entry_at-requires
 unfolding places_of
-slice_bounds-entry_at-count c =
-    search rules
-
-pub slice_bounds-entry_at-start : goal.slice_bounds-entry_at-start
-unfolding places_of
-slice_bounds-entry_at-start c =
-    search rules
-
-pub slice_bounds-entry_at-end : goal.slice_bounds-entry_at-end
-unfolding places_of
-slice_bounds-entry_at-end c =
-    search rules
-
-pub entry_at-s-requires : goal.entry_at-s-requires
-unfolding places_of
-entry_at-s-requires c =
+entry_at-requires c =
     let args = c.args in
     let w = length_part c.loop-at.at args.e args.f.now c.requires.1 in omega arith
 
-pub enum_told-1 : goal.enum_told-1
+pub returns-in_default : goal.returns-in_default
 unfolding places_of
-enum_told-1 c =
-    search rules
-
-pub returns-in-Stop : goal.returns-in-Stop
-unfolding places_of
-returns-in-Stop c =
+returns-in_default c =
     let args = c.args in
     let q = ap length (place_stop _ _ _ args.f.now args.e c.loop-at.at c.loop-at.invariant.3.0 c.loop-at-test.true
-    c.requires.1 c.loop-at.invariant.3.1 (sym c.entry_at-s.ensures ∙ c.in-Stop.is)) in omega
+    c.requires.1 c.loop-at.invariant.3.1 (sym c.in_default.ensures)) in omega
     (arith, c.loop-at.invariant.3.2)
-
-pub enum_known-s : goal.enum_known-s
-unfolding places_of
-enum_known-s c =
-    search rules
 
 pub overflow_add-n : goal.overflow_add-n
 unfolding places_of
 overflow_add-n c =
-    let b = bounds (goal.at.overflow_add-n c).In-At in omega (arith, b.0, b.1, b.2.0, b.2.1, b.2.2, b.2.3)
+    let b = bounds (goal.at.overflow_add-n c).In-Some in omega (arith, b.0, b.1, b.2.0, b.2.1, b.2.2, b.2.3)
 
 pub overflow_add-at : goal.overflow_add-at
 unfolding places_of
 overflow_add-at c =
-    let b = bounds (goal.at.overflow_add-at c).In-At in omega (arith, b.0, b.1, b.2.0, b.2.1, b.2.2, b.2.3)
+    let b = bounds (goal.at.overflow_add-at c).In-Some in omega (arith, b.0, b.1, b.2.0, b.2.1, b.2.2, b.2.3)
 
 pub loop-at-smaller : goal.loop-at-smaller
 unfolding places_of
 loop-at-smaller c =
-    let b = bounds (goal.at.loop-at-smaller c).In-At in omega (arith, b.0, b.1, b.2.0, b.2.1, b.2.2, b.2.3)
+    let b = bounds (goal.at.loop-at-smaller c).In-Some in omega (arith, b.0, b.1, b.2.0, b.2.1, b.2.2, b.2.3)
 
 pub loop-at-preserved : goal.loop-at-preserved
 unfolding places_of
 loop-at-preserved c =
     let args = c.args in
-    let b = bounds (goal.at.loop-at-preserved c).In-At in
+    let b = bounds (goal.at.loop-at-preserved c).In-Some in
     let q = ap length (place_next _ _ _ args.f.now args.e c.loop-at.at c.loop-at.invariant.3.0 c.loop-at-test.true
-    c.requires.1 c.loop-at.invariant.3.1 _ _ (sym c.entry_at-s.ensures ∙ c.in-At.is)) in (
+    c.requires.1 c.loop-at.invariant.3.1 _ _ (sym c.in-Some.ensures)) in (
       omega (arith, b.1),
       b.1,
       omega (arith, b.0, b.1),

@@ -6,6 +6,6 @@ pub returns-then-k-lt1 : goal.returns-then-k-lt1
 returns-then-k-lt1 c =
     point_none_size _ _ c.if-k-lt1.true
 
-pub returns : goal.returns
-returns c =
+pub returns-else-k-lt1 : goal.returns-else-k-lt1
+returns-else-k-lt1 c =
     point_size _ _ c.if-k-lt1.false

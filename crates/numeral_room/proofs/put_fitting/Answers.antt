@@ -1,12 +1,12 @@
 -- `numeral_room::put_fitting` meets its contract: the text against the room. Assumes nothing.
-use native.Mathlib.Omega.{arith}
+use Rattle.std.proofs.Common.{ap, arith, Err}
 use Rattle.numeral_room.specs.Sizes.{room_missing, room_enough}
 use Rattle.numeral_room.proofs.put_fitting.Goals as goal
 
 pub returns-then-out-size : goal.returns-then-out-size
 returns-then-out-size c =
     let e = room_missing c.args.out.now _ c.text_size-size.result _ c.text_size-size.ensures
-    (omega (arith, c.if-out-size.true)) c.refused.ensures in record { answer = e.0; left = e.1 }
+    (omega (arith, c.if-out-size.true)) (ap Err c.of_file.ensures) in record { answer = e.0; left = e.1 }
 
 pub returns : goal.returns
 returns c =

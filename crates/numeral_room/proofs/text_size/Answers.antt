@@ -1,8 +1,5 @@
 -- `numeral_room::text_size` meets its contract: the sizes of its four pieces. Assumes nothing.
-use mathlib.Core.Path.{ap}
-use Prim.Native.Nat.{ℕ}
-use native.Mathlib.Omega.{arith}
-use lib.ListN.{length}
+use Rattle.std.proofs.Common.{ap, ℕ, arith, length}
 use Rattle.digits.specs.Digits.{digits}
 use Rattle.numeral_text.specs.NumeralText.{parts_with}
 use Rattle.numeral_text.specs.Stored.{text_length}

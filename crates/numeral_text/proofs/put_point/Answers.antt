@@ -1,6 +1,5 @@
 -- `numeral_text::put_point` meets its contract. Assumes nothing.
-use mathlib.Core.Path.{ap, ◌∙◌}
-use lib.ListN.{length, length-set}
+use Rattle.std.proofs.Common.{ap, ◌∙◌, length, length-set}
 use Rattle.word.specs.Put.{length_put}
 use Rattle.numeral_text.specs.Stored.{point_none, point_room, point_there}
 use Rattle.numeral_text.proofs.put_point.Goals as goal

@@ -1,7 +1,5 @@
 -- `numeral_text::put_power` meets its contract. Assumes nothing.
-use mathlib.Core.Path.{ap, ◌∙◌}
-use native.Mathlib.Omega.{arith}
-use lib.ListN.{length, length-set}
+use Rattle.std.proofs.Common.{ap, ◌∙◌, arith, length, length-set}
 use Rattle.word.specs.Put.{length_put}
 use Rattle.numeral_text.specs.Stored.{power_none, power_room, power_there}
 use Rattle.numeral_text.proofs.put_power.Goals as goal

@@ -1,13 +1,9 @@
 -- `numeral_text::put_text` meets its contract: its four pieces, one behind the other. Assumes nothing.
-use mathlib.Core.Path.{ap}
-use Prim.Native.Nat.{ℕ}
-use native.Mathlib.Omega.{arith}
-use lib.ListN.{length}
+use Rattle.std.proofs.Common.{ap, arith, length, rules, ℕ}
 use Rattle.word.specs.Wrote.{joined}
 use Rattle.digits.specs.Digits.{digits}
 use Rattle.numeral_text.specs.NumeralText.{parts_with, spelling}
 use Rattle.numeral_text.specs.Stored.{text_length}
-use borrow.Author.Rules.{rules}
 use Rattle.numeral_text.proofs.put_text.Goals as goal
 
 pub put_sign-a-requires : goal.put_sign-a-requires

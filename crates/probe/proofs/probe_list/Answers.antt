@@ -1,5 +1,5 @@
 -- `probe::probe_list` meets its contract: the answer as a number. Assumes nothing.
-use mathlib.Core.Path.{ap, ◌∙◌}
+use Rattle.std.proofs.Common.{ap, ◌∙◌}
 use Rattle.probe.specs.Listed.{length_told}
 use Rattle.probe.proofs.probe_list.Goals as goal
 

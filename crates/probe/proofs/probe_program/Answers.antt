@@ -1,5 +1,5 @@
 -- `probe::probe_program` meets its contract: the answer as a number. Assumes nothing.
-use mathlib.Core.Path.{ap, ◌∙◌}
+use Rattle.std.proofs.Common.{ap, ◌∙◌}
 use Rattle.probe.specs.Listed.{length_told}
 use Rattle.probe.proofs.probe_program.Goals as goal
 

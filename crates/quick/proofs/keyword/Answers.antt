@@ -1,46 +1,22 @@
--- `quick::keyword` meets its contract, arm by arm. Assumes nothing.
-use mathlib.Core.Path.{sym, ◌∙◌}
-use lib.IntN.{ℤ}
-use mir.Syntax.{w32}
-use Rattle.word.specs.Signed.{handed}
+-- `quick::keyword` meets its contract. A string that was found is a yes. Assumes nothing.
+use Rattle.std.proofs.Common.{sym, ap, ◌∙◌, ℤ, w32, Ok}
+use Rattle.std.proofs.lemmas.Result.{err_from_is_err_and}
+use Rattle.reader.specs.Leaves.{yes_told, yes_bad}
 use Rattle.quick.specs.Quick.{quick_find, quick_keyword}
-use borrow.Author.Rules.{rules}
+use Rattle.word.specs.Signed.{handed}
 use Rattle.quick.proofs.keyword.Goals as goal
 
-pub find-s-requires : goal.find-s-requires
+pub returns-in_err-find : goal.returns-in_err-find
 unfolding quick_keyword
-find-s-requires c =
-    search rules
+returns-in_err-find c =
+    let args = c.args in
+    let p = err_from_is_err_and c.from_residual.result c.from_residual.ensures.1 in
+    rw (p.1, p.2)
+    (yes_bad _ _ (sym (handed w32 (λ (z : ℤ). quick_find args.buffer.now args.n z args.key.now) args.trace c.ranges.trace.sfits c.in_err-find.ensures)))
 
-pub enum_told-1 : goal.enum_told-1
+pub returns : goal.returns
 unfolding quick_keyword
-enum_told-1 c =
-    search rules
-
-pub enum_told-in-Absent : goal.enum_told-in-Absent
-unfolding quick_keyword
-enum_told-in-Absent c =
-    search rules
-
-pub enum_known-s : goal.enum_known-s
-unfolding quick_keyword
-enum_known-s c =
-    search rules
-
-pub returns-in-There : goal.returns-in-There
-unfolding quick_keyword
-returns-in-There c =
-    sym (rw (sym (handed w32 (λ (z : ℤ). quick_find c.args.buffer.now c.args.n z c.args.key.now) c.args.trace
-    c.ranges.trace.sfits c.find-s.ensures) ∙ c.in-There.is))
-
-pub returns-in-Absent : goal.returns-in-Absent
-unfolding quick_keyword
-returns-in-Absent c =
-    sym (rw (sym (handed w32 (λ (z : ℤ). quick_find c.args.buffer.now c.args.n z c.args.key.now) c.args.trace
-    c.ranges.trace.sfits c.find-s.ensures) ∙ c.in-Absent.is))
-
-pub returns-in-Refused : goal.returns-in-Refused
-unfolding quick_keyword
-returns-in-Refused c =
-    sym (rw (sym (handed w32 (λ (z : ℤ). quick_find c.args.buffer.now c.args.n z c.args.key.now) c.args.trace
-    c.ranges.trace.sfits c.find-s.ensures) ∙ c.in-Refused.is))
+returns c =
+    let args = c.args in
+    ap Ok c.is_some.ensures
+    ∙ yes_told _ _ (sym (handed w32 (λ (z : ℤ). quick_find args.buffer.now args.n z args.key.now) args.trace c.ranges.trace.sfits c.in_ok-find.ensures))

@@ -4,11 +4,11 @@ use lib.IntN.{ℤ}
 use mir.Syntax.{w32}
 use Rattle.word.specs.Signed.{handed}
 use Rattle.double.specs.Double.{double_of}
-use Rattle.double.specs.declared.DoubleAnswer.TheVariants as double
 use Rattle.quick.specs.Quick.{quick_find, quick_double}
 use Rattle.quick.specs.QuickLaws.{find_lent, read_told}
 use borrow.Author.Rules.{rules}
 use Rattle.quick_values.proofs.double.Goals as goal
+use Rattle.std.specs.Prelude.{Err}
 
 pub find-requires : goal.find-requires
 unfolding quick_double
@@ -25,6 +25,6 @@ unfolding quick_double
 returns c =
     let args = c.args in
     c.double_of.ensures
-    ∙ read_told double.Refused double_of _ _ _ _ _
+    ∙ read_told Err double_of _ _ _ _ _
     (handed w32 (λ (z : ℤ). quick_find args.buffer.now args.n z args.key.now) args.trace c.ranges.trace.sfits
     c.find.ensures)

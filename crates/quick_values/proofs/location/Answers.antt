@@ -4,11 +4,11 @@ use lib.IntN.{ℤ}
 use mir.Syntax.{w32}
 use Rattle.word.specs.Signed.{handed}
 use Rattle.location.specs.Location.{location_of}
-use Rattle.location.specs.declared.LocationAnswer.TheVariants as location
 use Rattle.quick.specs.Quick.{quick_find, quick_location}
 use Rattle.quick.specs.QuickLaws.{find_lent, read_told}
 use borrow.Author.Rules.{rules}
 use Rattle.quick_values.proofs.location.Goals as goal
+use Rattle.std.specs.Prelude.{Err}
 
 pub find-requires : goal.find-requires
 unfolding quick_location
@@ -25,6 +25,6 @@ unfolding quick_location
 returns c =
     let args = c.args in
     c.location_of.ensures
-    ∙ read_told location.Refused location_of _ _ _ _ _
+    ∙ read_told Err location_of _ _ _ _ _
     (handed w32 (λ (z : ℤ). quick_find args.buffer.now args.n z args.key.now) args.trace c.ranges.trace.sfits
     c.find.ensures)

@@ -4,11 +4,11 @@ use lib.IntN.{ℤ}
 use mir.Syntax.{w32}
 use Rattle.word.specs.Signed.{handed}
 use Rattle.decimal.specs.Number.{number_in}
-use Rattle.decimal_parts.specs.declared.NumberAnswer.TheVariants as number
 use Rattle.quick.specs.Quick.{quick_find, quick_number}
 use Rattle.quick.specs.QuickLaws.{find_lent, read_told}
 use borrow.Author.Rules.{rules}
 use Rattle.quick_values.proofs.number.Goals as goal
+use Rattle.std.specs.Prelude.{Err}
 
 pub find-requires : goal.find-requires
 unfolding quick_number
@@ -25,6 +25,6 @@ unfolding quick_number
 returns c =
     let args = c.args in
     c.number_of.ensures
-    ∙ read_told number.Refused number_in _ _ _ _ _
+    ∙ read_told Err number_in _ _ _ _ _
     (handed w32 (λ (z : ℤ). quick_find args.buffer.now args.n z args.key.now) args.trace c.ranges.trace.sfits
     c.find.ensures)

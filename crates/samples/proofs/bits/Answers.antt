@@ -7,6 +7,7 @@ use Rattle.samples.specs.Samples.{bits_bad, bits_answer_lem, patterns_left_lem, 
 use Rattle.reader.specs.Reach.{told, told_fits}
 use Rattle.reader.specs.Questions.{trace_answer}
 use Rattle.word.specs.Signed.{handed}
+use Rattle.std.proofs.lemmas.Result.{err_from_is_err_and}
 use Rattle.samples.proofs.bits.Goals as goal
 
 pub slice_bounds-bits-end : goal.slice_bounds-bits-end
@@ -14,7 +15,7 @@ slice_bounds-bits-end c =
     let args = c.args in
     let h = told _ _ _ _ _ (sym (handed w32 (λ (z : ℤ). trace_answer args.how args.buffer.now args.n z)
     args.trace c.ranges.trace.sfits
-    c.trace_block-b.ensures) ∙ c.in-Is.is) in
+    c.in_ok-x.ensures)) in
     sym h.known.size
 
 pub bits-requires : goal.bits-requires
@@ -22,20 +23,21 @@ bits-requires c =
     let args = c.args in
     let h = told _ _ _ _ _ (sym (handed w32 (λ (z : ℤ). trace_answer args.how args.buffer.now args.n z)
     args.trace c.ranges.trace.sfits
-    c.trace_block-b.ensures) ∙ c.in-Is.is) in
+    c.in_ok-x.ensures)) in
     (omega (arith, h.known.size, h.known.least), told_fits _ _ _ _ _ h)
 
-pub returns-in-Refused : goal.returns-in-Refused
-returns-in-Refused c =
+pub returns-in_err-x : goal.returns-in_err-x
+returns-in_err-x c =
     let args = c.args in let e = bits_bad _ _ _ _ _ (sym (handed w32 (λ (z : ℤ). trace_answer args.how args.buffer.now args.n z)
     args.trace c.ranges.trace.sfits
-    c.trace_block-b.ensures) ∙ c.in-Refused.is) _ _ in record { answer = e.0; row = e.1.0; classes = e.1.1 }
+    c.in_err-x.ensures)) _ _ in
+    let p = err_from_is_err_and c.from_residual.result c.from_residual.ensures.1 in record { answer = rw (p.1, p.2) e.0; row = e.1.0; classes = e.1.1 }
 
-pub returns-in-Is : goal.returns-in-Is
-returns-in-Is c =
+pub returns : goal.returns
+returns c =
     let args = c.args in let h = told _ _ _ _ _ (sym (handed w32 (λ (z : ℤ). trace_answer args.how args.buffer.now args.n z)
     args.trace c.ranges.trace.sfits
-    c.trace_block-b.ensures) ∙ c.in-Is.is) in record {
+    c.in_ok-x.ensures)) in record {
       answer = c.bits.ensures.answer ∙ bits_answer_lem _ _ _ _ _ h _ _;
       row = c.bits.ensures.row ∙ patterns_left_lem _ _ _ _ _ h _ _;
       classes = c.bits.ensures.classes ∙ classes_left_lem _ _ _ _ _ h _ _;

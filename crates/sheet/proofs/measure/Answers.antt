@@ -1,93 +1,68 @@
 -- `sheet::measure` meets its contract. The invariant: the check from here answers as the check of the sheet, and what
 -- was counted with what is to come is the whole size. Assumes nothing.
-use mathlib.Core.Path.{sym, ◌∙◌}
-use Prim.Native.Nat.{◌+◌, ◌-◌, ◌<◌}
-use lib.ListN.{length}
+use Rattle.std.proofs.Common.{rules, ◌≡◌, ◌+◌, ◌<◌, ◌∙◌, length, sym, arith}
+use Rattle.std.proofs.lemmas.Result.{err_from_is_err_and}
 use Rattle.word.specs.Part.{part_rest}
-use Rattle.sheet.specs.Counting.{turn_fits, counted_turn, counted_bad, counted_large}
+use Rattle.sheet.specs.Counting.{turn_fits, counted_turn, counted_bad, counted_large, counted_size}
 use Rattle.sheet.proofs.Counting.{counted_start}
-use Rattle.sheet.specs.Counting.{counted_size}
-use borrow.Author.Rules.{rules}
-use native.Mathlib.Omega.{arith}
 use Rattle.sheet.proofs.measure.Goals as goal
-use Rattle.sheet.proofs.measure.Goals.{In-Next}
+use Rattle.sheet.proofs.measure.Goals.{In_ok-o}
 
 -- the line that a step has passed: its keyword is shorter than it, and it ends before the sheet does
-fits : (c : In-Next)
-    → (c.in-Next.w < c.in-Next.o) × (c.loop-at.at + c.in-Next.o < length c.args.sheet.now)
+fits : (c : In_ok-o)
+    → (c.in_ok-o.w < c.in_ok-o.o) × (c.loop-at.at + c.in_ok-o.o < length c.args.sheet.now)
 fits c =
     turn_fits _ c.args.sheet.now c.loop-at.at _ _ c.loop-at-test.true
-    ((rw part_rest at (sym c.step_at-s.ensures)) ∙ c.in-Next.is)
+    (rw part_rest at (sym c.in_ok-o.ensures))
 
 pub loop-at-init : goal.loop-at-init
 loop-at-init c =
     (search rules, search rules, search rules, search rules, counted_start _ _ _)
 
-pub returns-in-Bad : goal.returns-in-Bad
-returns-in-Bad c =
-    counted_bad _ _ c.args.sheet.now c.loop-at.at c.loop-at.k c.loop-at.g c.loop-at.n c.loop-at.invariant.4
-    c.loop-at-test.true _ ((rw part_rest at (sym c.step_at-s.ensures)) ∙ c.in-Bad.is)
+pub returns-in_err-o : goal.returns-in_err-o
+returns-in_err-o c =
+    let p = err_from_is_err_and c.from_residual.result c.from_residual.ensures.1 in
+    rw (p.1, p.2)
+    (counted_bad _ _ c.args.sheet.now c.loop-at.at c.loop-at.k c.loop-at.g c.loop-at.n c.loop-at.invariant.4
+    c.loop-at-test.true _ (rw part_rest at (sym c.in_err-o.ensures)))
 
 pub overflow_add-e : goal.overflow_add-e
 overflow_add-e c =
-    let b = fits (goal.at.overflow_add-e c).In-Next in omega (arith, b.0, b.1)
+    let b = fits c in omega (arith, b.0, b.1)
 
-pub slice_bounds-is_continued-count : goal.slice_bounds-is_continued-count
-slice_bounds-is_continued-count c =
-    let b = fits (goal.at.slice_bounds-is_continued-count c).In-Next in omega (arith, b.0, b.1)
-
-pub slice_bounds-is_continued-start : goal.slice_bounds-is_continued-start
-slice_bounds-is_continued-start c =
-    let b = fits (goal.at.slice_bounds-is_continued-start c).In-Next in omega (arith, b.0, b.1)
-
-pub slice_bounds-is_continued-end : goal.slice_bounds-is_continued-end
-slice_bounds-is_continued-end c =
-    let b = fits (goal.at.slice_bounds-is_continued-end c).In-Next in omega (arith, b.0, b.1)
-
-pub slice_bounds-is_continued-count-in-Next : goal.slice_bounds-is_continued-count-in-Next
-slice_bounds-is_continued-count-in-Next c =
-    let b = fits (goal.at.slice_bounds-is_continued-count-in-Next c).In-Next in omega (arith, b.0, b.1)
-
-pub slice_bounds-is_continued-start-in-Next : goal.slice_bounds-is_continued-start-in-Next
-slice_bounds-is_continued-start-in-Next c =
-    let b = fits (goal.at.slice_bounds-is_continued-start-in-Next c).In-Next in omega (arith, b.0, b.1)
-
-pub slice_bounds-is_continued-end-in-Next : goal.slice_bounds-is_continued-end-in-Next
-slice_bounds-is_continued-end-in-Next c =
-    let b = fits (goal.at.slice_bounds-is_continued-end-in-Next c).In-Next in omega (arith, b.0, b.1)
+pub slice_bounds-is_continued-end-in-loop-at : goal.slice_bounds-is_continued-end-in-loop-at
+slice_bounds-is_continued-end-in-loop-at c =
+    let b = fits (goal.at.slice_bounds-is_continued-end-in-loop-at c).In_ok-o in omega (arith, b.0, b.1)
 
 pub overflow_sub-o : goal.overflow_sub-o
 overflow_sub-o c =
-    let b = fits (goal.at.overflow_sub-o c).In-Next in omega (arith, b.0, b.1)
+    let b = fits (goal.at.overflow_sub-o c).In_ok-o in omega (arith, b.0)
 
-pub overflow_sub-o-in-Next : goal.overflow_sub-o-in-Next
-overflow_sub-o-in-Next c =
-    let b = fits (goal.at.overflow_sub-o-in-Next c).In-Next in omega (arith, b.0, b.1)
+pub overflow_sub-o-in-loop-at : goal.overflow_sub-o-in-loop-at
+overflow_sub-o-in-loop-at c =
+    let b = fits (goal.at.overflow_sub-o-in-loop-at c).In_ok-o in omega (arith, b.0)
 
 pub overflow_add-at : goal.overflow_add-at
 overflow_add-at c =
-    let b = fits (goal.at.overflow_add-at c).In-Next in omega (arith, b.0, b.1)
+    let b = fits (goal.at.overflow_add-at c).In_ok-o in omega (arith, b.1)
 
-pub overflow_add-at-in-Next : goal.overflow_add-at-in-Next
-overflow_add-at-in-Next c =
-    let b = fits (goal.at.overflow_add-at-in-Next c).In-Next in omega (arith, b.0, b.1)
-
-pub loop-at-smaller : goal.loop-at-smaller
-loop-at-smaller c =
-    let b = fits (goal.at.loop-at-smaller c).In-Next in omega (arith, b.0, b.1)
+pub overflow_add-at-in-loop-at : goal.overflow_add-at-in-loop-at
+overflow_add-at-in-loop-at c =
+    let b = fits (goal.at.overflow_add-at-in-loop-at c).In_ok-o in omega (arith, b.1)
 
 pub loop-at-preserved : goal.loop-at-preserved
 loop-at-preserved c =
-    let args = c.args in
-    let b = fits (goal.at.loop-at-preserved c).In-Next in (
+    let at = c.loop-at.at in
+    let o = c.in_ok-o.o in
+    let q : at + (o + 1) ≡ at + o + 1 = omega arith in
+    let b = fits (goal.at.loop-at-preserved c).In_ok-o in (
       omega (arith, b.1),
-      omega (arith, b.0, b.1),
+      omega arith,
       omega (arith, b.0, b.1),
       c.grown-n.ensures.1,
-      counted_turn _ _ args.sheet.now
-          c.loop-at.at c.loop-at.k c.loop-at.g c.loop-at.n c.loop-at.invariant.4 c.loop-at-test.true _ _ _
-          ((rw part_rest at (sym c.step_at-s.ensures)) ∙ c.in-Next.is)
-          (c.grown-n.ensures.0 ∙ rw c.is_continued-more.ensures),
+      rw q (counted_turn _ _ c.args.sheet.now at c.loop-at.k c.loop-at.g c.loop-at.n c.loop-at.invariant.4
+          c.loop-at-test.true _ _ _ (rw part_rest at (sym c.in_ok-o.ensures))
+          (c.grown-n.ensures.0 ∙ rw c.is_continued-more.ensures)),
     )
 
 pub returns-then-over : goal.returns-then-over

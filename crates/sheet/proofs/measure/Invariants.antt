@@ -1,5 +1,4 @@
-use Prim.Native.Nat.{◌+◌, ◌-◌, ◌≤◌}
-use lib.ListN.{length}
+use Rattle.std.proofs.Common.{◌+◌, ◌-◌, ◌≤◌, length}
 use Rattle.sheet.specs.Counting.{Counted}
 use Rattle.sheet.specs.Area.{area_most}
 use Rattle.sheet.proofs.measure.Given as goal

@@ -1,10 +1,8 @@
 -- `sheet_string::write_line` meets its contract. The stores, one behind the other, are the string. Assumes nothing.
-use mathlib.Core.Path.{refl, sym}
-use lib.Seq.{length-take-le}
+use Rattle.std.proofs.Common.{refl, sym, rules, arith}
+use Rattle.std.proofs.Common.{length-take-le}
 use Rattle.word.specs.Part.{part_rest}
 use Rattle.sheet_string.specs.StringBytes.{string_written}
-use borrow.Author.Rules.{rules}
-use native.Mathlib.Omega.{arith}
 use Rattle.sheet_string.proofs.write_line.Goals as goal
 
 pub slice_bounds-copy-end : goal.slice_bounds-copy-end

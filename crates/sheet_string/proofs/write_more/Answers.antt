@@ -1,7 +1,6 @@
 -- `sheet_string::write_more` meets its contract. Assumes nothing.
-use mathlib.Core.Path.{refl, ◌∙◌}
+use Rattle.std.proofs.Common.{refl, ◌∙◌, rules}
 use Rattle.sheet_string.specs.StringBytes.{put_then}
-use borrow.Author.Rules.{rules}
 use Rattle.sheet_string.proofs.write_more.Goals as goal
 
 pub returns : goal.returns

@@ -1,13 +1,10 @@
 -- `sheet_string::write_note` meets its contract. The stores make the string, the offset last. Assumes nothing.
-use mathlib.Core.Path.{refl}
-use Prim.Native.Nat.{◌+◌, ◌≤◌, ◌<◌}
-use lib.ListN.{length}
+use Rattle.std.proofs.Common.{refl, ◌+◌, ◌≤◌, ◌<◌, length, arith}
 use Rattle.word.specs.Part.{part_rest}
 use Rattle.strings.specs.Spelled.{size_of}
 use Rattle.sheet.specs.Lines.{sheet_lines}
 use Rattle.sheet.specs.Area.{note_of}
 use Rattle.sheet_string.specs.StringBytes.{NoteAt, note_at, note_written}
-use native.Mathlib.Omega.{arith}
 use Rattle.sheet_string.proofs.write_note.Goals as goal
 use Rattle.sheet_string.proofs.write_note.Goals.{After-line_len-n}
 
@@ -19,29 +16,9 @@ noted : (c : After-line_len-n)
 noted c =
     (note_at c.args.u.now c.args.s.now _ c.requires.0 c.line_len-n.ensures.0, c.requires.1, c.requires.2)
 
-pub overflow_add-a : goal.overflow_add-a
-overflow_add-a c =
-    let a = noted (goal.at.overflow_add-a c).After-line_len-n in omega (arith, a.0.low, a.0.fits, a.0.long, a.0.size, a.1, a.2)
-
-pub overflow_add-b : goal.overflow_add-b
-overflow_add-b c =
-    let a = noted (goal.at.overflow_add-b c).After-line_len-n in omega (arith, a.0.low, a.0.fits, a.0.long, a.0.size, a.1, a.2)
-
-pub overflow_add-c : goal.overflow_add-c
-overflow_add-c c =
-    let a = noted (goal.at.overflow_add-c c).After-line_len-n in omega (arith, a.0.low, a.0.fits, a.0.long, a.0.size, a.1, a.2)
-
-pub overflow_add-from : goal.overflow_add-from
-overflow_add-from c =
-    let a = noted (goal.at.overflow_add-from c).After-line_len-n in omega (arith, a.0.low, a.0.fits, a.0.long, a.0.size, a.1, a.2)
-
 pub slice_bounds-copy-start : goal.slice_bounds-copy-start
 slice_bounds-copy-start c =
     let a = noted (goal.at.slice_bounds-copy-start c).After-line_len-n in omega (arith, a.0.low, a.0.fits, a.0.long, a.0.size, a.1, a.2)
-
-pub slice_bounds-copy-end-2 : goal.slice_bounds-copy-end-2
-slice_bounds-copy-end-2 c =
-    let a = noted (goal.at.slice_bounds-copy-end-2 c).After-line_len-n in omega (arith, a.0.low, a.0.fits, a.0.long, a.0.size, a.1, a.2)
 
 pub copy-requires-2 : goal.copy-requires-2
 copy-requires-2 c =
@@ -56,11 +33,6 @@ slice_bounds-write_lines-count c =
 pub slice_bounds-write_lines-start : goal.slice_bounds-write_lines-start
 slice_bounds-write_lines-start c =
     let a = noted (goal.at.slice_bounds-write_lines-start c).After-line_len-n in
-    omega (arith, a.0.low, a.0.fits, a.0.long, a.0.size, a.1, a.2)
-
-pub slice_bounds-write_lines-end : goal.slice_bounds-write_lines-end
-slice_bounds-write_lines-end c =
-    let a = noted (goal.at.slice_bounds-write_lines-end c).After-line_len-n in
     omega (arith, a.0.low, a.0.fits, a.0.long, a.0.size, a.1, a.2)
 
 pub write_lines-e-requires : goal.write_lines-e-requires

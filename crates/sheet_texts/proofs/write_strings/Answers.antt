@@ -1,14 +1,10 @@
 -- `sheet_texts::write_strings` meets its contract. The invariant: what is left to store, stored, makes the whole. Assumes
 -- nothing.
-use mathlib.Core.Path.{◌≡◌, refl, sym, ◌∙◌}
-use Prim.Native.Nat.{◌+◌, ◌-◌, ◌<◌}
-use lib.ListN.{length}
+use Rattle.std.proofs.Common.{◌≡◌, refl, sym, ◌∙◌, ◌+◌, ◌<◌, length, rules, arith}
 use Rattle.word.specs.Part.{part, part_rest}
 use Rattle.word.specs.Put.{length_put}
 use Rattle.sheet_texts.specs.Texts.{texts_room, strung_start, line_fits, strung_fits, strung_room, strung_turn}
 use Rattle.sheet_texts.specs.Texts.{strung_headed, strung_note_room, strung_note, strung_over}
-use borrow.Author.Rules.{rules}
-use native.Mathlib.Omega.{arith}
 use Rattle.sheet_texts.proofs.write_strings.Goals as goal
 use Rattle.sheet_texts.proofs.write_strings.Goals.{After-key_run-w, After-line_len-n}
 

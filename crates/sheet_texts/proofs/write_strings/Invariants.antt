@@ -1,7 +1,6 @@
 use mathlib.Core.Path.{◌≡◌}
 use Prim.Native.Nat.{◌-◌, ◌≤◌}
 use lib.ListN.{length}
-use Rattle.word.specs.Part.{part}
 use Rattle.sheet_texts.specs.Texts.{Strung}
 use Rattle.sheet_texts.proofs.write_strings.Given as goal
 

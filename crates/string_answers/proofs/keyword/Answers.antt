@@ -1,49 +1,22 @@
--- `string_answers::keyword` meets its contract. An arm for each case. Assumes nothing.
-use mathlib.Core.Path.{sym, ◌∙◌}
-use lib.IntN.{ℤ}
-use borrow.Author.Rules.{rules}
-use mir.Syntax.{w32}
+-- `string_answers::keyword` meets its contract. A string that was found is a yes. Assumes nothing.
+use Rattle.std.proofs.Common.{sym, ap, ◌∙◌, ℤ, w32, Ok}
+use Rattle.std.proofs.lemmas.Result.{err_from_is_err_and}
 use Rattle.reader.specs.Questions.{find_answer, keyword_answer}
+use Rattle.reader.specs.Leaves.{yes_told, yes_bad}
 use Rattle.word.specs.Signed.{handed}
 use Rattle.string_answers.proofs.keyword.Goals as goal
 
-pub find-s-requires : goal.find-s-requires
+pub returns-in_err-find : goal.returns-in_err-find
 unfolding keyword_answer
-find-s-requires c =
-    search rules
-
-pub enum_told-1 : goal.enum_told-1
-unfolding keyword_answer
-enum_told-1 c =
-    search rules
-
-pub enum_told-in-Absent : goal.enum_told-in-Absent
-unfolding keyword_answer
-enum_told-in-Absent c =
-    search rules
-
-pub enum_known-s : goal.enum_known-s
-unfolding keyword_answer
-enum_known-s c =
-    search rules
-
-pub returns-in-There : goal.returns-in-There
-unfolding keyword_answer
-returns-in-There c =
+returns-in_err-find c =
     let args = c.args in
-    rw (sym (handed w32 (λ (z : ℤ). find_answer args.how args.buffer.now args.n z args.key.now) args.part c.ranges.part.sfits
-    c.find-s.ensures) ∙ c.in-There.is)
+    let p = err_from_is_err_and c.from_residual.result c.from_residual.ensures.1 in
+    rw (p.1, p.2)
+    (yes_bad _ _ (sym (handed w32 (λ (z : ℤ). find_answer args.how args.buffer.now args.n z args.key.now) args.part c.ranges.part.sfits c.in_err-find.ensures)))
 
-pub returns-in-Absent : goal.returns-in-Absent
+pub returns : goal.returns
 unfolding keyword_answer
-returns-in-Absent c =
+returns c =
     let args = c.args in
-    rw (sym (handed w32 (λ (z : ℤ). find_answer args.how args.buffer.now args.n z args.key.now) args.part c.ranges.part.sfits
-    c.find-s.ensures) ∙ c.in-Absent.is)
-
-pub returns-in-Refused : goal.returns-in-Refused
-unfolding keyword_answer
-returns-in-Refused c =
-    let args = c.args in
-    rw (sym (handed w32 (λ (z : ℤ). find_answer args.how args.buffer.now args.n z args.key.now) args.part c.ranges.part.sfits
-    c.find-s.ensures) ∙ c.in-Refused.is)
+    ap Ok c.is_some.ensures
+    ∙ yes_told _ _ (sym (handed w32 (λ (z : ℤ). find_answer args.how args.buffer.now args.n z args.key.now) args.part c.ranges.part.sfits c.in_ok-find.ensures))

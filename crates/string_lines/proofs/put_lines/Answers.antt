@@ -1,9 +1,8 @@
 -- `string_lines::put_lines` meets its contract. The invariant: the lines that are left, stored, make the whole. Assumes
 -- nothing.
-use Prim.Native.Nat.{◌-◌}
+use Rattle.std.proofs.Common.{arith}
 use Rattle.string_lines.specs.Walks.{lining_start, lining_fits, lining_room, lining_turn, lining_last_room}
 use Rattle.string_lines.specs.Walks.{lining_last}
-use native.Mathlib.Omega.{arith}
 use Rattle.string_lines.proofs.put_lines.Goals as goal
 
 pub loop-e-init : goal.loop-e-init

@@ -1,5 +1,5 @@
-use Prim.Native.Nat.{◌-◌}
-use lib.ListN.{length}
+use Rattle.std.proofs.Common.{◌-◌}
+use Rattle.std.proofs.Common.{length}
 use Rattle.string_lines.specs.Walks.{Lining}
 use Rattle.string_lines.proofs.put_lines.Given as goal
 

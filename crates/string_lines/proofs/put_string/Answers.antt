@@ -1,5 +1,5 @@
 -- `string_lines::put_string` meets its contract. Only a NOTE has lines. Assumes nothing.
-use mathlib.Core.Path.{sym, ◌∙◌}
+use Rattle.std.proofs.Common.{sym, ◌∙◌}
 use Rattle.string_lines.specs.Turns.{values_note, values_plain, lines_one}
 use Rattle.string_lines.proofs.put_string.Goals as goal
 

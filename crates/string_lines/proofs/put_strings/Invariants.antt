@@ -1,4 +1,4 @@
-use Prim.Native.Nat.{◌-◌}
+use Rattle.std.proofs.Common.{◌-◌}
 use Rattle.string_lines.specs.Walks.{Stringing}
 use Rattle.string_lines.proofs.put_strings.Given as goal
 

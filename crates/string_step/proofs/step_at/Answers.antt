@@ -1,82 +1,46 @@
--- `string_step::step_at` meets its contract. Each answer follows from what the frame and its text are. Assumes nothing.
-use mathlib.Core.Path.{sym, ◌∙◌}
-use Rattle.strings.specs.Strings.{body, on_frame, step_of}
-use Rattle.strings.specs.Walks.{in_frame}
-use borrow.Author.Rules.{rules}
-use native.Mathlib.Omega.{arith}
+-- `string_step::step_at` meets its contract: each answer is that of the frame or of what is judged in it. Assumes nothing.
+use Rattle.std.proofs.Common.{◌≡◌, ◌∙◌, ap, sym, arith, Ok, Some, None}
+use Rattle.std.proofs.lemmas.Result.{err_from_is_err_and}
+use Rattle.strings.specs.Strings.{body, frame_of}
+use Rattle.strings.proofs.Steps.{step_broken, step_ended, step_frame, step_wrong, step_next}
+use Rattle.strings.specs.Walks.{InFrame}
+use Rattle.refusal.specs.Verdicts.{placed}
 use Rattle.string_step.proofs.step_at.Goals as goal
+use Rattle.string_step.proofs.step_at.Goals.{In-Some}
 
-pub framed-s-requires : goal.framed-s-requires
-unfolding body on_frame step_of
-framed-s-requires c =
-    search rules
+-- the frame is a string's
+text : (c : In-Some) → Ok (Some c.in-Some.o) ≡ placed c.framed.result c.args.whose c.args.at
+text c = ap Ok (sym c.in-Some.is) ∙ c.in_ok-o.ensures
 
-pub enum_told-1 : goal.enum_told-1
-unfolding body on_frame step_of
-enum_told-1 c =
-    search rules
-
-pub enum_known-s : goal.enum_known-s
-unfolding body on_frame step_of
-enum_known-s c =
-    search rules
-
-pub enum_known-s-in-Text-1 : goal.enum_known-s-in-Text-1
-unfolding body on_frame step_of
-enum_known-s-in-Text-1 c =
-    search rules
+lies : (c : In-Some) → InFrame c.args.high c.args.t.now c.args.l.now c.in-Some.o
+lies c = let s = c.args in step_frame s.how _ _ s.u.now s.whose s.prev.now _ s.at c.framed.ensures _ (text c)
 
 pub overflow_sub-end : goal.overflow_sub-end
-unfolding body on_frame step_of
-overflow_sub-end c =
-    let i = in_frame _ _ _ _ _ (sym c.framed-s.ensures ∙ c.in-Text.is) in omega (arith, i.low, i.fit)
+overflow_sub-end c = let i = lies (goal.at.overflow_sub-end c).In-Some in omega (arith, i.low, i.fit)
 
 pub slice_bounds-judge-count : goal.slice_bounds-judge-count
-unfolding body on_frame step_of
-slice_bounds-judge-count c =
-    let i = in_frame _ _ _ _ _ (sym c.framed-s.ensures ∙ c.in-Text.is) in omega (arith, i.low, i.fit)
+slice_bounds-judge-count c = let i = lies (goal.at.slice_bounds-judge-count c).In-Some in omega (arith, i.low, i.fit)
 
 pub slice_bounds-judge-start : goal.slice_bounds-judge-start
-unfolding body on_frame step_of
-slice_bounds-judge-start c =
-    let i = in_frame _ _ _ _ _ (sym c.framed-s.ensures ∙ c.in-Text.is) in omega (arith, i.low, i.fit)
+slice_bounds-judge-start c = let i = lies (goal.at.slice_bounds-judge-start c).In-Some in omega (arith, i.low, i.fit)
 
 pub slice_bounds-judge-end : goal.slice_bounds-judge-end
-unfolding body on_frame step_of
-slice_bounds-judge-end c =
-    let i = in_frame _ _ _ _ _ (sym c.framed-s.ensures ∙ c.in-Text.is) in omega (arith, i.low, i.fit)
+slice_bounds-judge-end c = let i = lies (goal.at.slice_bounds-judge-end c).In-Some in omega (arith, i.low, i.fit)
 
-pub judge-j-requires : goal.judge-j-requires
-unfolding body on_frame step_of
-judge-j-requires c =
-    search rules
+pub returns-in_err-o : goal.returns-in_err-o
+returns-in_err-o c =
+    let p = err_from_is_err_and c.from_residual.result c.from_residual.ensures.1 in
+    rw (p.1, p.2) (step_broken _ _ _ _ _ _ _ _ c.framed.ensures _ c.in_err-o.ensures)
 
-pub enum_known-j : goal.enum_known-j
-unfolding body on_frame step_of
-enum_known-j c =
-    search rules
+pub returns-in_default : goal.returns-in_default
+returns-in_default c = step_ended _ _ _ _ c.args.whose _ _ _ c.framed.ensures (ap Ok (sym c.in_default.is) ∙ c.in_ok-o.ensures)
 
-pub enum_known-j-in-Wrong-1 : goal.enum_known-j-in-Wrong-1
-unfolding body on_frame step_of
-enum_known-j-in-Wrong-1 c =
-    search rules
+pub returns-in_err-n : goal.returns-in_err-n
+unfolding body
+returns-in_err-n c =
+    let p = err_from_is_err_and c.from_residual-in_err-n.result c.from_residual-in_err-n.ensures.1 in
+    rw (p.1, p.2) (step_wrong _ _ _ _ _ _ _ _ c.framed.ensures _ (text (goal.at.returns-in_err-n c).In-Some) c.judge.ensures _ c.in_err-n.ensures)
 
-pub returns-in-End : goal.returns-in-End
-unfolding body on_frame step_of
-returns-in-End c =
-    rw (sym c.framed-s.ensures ∙ c.in-End.is)
-
-pub returns-in-Broken : goal.returns-in-Broken
-unfolding body on_frame step_of
-returns-in-Broken c =
-    rw (sym c.framed-s.ensures ∙ c.in-Broken.is)
-
-pub returns-in-Keyword : goal.returns-in-Keyword
-unfolding body on_frame step_of
-returns-in-Keyword c =
-    rw ((sym c.framed-s.ensures ∙ c.in-Text.is), sym c.judge-j.ensures ∙ c.in-Keyword.is)
-
-pub returns-in-Wrong : goal.returns-in-Wrong
-unfolding body on_frame step_of
-returns-in-Wrong c =
-    rw ((sym c.framed-s.ensures ∙ c.in-Text.is), sym c.judge-j.ensures ∙ c.in-Wrong.is)
+pub returns : goal.returns
+unfolding body
+returns c = step_next _ _ _ _ _ _ _ _ c.framed.ensures _ (text (goal.at.returns c).In-Some) c.judge.ensures _ c.in_ok-n.ensures

@@ -4,11 +4,11 @@ use lib.IntN.{ℤ}
 use mir.Syntax.{w32}
 use Rattle.word.specs.Signed.{handed}
 use Rattle.double.specs.Double.{double_of}
-use Rattle.double.specs.declared.DoubleAnswer.TheVariants as double
 use Rattle.reader.specs.Reach.{find_lent, value_made}
 use Rattle.reader.specs.Questions.{find_answer, double_answer}
 use borrow.Author.Rules.{rules}
 use Rattle.values.proofs.double.Goals as goal
+use Rattle.std.specs.Prelude.{Err}
 
 pub find-requires : goal.find-requires
 unfolding double_answer
@@ -25,6 +25,6 @@ unfolding double_answer
 returns c =
     let args = c.args in
     c.double_of.ensures
-    ∙ value_made _ double.Refused double_of _ _ _ _ _
+    ∙ value_made _ Err double_of _ _ _ _ _
     (handed w32 (λ (z : ℤ). find_answer args.how args.buffer.now args.n z args.key.now) args.part c.ranges.part.sfits
     c.find.ensures)

@@ -4,11 +4,11 @@ use lib.IntN.{ℤ}
 use mir.Syntax.{w32}
 use Rattle.word.specs.Signed.{handed}
 use Rattle.location.specs.Location.{location_of}
-use Rattle.location.specs.declared.LocationAnswer.TheVariants as location
 use Rattle.reader.specs.Reach.{find_lent, value_made}
 use Rattle.reader.specs.Questions.{find_answer, location_answer}
 use borrow.Author.Rules.{rules}
 use Rattle.values.proofs.location.Goals as goal
+use Rattle.std.specs.Prelude.{Err}
 
 pub find-requires : goal.find-requires
 unfolding location_answer
@@ -25,6 +25,6 @@ unfolding location_answer
 returns c =
     let args = c.args in
     c.location_of.ensures
-    ∙ value_made _ location.Refused location_of _ _ _ _ _
+    ∙ value_made _ Err location_of _ _ _ _ _
     (handed w32 (λ (z : ℤ). find_answer args.how args.buffer.now args.n z args.key.now) args.part c.ranges.part.sfits
     c.find.ensures)

@@ -4,11 +4,11 @@ use lib.IntN.{ℤ}
 use mir.Syntax.{w32}
 use Rattle.word.specs.Signed.{handed}
 use Rattle.decimal.specs.Number.{number_in}
-use Rattle.decimal_parts.specs.declared.NumberAnswer.TheVariants as number
 use Rattle.reader.specs.Reach.{find_lent, value_made}
 use Rattle.reader.specs.Questions.{find_answer, number_answer}
 use borrow.Author.Rules.{rules}
 use Rattle.values.proofs.number.Goals as goal
+use Rattle.std.specs.Prelude.{Err}
 
 pub find-requires : goal.find-requires
 unfolding number_answer
@@ -25,6 +25,6 @@ unfolding number_answer
 returns c =
     let args = c.args in
     c.number_of.ensures
-    ∙ value_made _ number.Refused number_in _ _ _ _ _
+    ∙ value_made _ Err number_in _ _ _ _ _
     (handed w32 (λ (z : ℤ). find_answer args.how args.buffer.now args.n z args.key.now) args.part c.ranges.part.sfits
     c.find.ensures)

@@ -1,59 +1,40 @@
 -- `writer::add_integers` meets its contract. A refusal leaves all as it was, and else the buffer is grown. Assumes
 -- nothing.
+use Rattle.std.proofs.Common.{refl}
+use Rattle.std.proofs.lemmas.Result.{err_from_is_err_and}
 use Rattle.word.specs.Bytes.{each_bytes}
 use Rattle.layout.specs.Layout.{integers, integers_trace, count}
 use Rattle.entry.specs.EntryLaws.{judged}
 use Rattle.writer.specs.Writes.{begins, kept_left}
 use Rattle.writer.proofs.Writes.{grown_left}
-use borrow.Author.Rules.{rules}
 use Rattle.writer.proofs.add_integers.Goals as goal
 
-pub integers_fit-fit-requires : goal.integers_fit-fit-requires
+pub told-requires : goal.told-requires
 unfolding count
-integers_fit-fit-requires c =
-    search rules
-
-pub told-w-requires : goal.told-w-requires
-unfolding count
-told-w-requires c =
+told-requires c =
     judged (integers c.args.row.now) c.integers_fit-fit.ensures
 
-pub enum_known-w : goal.enum_known-w
+pub returns-in_err-end : goal.returns-in_err-end
 unfolding count
-enum_known-w c =
-    search rules
-
-pub enum_known-w-in-To-1 : goal.enum_known-w-in-To-1
-unfolding count
-enum_known-w-in-To-1 c =
-    search rules
+returns-in_err-end c =
+    let args = c.args in
+    let x = integers_trace args.sheet.now args.code args.row.now in
+    let p = err_from_is_err_and c.from_residual.result c.from_residual.ensures.1 in
+    let e = kept_left args.buffer.now _ x c.integers_fit-fit.ensures c.in_err-end.ensures refl in
+    record { answer = rw (p.1, p.2) e.0; left = e.1 }
 
 pub grow_integers-requires : goal.grow_integers-requires
 unfolding count
 grow_integers-requires c =
     let args = c.args in
     let x = integers_trace args.sheet.now args.code args.row.now in
-    begins _ _ x c.integers_fit-fit.ensures c.told-w.ensures
-    (each_bytes args.buffer.now (λ i. (c.slice_known-1.given i).fits)) c.in-To.is
+    let bytes = each_bytes args.buffer.now (λ i. (c.slice_known-1.given i).fits) in
+    begins _ _ x c.integers_fit-fit.ensures c.in_ok-end.ensures bytes refl
 
-pub shape_of-buffer-in-Refused : goal.shape_of-buffer-in-Refused
+pub returns : goal.returns
 unfolding count
-shape_of-buffer-in-Refused c =
-    search rules
-
-pub returns-in-Refused : goal.returns-in-Refused
-unfolding count
-returns-in-Refused c =
-    let e = kept_left _ _ _ c.integers_fit-fit.ensures
-    c.told-w.ensures c.in-Refused.is in record { answer = e.0; left = e.1 }
-
-pub shape_of-buffer-in-To : goal.shape_of-buffer-in-To
-unfolding count
-shape_of-buffer-in-To c =
-    search rules
-
-pub returns-in-To : goal.returns-in-To
-unfolding count
-returns-in-To c =
-    let e = grown_left _ _ _ c.integers_fit-fit.ensures c.told-w.ensures c.in-To.is
-    c.grow_integers.ensures in record { answer = e.0; left = e.1 }
+returns c =
+    let args = c.args in
+    let x = integers_trace args.sheet.now args.code args.row.now in
+    let e = grown_left _ _ x c.integers_fit-fit.ensures c.in_ok-end.ensures refl c.grow_integers.ensures in
+    record { answer = e.0; left = e.1 }
