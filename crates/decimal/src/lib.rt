@@ -34,7 +34,8 @@ fn tail(minus: bool, whole: &[u8], decimals: &[u8], x: &[u8]) -> Result<Decimal,
         return Err(no_number());
     }
     let rest = front_bytes::behind(y, n);
-    if !rest.is_empty() {
+    let more = !rest.is_empty();
+    if more {
         return Err(no_number());
     }
     decimal_parts::judged(

@@ -47,11 +47,17 @@ pub fn put_last(out: &mut [u8], at: usize, c: u64, k: usize) -> usize
     at + k
 }
 
-// How many digits a number has; no number of 64 bits has more than 20.
+// How many digits a number has; no number of 64 bits has more than 20. Not by `ilog10`, which indexes a constant array.
 pub fn digit_count(n: u64) -> usize
     ensures { (result ≡ length (digits n)) × (result ≤ 20) }
 {
-    n.max(1).ilog10() as usize + 1
+    let mut left = n;
+    let mut k: usize = 1;
+    while 10 <= left {
+        left /= 10;
+        k += 1;
+    }
+    k
 }
 
 // A number in decimal. Its digits are counted first and stored where they belong: gathered in a row and copied they

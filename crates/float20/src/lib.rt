@@ -27,7 +27,7 @@ pub fn float20_of(v: i32) -> Float20
     requires { nat_abs v < 1073741824 }
     ensures { Coded v result.exponent result.mantissa }
 {
-    let n = v.unsigned_abs();
+    let n = word::magnitude(v);
     let e = exponent(n);
     let t = (n >> e) as u16;
     let mantissa = if v < 0 { 65535 - t } else { t };

@@ -54,13 +54,16 @@ fn rest(
     traces::traces(f, high, t, u, n, p, how)
 }
 
-// Rows 2 to 7, and the file block. A function, so that the memory that the answer comes back in is given back before the
-// rest.
+// Rows 2 to 7, and the file block. A function that hands the answer on arm by arm, so that the memory that it comes back in
+// is given back before the rest.
 fn top_of(f: &[u8], purpose: Purpose) -> Result<FileBlock, Refusal>
     requires { 32 ≤ length f.now }
     ensures { (result ≡ head_answer purpose (take 32 f.now) (length f.now)) × InWords result }
 {
-    head::head(&f[..32], f.len(), purpose)
+    match head::head(&f[..32], f.len(), purpose) {
+        Err(r) => Err(r),
+        Ok(x) => Ok(x),
+    }
 }
 
 // Rows 2 to 17 and 34.

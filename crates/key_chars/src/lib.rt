@@ -4,7 +4,7 @@
 // The rules in words: docs/FORMAT.md, "Strings".
 #![tactic(auto)]
 
-ghost use Rattle.std.specs.Prelude.{◌≡◌, ◌≤◌, length};
+ghost use Rattle.std.specs.Prelude.{◌≡◌, ◌&&◌, ◌≤◌, length, ltb};
 ghost use Rattle.chars.specs.Runs.{run};
 ghost use Rattle.text.specs.Manner.{letter};
 
@@ -21,14 +21,26 @@ fn key_char(b: u8, how: Manner) -> bool
     }
 }
 
-// How many keyword characters stand first. Nearly all are capitals, which are counted without asking for the manner.
+// Whether a byte is a keyword's character and no capital. Most keywords end at a blank, which is none in any manner.
+fn is_other(b: u8, how: Manner) -> bool
+    ensures { result ≡ (ltb 96 b && letter how b) }
+{
+    96 < b && key_char(b, how)
+}
+
+// How many keyword characters stand first. Nearly all are capitals, which are counted without asking for the manner; runs
+// of these and of others take turns.
 pub fn key_run(s: &[u8], how: Manner) -> usize
     ensures { (result ≡ run (letter how) s.now) × (result ≤ length s.now) }
 {
-    let capitals = chars::run(Kind::Capital, s);
-    capitals
-        + s[capitals..]
-            .iter()
-            .take_while(|b| key_char(**b, how))
-            .count()
+    let mut i: usize = 0;
+    while i < s.len() {
+        i += chars::run(Kind::Capital, &s[i..]);
+        let others = s[i..].iter().take_while(|b| is_other(**b, how)).count();
+        if others == 0 {
+            return i;
+        }
+        i += others;
+    }
+    i
 }

@@ -6,7 +6,7 @@
 ghost use Rattle.std.specs.Prelude.{◌≡◌};
 ghost use Rattle.chars.specs.Chars.{note};
 ghost use Rattle.chars.specs.Runs.{same};
-ghost use Rattle.key_order.specs.Order.{before, repeats, rises};
+ghost use Rattle.key_order.specs.Order.{before, less, repeats, rises};
 
 pub fn is_note(k: &[u8]) -> bool
     ensures { result ≡ same k.now note }
@@ -14,12 +14,24 @@ pub fn is_note(k: &[u8]) -> bool
     chars::is_same(k, b"NOTE")
 }
 
+// Byte order. Not by `<`, which takes a third more time for what two keywords have in common.
+fn is_less(p: &[u8], k: &[u8]) -> bool
+    ensures { result ≡ less p.now k.now }
+{
+    for i in 0..p.len().min(k.len()) {
+        if p[i] != k[i] {
+            return p[i] < k[i];
+        }
+    }
+    p.len() < k.len()
+}
+
 // Whether the keyword p comes before the keyword k: byte order, and NOTE after all others.
-#[tactic(auto, using(crate::proofs::Order::less_slices), unfolding(crate::specs::Order::before))]
+#[tactic(auto, unfolding(crate::specs::Order::before))]
 pub fn is_before(p: &[u8], k: &[u8]) -> bool
     ensures { result ≡ before p.now k.now }
 {
-    !is_note(p) && (is_note(k) || p < k)
+    !is_note(p) && (is_note(k) || is_less(p, k))
 }
 
 // Whether the keyword k may stand several times running.

@@ -5,7 +5,7 @@ use Rattle.std.specs.Prelude.{◌≡◌, Bool, false, List, [], ◌∷◌, ℕ, 
 use Rattle.std.proofs.Math.Path.{refl}
 use Rattle.std.proofs.Common.{sym, ap, subst, ◌∙◌, arith, length-drop, drop_of_length-le, drop-drop}
 use Rattle.std.specs.Float.{fin}
-use Rattle.refusal.specs.declared.Rule.TheVariants.{ValueCount}
+use Rattle.refusal.specs.declared.Rule.TheVariants.{ValueCount, NoNumber}
 use Rattle.refusal.specs.declared.Part.TheVariants.{File}
 use Rattle.refusal.specs.Table.{refusal}
 use Rattle.location.specs.declared.Coordinate.{Coordinate}
@@ -76,6 +76,11 @@ on_coordinate at (Err r) k = Err (refusal r.rule r.part at)
 abbrev pub placed : ℕ → Result Coordinate Refusal → Result Coordinate Refusal
 placed at (Ok x) = Ok x
 placed at (Err r) = Err (refusal r.rule r.part at)
+
+-- the refusal of an answer that is one, passed up; of a value that is there it is never asked
+abbrev pub passed : Result Coordinate Refusal → Result Coordinates Refusal
+passed (Ok x) = Err (refusal NoNumber File 0)
+passed (Err r) = Err r
 
 unfoldable pub one_of : Value → Result Coordinates Refusal
 one_of v = on_coordinate v.0 (coordinate_of v.1) (λ x. Ok (alone x))

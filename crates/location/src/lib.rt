@@ -5,7 +5,7 @@
 #![tactic(auto)]
 
 ghost use Rattle.std.specs.Prelude.{◌≡◌};
-ghost use Rattle.location.specs.Location.{coordinate_of, placed, value_count, one_of, three_of};
+ghost use Rattle.location.specs.Location.{coordinate_of, placed, passed, value_count, one_of, three_of};
 
 use refusal::{Refusal, Rule};
 
@@ -34,7 +34,10 @@ pub struct Coordinates {
 fn coordinate_in(text: &[u8]) -> Result<Coordinate, Refusal>
     ensures { result ≡ coordinate_of text.now }
 {
-    let n = decimal::number(text)?;
+    let answer = decimal::number(text);
+    let Ok(n) = answer else {
+        return answer.and(Err(refusal::of_file(Rule::NoNumber, 0)));
+    };
     Ok(Coordinate {
         value: double::double_from(n)?,
         decimals: n.decimals,
@@ -55,11 +58,24 @@ pub fn value_count() -> Result<Coordinates, Refusal>
     Err(refusal::of_file(Rule::ValueCount, 0))
 }
 
+// The refusal of a value's answer that is no double, passed up. (Of a double it is never asked.)
+fn passed(answer: Result<Coordinate, Refusal>) -> Result<Coordinates, Refusal>
+    ensures { result ≡ passed answer }
+{
+    match answer {
+        Ok(_) => Err(refusal::of_file(Rule::NoNumber, 0)),
+        Err(r) => Err(r),
+    }
+}
+
 // x alone, which starts at a.
 pub fn one(a: usize, x: &[u8]) -> Result<Coordinates, Refusal>
     ensures { result ≡ one_of (a, x.now) }
 {
-    let u = coordinate_at(a, x)?;
+    let first = coordinate_at(a, x);
+    let Ok(u) = first else {
+        return passed(first);
+    };
     Ok(Coordinates {
         x: u.value,
         y: 0.0,
@@ -82,9 +98,18 @@ pub fn three(
 ) -> Result<Coordinates, Refusal>
     ensures { result ≡ three_of (a, x.now) (b, y.now) (c, z.now) }
 {
-    let u = coordinate_at(a, x)?;
-    let v = coordinate_at(b, y)?;
-    let w = coordinate_at(c, z)?;
+    let first = coordinate_at(a, x);
+    let Ok(u) = first else {
+        return passed(first);
+    };
+    let second = coordinate_at(b, y);
+    let Ok(v) = second else {
+        return passed(second);
+    };
+    let third = coordinate_at(c, z);
+    let Ok(w) = third else {
+        return passed(third);
+    };
     Ok(Coordinates {
         x: u.value,
         y: v.value,

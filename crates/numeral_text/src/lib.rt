@@ -15,14 +15,15 @@ pub struct Raised {
     pub far: u64,
 }
 
-// What stands before the last k digits: nothing, where ten to the k is past 64 bits.
+// What stands before the last k digits. By ten each time, as a division by a power of ten that is worked out takes longer.
 pub fn before_last(c: u64, k: u32) -> u64
     ensures { result ≡ c / 10 ^ k }
 {
-    match 10u64.checked_pow(k) {
-        Some(tens) => c / tens,
-        None => 0,
+    let mut left = c;
+    for _ in 0..k {
+        left /= 10;
     }
+    left
 }
 
 fn put_sign(out: &mut [u8], at: usize, minus: bool) -> usize

@@ -14,14 +14,17 @@ use block::TraceBlock;
 use refusal::{Part, Refusal};
 use text::Manner;
 
-// Rows 9 to 13 of the trace k, whose block begins at p, and the block. A function, so that the memory that the answer
-// comes back in is given back before the strings.
+// Rows 9 to 13 of the trace k, whose block begins at p, and the block. A function that hands the answer on arm by arm, so
+// that the memory that it comes back in is given back before the strings.
 fn block_of(f: &[u8], high: bool, k: u16, p: usize) -> Result<TraceBlock, Refusal>
     requires { (p < 4294967296) × (p + 32 ≤ length f.now) }
     ensures { result ≡ block_answer high (head_at f.now p) (length f.now) k p }
 {
     let from = p + 32;
-    block::block_rows(&f[p..from], high, f.len(), k, p)
+    match block::block_rows(&f[p..from], high, f.len(), k, p) {
+        Err(r) => Err(r),
+        Ok(x) => Ok(x),
+    }
 }
 
 // Rows 14 to 17 of its strings, which stand from a to e, and where the value of its channel number stands. A function for the same reason.
@@ -39,7 +42,10 @@ fn strings_of(
     ensures { result ≡ checked_of how high t.now u.now (Part.Trace k) f.now a e
         channel_number }
 {
-    strings_check::check(f, a, e, high, t, u, Part::Trace(k), how)
+    match strings_check::check(f, a, e, high, t, u, Part::Trace(k), how) {
+        Err(r) => Err(r),
+        Ok(value) => Ok(value),
+    }
 }
 
 // Rows 9 to 17 and 34 of the trace k, whose block begins at p: where it ends, and whether the file's traces have a channel

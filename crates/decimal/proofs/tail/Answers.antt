@@ -14,9 +14,9 @@ returns-then-e-n c =
     c.if-x-e.false
     c.if-e-n.true
 
-pub returns-then-not-is_empty : goal.returns-then-not-is_empty
-returns-then-not-is_empty c =
-    c.no_number-then-not-is_empty.ensures
+pub returns-then-more : goal.returns-then-more
+returns-then-more c =
+    c.no_number-then-more.ensures
     ∙ more_behind _ _ _ _ c.has-e.ensures c.past-z.ensures.result_value c.past-y.ensures.result_value c.run-n.ensures.0
     c.if-x-e.false
     c.behind-rest.ensures.result_value c.if-e-n.false (search rules)

@@ -1,35 +1,39 @@
 -- `location::three` meets its contract: by the answers of the three values, in order. Assumes nothing.
-use Rattle.std.proofs.Common.{rules, sym, ◌∙◌}
+use Rattle.std.proofs.Common.{sym, ◌∙◌}
 use Rattle.location.specs.Location.{coordinate_of, three_of, goes_on, ends}
 use Rattle.location.proofs.three.Goals as goal
 
-pub returns-in_err-u : goal.returns-in_err-u
+pub returns-in_default : goal.returns-in_default
 unfolding three_of
-returns-in_err-u c =
-    rw (ends c.args.a _ _ (sym c.coordinate_at.ensures ∙ c.in_err-u.was)) (search rules)
+returns-in_default c =
+    c.passed.ensures ∙ rw (c.in_default.is, ends c.args.a _ _ (sym c.coordinate_at-first.ensures ∙ c.in_default.is))
 
-pub returns-in_err-v : goal.returns-in_err-v
+pub returns-in_default-second : goal.returns-in_default-second
 unfolding three_of
-returns-in_err-v c =
-    rw (
-      goes_on c.args.a _ _ (sym c.coordinate_at.ensures ∙ c.in_ok-u.was),
-      ends c.args.b _ (coordinate_of c.args.y.now) (sym c.coordinate_at-2.ensures ∙ c.in_err-v.was),
-    ) (search rules)
+returns-in_default-second c =
+    c.passed-in_default-second.ensures
+    ∙ rw (
+      c.in_default-second.is,
+      goes_on c.args.a _ _ (sym c.coordinate_at-first.ensures ∙ c.in-Ok.is),
+      ends c.args.b _ (coordinate_of c.args.y.now) (sym c.coordinate_at-second.ensures ∙ c.in_default-second.is),
+    )
 
-pub returns-in_err-w : goal.returns-in_err-w
+pub returns-in_default-third : goal.returns-in_default-third
 unfolding three_of
-returns-in_err-w c =
-    rw (
-      goes_on c.args.a _ _ (sym c.coordinate_at.ensures ∙ c.in_ok-u.was),
-      goes_on c.args.b _ _ (sym c.coordinate_at-2.ensures ∙ c.in_ok-v.was),
-      ends c.args.c _ _ (sym c.coordinate_at-3.ensures ∙ c.in_err-w.was),
-    ) (search rules)
+returns-in_default-third c =
+    c.passed-in_default-third.ensures
+    ∙ rw (
+      c.in_default-third.is,
+      goes_on c.args.a _ _ (sym c.coordinate_at-first.ensures ∙ c.in-Ok.is),
+      goes_on c.args.b _ _ (sym c.coordinate_at-second.ensures ∙ c.in-Ok-second.is),
+      ends c.args.c _ _ (sym c.coordinate_at-third.ensures ∙ c.in_default-third.is),
+    )
 
 pub returns : goal.returns
 unfolding three_of
 returns c =
     rw (
-      goes_on c.args.a _ _ (sym c.coordinate_at.ensures ∙ c.in_ok-u.was),
-      goes_on c.args.b _ _ (sym c.coordinate_at-2.ensures ∙ c.in_ok-v.was),
-      goes_on c.args.c _ _ (sym c.coordinate_at-3.ensures ∙ c.in_ok-w.was),
+      goes_on c.args.a _ _ (sym c.coordinate_at-first.ensures ∙ c.in-Ok.is),
+      goes_on c.args.b _ _ (sym c.coordinate_at-second.ensures ∙ c.in-Ok-second.is),
+      goes_on c.args.c _ _ (sym c.coordinate_at-third.ensures ∙ c.in-Ok-third.is),
     )

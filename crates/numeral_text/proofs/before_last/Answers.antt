@@ -1,8 +1,14 @@
--- `numeral_text::before_last` meets its contract: a power of ten is not 0. Assumes nothing.
+-- `numeral_text::before_last` meets its contract: what is left, before the digits that are left, is what is asked. Assumes
+-- nothing.
 use Rattle.std.proofs.Common.{arith}
-use Rattle.std.proofs.Math.Nat.{one-le-pow}
+use Rattle.numeral_text.specs.Stored.{before_start, before_again, before_over}
 use Rattle.numeral_text.proofs.before_last.Goals as goal
 
-pub nonzero_div-result : goal.nonzero_div-result
-nonzero_div-result c =
-    omega (arith, one-le-pow c.args.k 10 (omega arith), c.in-Some.ensures)
+pub loop-init : goal.loop-init
+loop-init c = before_start _ _
+
+pub loop-preserved : goal.loop-preserved
+loop-preserved c = before_again _ _ _ _ (omega arith) c.loop.invariant
+
+pub returns : goal.returns
+returns c = before_over _ _ _ _ (omega arith) (omega arith) c.loop.invariant
